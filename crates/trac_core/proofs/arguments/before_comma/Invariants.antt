@@ -1,0 +1,7 @@
+use Rattle.std.proofs.Common.{◌≡◌, ◌+◌, drop}
+use Rattle.trac_core.specs.Calls.{before_comma}
+use Rattle.trac_core.proofs.arguments.before_comma.Given as goal
+
+-- no comma mark stands among the cells so far
+abbrev pub invariant-loop-i : goal.invariant-loop-i
+invariant-loop-i l = before_comma l.cells ≡ l.i + before_comma (drop l.i l.cells)

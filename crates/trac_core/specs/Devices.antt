@@ -1,0 +1,34 @@
+-- What contracts say of the devices that a machine reads from and writes to.
+use Rattle.std.specs.Prelude.{◌≡◌, ℕ, Bool, true, false, List, [], ◌∷◌, ◌++◌, Result, Ok, Err}
+use Rattle.trac_core.specs.declared.device.Next.{Next}
+use Rattle.trac_core.specs.declared.device.Next.TheVariants.{Byte, End, Failed}
+
+-- where a source stands: the bytes still to come, and whether it has said that it ended
+pub record Stream : Type 0 where
+  pub bytes : List ℕ
+  pub ended : Bool
+
+-- a source that stands at old may answer this and then stands at new
+abbrev pub Gives : Stream → Next → Stream → Type 0
+-- the first byte, which is consumed
+Gives old (Byte b) new = (old.bytes ≡ b ∷ new.bytes) × (old.ended ≡ false) × (new.ended ≡ false)
+-- the end, only where no byte is to come, and from then on
+Gives old End new = (old.bytes ≡ []) × (new.bytes ≡ []) × (new.ended ≡ true)
+-- a failure consumes nothing, and a source that has ended does not fail
+Gives old Failed new = (old.ended ≡ false) × (new ≡ old)
+
+-- the failures that an answer of a source counts for
+abbrev pub failures_of_next : Next → ℕ
+failures_of_next (Byte b) = 0
+failures_of_next End = 0
+failures_of_next Failed = 1
+
+-- the failures that an answer of a sink counts for
+abbrev pub failures_of : {A E : Type 0} → Result A E → ℕ
+failures_of (Ok x) = 0
+failures_of (Err e) = 1
+
+-- what a sink holds after a byte was put with this answer
+abbrev pub after_put : {A E : Type 0} → List ℕ → ℕ → Result A E → List ℕ
+after_put written byte (Ok x) = written ++ byte ∷ []
+after_put written byte (Err e) = written

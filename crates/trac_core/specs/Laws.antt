@@ -1,0 +1,67 @@
+-- Laws of whole runs.
+use Rattle.std.specs.Prelude.{◌≡◌, ◌≢◌, ℕ, ◌+◌, ◌<◌, ◌≤◌, false, [], ◌++◌, length, codes, All}
+use Rattle.trac_forms.specs.Text.{Text}
+use Rattle.trac_core.specs.declared.machine.Fate.TheVariants.{InputEnded, Workspace, Steps}
+use Rattle.trac_core.specs.Protected.{IsBalanced}
+use Rattle.trac_core.specs.State.{Input, first}
+use Rattle.trac_core.specs.Run.{run}
+
+-- the second text begins with the first
+abbrev pub IsPrefix : Text → Text → Type 0
+IsPrefix a b = (rest : Text) × (b ≡ a ++ rest)
+
+-- a run whose fate isn't Workspace is the same in every larger room
+abbrev pub MoreRoom : Type 0
+MoreRoom =
+    (input : Input) (room larger allowance : ℕ) →
+    (run room allowance (first input)).fate ≢ Workspace →
+    room ≤ larger →
+    run larger allowance (first input) ≡ run room allowance (first input)
+
+-- a run whose fate isn't Steps is the same with every larger allowance
+abbrev pub MoreSteps : Type 0
+MoreSteps =
+    (input : Input) (room allowance larger : ℕ) →
+    (run room allowance (first input)).fate ≢ Steps →
+    allowance ≤ larger →
+    run room larger (first input) ≡ run room allowance (first input)
+
+-- with every allowance below its steps it has the fate Steps and a prefix of the output
+abbrev pub FewerSteps : Type 0
+FewerSteps =
+    (input : Input) (room allowance fewer : ℕ) →
+    (run room allowance (first input)).fate ≢ Steps →
+    fewer < (run room allowance (first input)).steps →
+    ((run room fewer (first input)).fate ≡ Steps)
+    × IsPrefix (run room fewer (first input)).output (run room allowance (first input)).output
+
+-- a run whose fate isn't Workspace is the same in every room of at least its peak
+abbrev pub LeastRoom : Type 0
+LeastRoom =
+    (input : Input) (room other allowance : ℕ) →
+    (run room allowance (first input)).fate ≢ Workspace →
+    (run room allowance (first input)).peak ≤ other →
+    run other allowance (first input) ≡ run room allowance (first input)
+
+-- in every smaller room it has the fate Workspace and a prefix of the output
+abbrev pub LessRoom : Type 0
+LessRoom =
+    (input : Input) (room smaller allowance : ℕ) →
+    (run room allowance (first input)).fate ≢ Workspace →
+    smaller < (run room allowance (first input)).peak →
+    ((run smaller allowance (first input)).fate ≡ Workspace)
+    × IsPrefix (run smaller allowance (first input)).output (run room allowance (first input)).output
+
+-- the input `#(ps,(`, the text, `))'`, then ended
+abbrev pub quoting : Text → Input
+quoting text = record { text = codes "#(ps,(" ++ (text ++ codes "))'"); fails = false }
+
+-- a balanced text without an apostrophe is printed as it is
+abbrev pub Quoted : Type 0
+Quoted =
+    (text : Text) (room allowance : ℕ) →
+    IsBalanced text →
+    All (λ c. c ≢ 39) text →
+    16 + length text ≤ room →
+    25 ≤ allowance →
+    run room allowance (first (quoting text)) ≡ record { output = text; left = []; fate = InputEnded; steps = 25; peak = 16 + length text }

@@ -1,0 +1,241 @@
+-- What contracts see of a machine, what a step of it answers, and what a run of it reports.
+use Rattle.std.specs.Prelude.{◌≡◌, ◌≢◌, ℕ, ◌+◌, ◌<◌, ◌≤◌, max, Bool, true, false, List, [], ◌++◌, length, Option, Some, None}
+use Rattle.trac_forms.specs.Text.{Text}
+use Rattle.trac_core.specs.declared.machine.Fate.{Fate}
+use Rattle.trac_core.specs.declared.machine.Fate.TheVariants.{Halted, InputEnded, Workspace, Steps, InputFailed, OutputFailed}
+use Rattle.trac_core.specs.declared.machine.Report.{Report}
+use Rattle.trac_core.specs.Devices.{Stream}
+use Rattle.trac_core.specs.State.{Memory, Input, State, empty, first, size}
+use Rattle.trac_core.specs.Step.{Next, Over, step, need, reads_to_end}
+use Rattle.trac_core.specs.Run.{Run, run}
+
+-- what a contract sees of a machine
+pub record MachineState : Type 0 where
+  pub memory : Memory
+  pub room : ℕ
+  pub allowance : ℕ
+  pub steps : ℕ
+  pub peak : ℕ
+  pub fate : Option Fate
+
+-- a machine that was just made
+abbrev pub made : ℕ → ℕ → MachineState
+made room allowance = record { memory = empty; room = room; allowance = allowance; steps = 0; peak = 0; fate = None }
+
+-- a machine holds to its limits
+pub record KeepsLimits (m : MachineState) : Type 0 where
+  pub cells : size m.memory ≤ m.room
+  pub steps : m.steps ≤ m.allowance
+  pub peak : m.peak ≤ m.room
+
+-- a machine between its source and its sink
+pub record Moment : Type 0 where
+  pub machine : MachineState
+  pub source : Stream
+  pub written : Text
+
+abbrev pub moment : MachineState → Stream → Text → Moment
+moment machine source written = record { machine = machine; source = source; written = written }
+
+abbrev pub ending : Text → Input
+ending text = record { text = text; fails = false }
+
+abbrev pub failing : Text → Input
+failing text = record { text = text; fails = true }
+
+-- a state of these parts
+abbrev pub state_with : Memory → Input → Text → State
+state_with memory input output = record { memory = memory; input = input; output = output }
+
+-- the state that a moment stands for: its input is the bytes to come and then the end
+abbrev pub state_of : Moment → State
+state_of m = state_with m.machine.memory (ending m.source.bytes) m.written
+
+-- the same with an input of these bytes and then a failure
+abbrev pub failing_state_of : Moment → Text → State
+failing_state_of m given = state_with m.machine.memory (failing given) m.written
+
+-- one more step is allowed, and what it needs fits the room
+pub record MayStep (m : MachineState) (s : State) : Type 0 where
+  pub allowed : m.steps < m.allowance
+  pub fits : need s ≤ m.room
+
+-- the machine has counted so many steps more, and a step that needed so many cells
+pub record Counts (old new : MachineState) (more needed : ℕ) : Type 0 where
+  pub steps : new.steps ≡ old.steps + more
+  pub peak : new.peak ≡ max old.peak needed
+
+-- the allowance is used up: nothing happens
+pub record StopsAtAllowance (old new : Moment) : Type 0 where
+  pub used_up : old.machine.steps ≡ old.machine.allowance
+  pub counts : Counts old.machine new.machine 0 0
+  pub source : new.source ≡ old.source
+  pub written : new.written ≡ old.written
+
+-- the step needs more than the room: it isn't done
+pub record StopsAtRoom (old new : Moment) : Type 0 where
+  pub allowed : old.machine.steps < old.machine.allowance
+  pub full : old.machine.room < need (state_of old)
+  pub counts : Counts old.machine new.machine 0 0
+  pub written : new.written ≡ old.written
+
+-- the source failed after it gave some bytes, and the step over these is the end InputFailed
+pub record StopsAtInput (old new : Moment) (given : Text) : Type 0 where
+  pub consumed : old.source.bytes ≡ given ++ new.source.bytes
+  pub not_ended : old.source.ended ≡ false
+  pub may : MayStep old.machine (failing_state_of old given)
+  pub ends : step (failing_state_of old given) ≡ Over InputFailed
+  pub counts : Counts old.machine new.machine 0 (need (failing_state_of old given))
+  pub written : new.written ≡ old.written
+
+-- the sink failed: of what the step prints, put and rest, only put was written
+pub record StopsAtOutput (old new : Moment) (next : State) (put rest : Text) : Type 0 where
+  pub may : MayStep old.machine (state_of old)
+  pub goes : step (state_of old) ≡ Next next
+  pub prints : next.output ≡ old.written ++ (put ++ rest)
+  pub some : put ++ rest ≢ []
+  pub counts : Counts old.machine new.machine 0 (need (state_of old))
+  pub written : new.written ≡ old.written ++ put
+
+-- the step is an end of the language, which counts as a step
+pub record EndsRun (fate : Fate) (old new : Moment) : Type 0 where
+  pub may : MayStep old.machine (state_of old)
+  pub ends : step (state_of old) ≡ Over fate
+  pub counts : Counts old.machine new.machine 1 (need (state_of old))
+  pub source : new.source.bytes ≡ old.source.bytes
+  pub written : new.written ≡ old.written
+
+-- one more step is done, and the moment after it stands for the next state; a source that had ended, or that was read to
+-- the end by a call of `rs`, has ended
+pub record GoesOn (old new : Moment) : Type 0 where
+  pub may : MayStep old.machine (state_of old)
+  pub goes : step (state_of old) ≡ Next (state_of new)
+  pub counts : Counts old.machine new.machine 1 (need (state_of old))
+  pub stays_ended : old.source.ended ≡ true → new.source.ended ≡ true
+  pub read_all : reads_to_end (state_of old) ≡ true → new.source.ended ≡ true
+
+-- what the answer of a step says, for a machine whose run is not over
+abbrev pub Answers : Moment → Option Fate → Moment → Type 0
+Answers old (Some Steps) new = StopsAtAllowance old new
+Answers old (Some Workspace) new = StopsAtRoom old new
+Answers old (Some InputFailed) new = (given : Text) × StopsAtInput old new given
+Answers old (Some OutputFailed) new = (next : State) × ((put : Text) × ((rest : Text) × StopsAtOutput old new next put rest))
+Answers old (Some Halted) new = EndsRun Halted old new
+Answers old (Some InputEnded) new = EndsRun InputEnded old new
+Answers old None new = GoesOn old new
+
+-- a step consumed these bytes of its source: at most two more than the free cells
+pub record Takes (m : MachineState) (old new : Stream) (taken : Text) : Type 0 where
+  pub consumed : old.bytes ≡ taken ++ new.bytes
+  pub few : length taken + size m.memory ≤ m.room + 2
+
+-- a machine whose run is over gives the same answer again and counts nothing
+pub record StaysOver (old : MachineState) (answer : Option Fate) (new : MachineState) : Type 0 where
+  pub again : answer ≡ old.fate
+  pub steps : new.steps ≡ old.steps
+  pub peak : new.peak ≡ old.peak
+
+-- the failures of the source that an answer tells, for a run that was not over
+abbrev pub input_failures : Option Fate → Option Fate → ℕ
+input_failures None (Some InputFailed) = 1
+input_failures _ _ = 0
+
+-- the failures of the sink that an answer tells, for a run that was not over
+abbrev pub output_failures : Option Fate → Option Fate → ℕ
+output_failures None (Some OutputFailed) = 1
+output_failures _ _ = 0
+
+-- the failures of the source that a report tells
+abbrev pub reported_input_failures : Fate → ℕ
+reported_input_failures InputFailed = 1
+reported_input_failures _ = 0
+
+-- the failures of the sink that a report tells
+abbrev pub reported_output_failures : Fate → ℕ
+reported_output_failures OutputFailed = 1
+reported_output_failures _ = 0
+
+-- the limits of a run, and what its devices held before it and hold after it
+pub record Course : Type 0 where
+  pub room : ℕ
+  pub allowance : ℕ
+  pub bytes : Text
+  pub bytes_left : Text
+  pub before : Text
+  pub after : Text
+
+-- the report and what was written are those of a run
+pub record IsReportOf (r : Run) (c : Course) (report : Report) : Type 0 where
+  pub fate : report.fate ≡ r.fate
+  pub steps : report.steps ≡ r.steps
+  pub peak : report.peak ≡ r.peak
+  pub written : c.after ≡ c.before ++ r.output
+
+-- the definition's run over all bytes of the source and then the end
+abbrev pub whole_run : Course → Run
+whole_run c = run c.room c.allowance (first (ending c.bytes))
+
+-- that run under another allowance
+abbrev pub run_of : Course → ℕ → Run
+run_of c steps = run c.room steps (first (ending c.bytes))
+
+-- no device failed, and the source holds what the run did not consume
+pub record RanThrough (c : Course) (report : Report) : Type 0 where
+  pub is_report : IsReportOf (whole_run c) c report
+  pub left : c.bytes_left ≡ (whole_run c).left
+
+-- the source failed after it gave some bytes: the run is that over these and then a failure
+pub record RanToFailure (c : Course) (report : Report) (given : Text) : Type 0 where
+  pub consumed : c.bytes ≡ given ++ c.bytes_left
+  pub is_report : IsReportOf (run c.room c.allowance (first (failing given))) c report
+
+-- the sink failed in the step after those reported: of what it prints, put and rest, only put was written
+pub record BrokeOff (c : Course) (report : Report) (put rest : Text) : Type 0 where
+  pub allowed : report.steps < c.allowance
+  pub before_step : (run_of c report.steps).fate ≡ Steps
+  pub after_step : (run_of c (report.steps + 1)).fate ≡ Steps
+  pub peak : report.peak ≡ (run_of c (report.steps + 1)).peak
+  pub prints : (run_of c (report.steps + 1)).output ≡ (run_of c report.steps).output ++ (put ++ rest)
+  pub some : put ++ rest ≢ []
+  pub written : c.after ≡ c.before ++ ((run_of c report.steps).output ++ put)
+
+-- what a report with this fate says of the run
+abbrev pub Reports : Fate → Course → Report → Type 0
+Reports Halted c report = RanThrough c report
+Reports InputEnded c report = RanThrough c report
+Reports Steps c report = RanThrough c report
+Reports Workspace c report = IsReportOf (whole_run c) c report
+Reports InputFailed c report = (given : Text) × RanToFailure c report given
+Reports OutputFailed c report = (put : Text) × ((rest : Text) × BrokeOff c report put rest)
+
+-- the course of a run of this machine from what its devices held to what they hold now
+abbrev pub course : MachineState → Stream → Text → Stream → Text → Course
+course m old_source old_written new_source new_written =
+    record {
+      room = m.room;
+      allowance = m.allowance;
+      bytes = old_source.bytes;
+      bytes_left = new_source.bytes;
+      before = old_written;
+      after = new_written;
+    }
+
+-- the machine after an answer, with this memory and with what the step needed
+abbrev pub counted : MachineState → Memory → ℕ → Option Fate → MachineState
+counted m memory needed None = record m { memory = memory; steps = m.steps + 1; peak = max m.peak needed; fate = None }
+counted m memory needed (Some Halted) = record m { memory = memory; steps = m.steps + 1; peak = max m.peak needed; fate = Some Halted }
+counted m memory needed (Some InputEnded) = record m { memory = memory; steps = m.steps + 1; peak = max m.peak needed; fate = Some InputEnded }
+counted m memory needed (Some InputFailed) = record m { memory = memory; peak = max m.peak needed; fate = Some InputFailed }
+counted m memory needed (Some OutputFailed) = record m { memory = memory; peak = max m.peak needed; fate = Some OutputFailed }
+counted m memory needed (Some Workspace) = record m { memory = memory; fate = Some Workspace }
+counted m memory needed (Some Steps) = record m { memory = memory; fate = Some Steps }
+
+-- an answer that counts a step
+abbrev pub counts_as_step : Option Fate → Bool
+counts_as_step None = true
+counts_as_step (Some Halted) = true
+counts_as_step (Some InputEnded) = true
+counts_as_step (Some Workspace) = false
+counts_as_step (Some Steps) = false
+counts_as_step (Some InputFailed) = false
+counts_as_step (Some OutputFailed) = false

@@ -1,0 +1,127 @@
+//! The arguments of a call, taken one after the other, and the value that is put behind them.
+ghost use Rattle.std.specs.Prelude.{◌≡◌, ◌↔◌, ℕ, true, false, ◌+◌, ◌≤◌, ◌++◌, List, length, drop, IsTrue};
+ghost use Rattle.std.specs.Bool.{OnTrue, OnFalse};
+ghost use Rattle.trac_space.specs.Cells.{is_comma};
+ghost use Rattle.trac_forms.specs.Text.{Text};
+ghost use Rattle.trac_forms.specs.FlatForms.{flat_text, text_of_cells};
+ghost use Rattle.trac_forms.specs.Contents.{used, part_text, IsTextPart, IsSound};
+ghost use Rattle.trac_core.specs.Cells.{IsText};
+ghost use Rattle.trac_core.specs.State.{argument};
+ghost use Rattle.trac_core.specs.declared.function.Function.{Function};
+ghost use Rattle.trac_core.specs.Calls.{before_comma, AreArguments, texts, Valued, Makes};
+
+use trac_forms::{Cell, Work};
+
+/// The arguments of a call that are left to take: those in the neutral string from a place up to another. None is left once
+/// the place is past that.
+#[derive(Clone, Copy)]
+pub(crate) struct Arguments {
+    pub(crate) from: u32,
+    pub(crate) end: u32,
+}
+
+/// What a function makes of a call.
+#[derive(Clone, Copy, PartialEq, Eq, Debug)]
+pub(crate) enum Made {
+    /// There are too few cells for what it builds.
+    Full,
+    /// Its value stands at the end of the neutral string.
+    Value,
+    /// The same, and the value goes to the active string whatever the call's mode.
+    Forced,
+    /// A null value; it built so many cells of forms.
+    Defined(u32),
+}
+
+impl Arguments {
+    /// Where the next argument begins and ends; a null part where none is left.
+    pub(crate) fn next(&mut self, work: &Work) -> (u32, u32)
+        requires { AreArguments work.now self.old }
+        ensures part { IsTextPart work.now.neutral result.0 result.1 }
+        ensures text { part_text work.now.neutral result.0 result.1 ≡ argument (texts work.now self.old) 0 }
+        ensures rest { texts work.now self.new ≡ drop 1 (texts work.now self.old) }
+        ensures later { (k : ℕ) → argument (texts work.now self.new) k ≡ argument (texts work.now self.old) (k + 1) }
+        ensures left { AreArguments work.now self.new }
+    {
+        let from = self.from;
+        if from > self.end {
+            return (self.end, self.end);
+        }
+        let to = from + before_comma(work.neutral_part(from, self.end));
+        self.from = to + 1;
+        (from, to)
+    }
+
+    /// Whether no argument is left.
+    pub(crate) fn is_empty(&self) -> bool
+        ensures { IsTrue result ↔ (self.now.end + 1 ≤ self.now.from) }
+    {
+        self.from > self.end
+    }
+}
+
+/// How many cells stand before the first comma mark.
+fn before_comma(cells: &[Cell]) -> u32
+    requires { length cells.now ≤ 16777216 }
+    ensures { result ≡ before_comma cells.now }
+{
+    for (i, cell) in cells.iter().enumerate() {
+        if let Cell::Comma = cell {
+            return i as u32;
+        }
+    }
+    cells.len() as u32
+}
+
+/// The cells of a part of the neutral string that is a text.
+pub(crate) fn text<'a>(work: &'a Work, part: (u32, u32)) -> &'a [Cell]
+    requires { IsTextPart work.now.neutral part.0 part.1 }
+    ensures text { text_of_cells result.now ≡ part_text work.now.neutral part.0 part.1 }
+    ensures is_text { IsText result.now }
+{
+    prove!(work.used() <= work.room());
+    work.neutral_part(part.0, part.1)
+}
+
+/// Puts a part of the neutral string that is a text once more at its end, if there are cells for it.
+pub(crate) fn put_part(work: &mut Work, part: (u32, u32)) -> bool
+    requires part { IsTextPart work.old.neutral part.0 part.1 }
+    ensures put { IsTrue result ↔ (used work.old + length (part_text work.old.neutral part.0 part.1) ≤ work.old.room) }
+    ensures last { OnTrue result (work.new ≡ record work.old { neutral = work.old.neutral ++ flat_text (part_text work.old.neutral part.0 part.1) }) }
+    ensures full { OnFalse result (work.new ≡ work.old) }
+    ensures sound { IsSound work.new }
+{
+    work.copy_neutral(part.0, part.1)
+}
+
+/// A part of the neutral string is the value of a call.
+pub(crate) fn give(work: &mut Work, part: (u32, u32)) -> Made
+    requires part { IsTextPart work.old.neutral part.0 part.1 }
+    ensures makes { (function : Function) (args : List Text) →
+        Valued function args work.old.forms (part_text work.old.neutral part.0 part.1) false work.old.forms →
+        Makes function args work.old result work.new }
+    ensures room { work.new.room ≡ work.old.room }
+    ensures sound { IsSound work.new }
+{
+    if put_part(work, part) {
+        Made::Value
+    } else {
+        Made::Full
+    }
+}
+
+/// A part of the neutral string is the value of a call, and goes to the active string whatever the call's mode.
+pub(crate) fn force(work: &mut Work, part: (u32, u32)) -> Made
+    requires part { IsTextPart work.old.neutral part.0 part.1 }
+    ensures makes { (function : Function) (args : List Text) →
+        Valued function args work.old.forms (part_text work.old.neutral part.0 part.1) true work.old.forms →
+        Makes function args work.old result work.new }
+    ensures room { work.new.room ≡ work.old.room }
+    ensures sound { IsSound work.new }
+{
+    if put_part(work, part) {
+        Made::Forced
+    } else {
+        Made::Full
+    }
+}

@@ -1,0 +1,29 @@
+//! The functions that compare: `eq`.
+ghost use Rattle.std.specs.Prelude.{◌≡◌, ◌∷◌};
+ghost use Rattle.trac_forms.specs.Text.{Text};
+ghost use Rattle.trac_forms.specs.Contents.{IsSound};
+ghost use Rattle.trac_core.specs.declared.function.Function.TheVariants.{Equal};
+ghost use Rattle.trac_core.specs.Calls.{AreArguments, texts, Makes};
+
+use crate::arguments::{Arguments, Made, give, text};
+use crate::values;
+use trac_forms::Work;
+
+/// `eq,A,B,X,Y`: X where A and B are the same text, else Y (Mooers 1966).
+pub(crate) fn equal(work: &mut Work, mut arguments: Arguments) -> Made
+    requires { AreArguments work.old arguments }
+    ensures makes { (name : Text) → Makes Equal (name ∷ texts work.old arguments) work.old result work.new }
+    ensures room { work.new.room ≡ work.old.room }
+    ensures sound { IsSound work.new }
+{
+    let first = arguments.next(work);
+    let second = arguments.next(work);
+    let same = arguments.next(work);
+    let other = arguments.next(work);
+    let value = if values::equal(text(work, first), text(work, second)) {
+        same
+    } else {
+        other
+    };
+    give(work, value)
+}

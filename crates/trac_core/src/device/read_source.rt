@@ -1,0 +1,61 @@
+//! A source over a reader.
+ghost use Rattle.std.specs.Prelude.{◌≡◌, ℕ, ◌+◌, ◌-◌, ◌^◌, ◌<◌, ◌≤◌, List, [], length, take, drop, IsSome, IfSome, unwrap_or, is_ok, not, nat_eq, nat_lt, true, false, Bool};
+ghost use Rattle.trac_core.specs.Devices.{Stream, Gives, failures_of_next, failures_of, after_put};
+ghost use Rattle.trac_core.specs.Slices.{IfTells};
+
+use super::{Next, Source};
+use std::io::Read;
+
+/// A source over a reader, by reads of one byte. Each error is a failure; after a read of no byte it has ended, and reads
+/// no more. This processor's own choice.
+#[derive(Drop)]
+pub struct ReadSource<R> {
+    reader: R,
+    ended: bool,
+    failures: u64,
+}
+
+impl<R: Read> ReadSource<R> {
+    /// A source that gives what the reader gives.
+    pub fn new(reader: R) -> ReadSource<R>
+        ensures tells { IsSome (R.remaining reader) → ⟦<ReadSource<R> as Source>⟧.tells result }
+        ensures stream { ⟦<ReadSource<R> as Source>⟧.stream result ≡ record { bytes = unwrap_or (R.remaining reader) []; ended = false } }
+        ensures none { ⟦<ReadSource<R> as Source>⟧.failure_count result ≡ 0 }
+    {
+        ReadSource {
+            reader,
+            ended: false,
+            failures: 0,
+        }
+    }
+}
+
+impl<R: Read> Source for ReadSource<R> {
+    ghost tells = { λ s. IfTells (R.remaining s.reader) s.ended };
+
+    ghost stream = { λ s. record { bytes = unwrap_or (R.remaining s.reader) []; ended = s.ended } };
+
+    ghost failure_count = { λ s. s.failures };
+
+    fn next(&mut self) -> Next {
+        if self.ended {
+            return Next::End;
+        }
+        let mut byte = [0];
+        match self.reader.read(&mut byte) {
+            Ok(0) => {
+                self.ended = true;
+                Next::End
+            }
+            Ok(_) => Next::Byte(byte[0]),
+            Err(_) => {
+                self.failures += 1;
+                Next::Failed
+            }
+        }
+    }
+
+    fn failures(&self) -> u64 {
+        self.failures
+    }
+}

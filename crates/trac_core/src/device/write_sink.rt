@@ -1,0 +1,59 @@
+//! A sink over a writer.
+ghost use Rattle.std.specs.Prelude.{◌≡◌, ℕ, ◌+◌, ◌-◌, ◌^◌, ◌<◌, ◌≤◌, List, [], length, take, drop, IsSome, IfSome, unwrap_or, is_ok, not, nat_eq, nat_lt, true, false, Bool};
+ghost use Rattle.trac_core.specs.Devices.{Stream, Gives, failures_of_next, failures_of, after_put};
+
+use super::{Sink, SinkFailed};
+use std::io::Write;
+
+/// A sink over a writer, by writes of one byte. An error, or a write of no byte, is a failure. This processor's own choice.
+#[derive(Drop)]
+pub struct WriteSink<W> {
+    writer: W,
+    failures: u64,
+}
+
+impl<W: Write> WriteSink<W> {
+    /// A sink that writes to the writer.
+    pub fn new(writer: W) -> WriteSink<W>
+        ensures tells { IsSome (W.contents writer) → ⟦<WriteSink<W> as Sink>⟧.tells result }
+        ensures written { ⟦<WriteSink<W> as Sink>⟧.written result ≡ unwrap_or (W.contents writer) [] }
+        ensures none { ⟦<WriteSink<W> as Sink>⟧.failure_count result ≡ 0 }
+    {
+        WriteSink {
+            writer,
+            failures: 0,
+        }
+    }
+}
+
+impl<W: Write> Sink for WriteSink<W> {
+    ghost tells = { λ s. IsSome (W.contents s.writer) };
+
+    ghost written = { λ s. unwrap_or (W.contents s.writer) [] };
+
+    ghost failure_count = { λ s. s.failures };
+
+    fn put(&mut self, byte: u8) -> Result<(), SinkFailed> {
+        match self.writer.write(&[byte]) {
+            Ok(1) => Ok(()),
+            _ => {
+                self.failures += 1;
+                Err(SinkFailed)
+            }
+        }
+    }
+
+    fn flush(&mut self) -> Result<(), SinkFailed> {
+        match self.writer.flush() {
+            Ok(()) => Ok(()),
+            Err(_) => {
+                self.failures += 1;
+                Err(SinkFailed)
+            }
+        }
+    }
+
+    fn failures(&self) -> u64 {
+        self.failures
+    }
+}

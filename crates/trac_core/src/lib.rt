@@ -1,0 +1,13 @@
+//! The language: its calls, steps and runs.
+#![tactic(auto)]
+
+mod arguments;
+mod comparing;
+mod device;
+mod function;
+pub mod laws;
+mod machine;
+pub mod values;
+
+pub use device::{Next, ReadSource, Sink, SinkFailed, SliceSink, SliceSource, Source, WriteSink};
+pub use machine::{Fate, Report};

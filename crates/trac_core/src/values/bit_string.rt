@@ -1,0 +1,226 @@
+//! Bit strings at the end of texts.
+ghost use Rattle.std.specs.Prelude.{◌≡◌, ◌+◌, ◌*◌, ◌%◌, ◌<◌, ◌≤◌, ◌^◌, false, true, length, pos, slice_get, slice_index_or, ◌+ℤ◌};
+ghost use Rattle.trac_core.specs.BitString.{bit_at, bits, complement, intersection, is_octal, octal, octal_digit, octal_digits, octal_prefix, rotated, shifted, union};
+ghost use Rattle.trac_core.specs.Digits.{bits_of_cells, padded_text, signed, IsOctal};
+ghost use Rattle.trac_core.specs.Number.{number};
+ghost use Rattle.trac_core.specs.Cells.{IsText};
+ghost use Rattle.trac_forms.specs.FlatForms.{text_of_cells};
+
+use super::number::{Count, rotation_of, shift_of};
+use super::text::character_of;
+use trac_forms::Cell;
+
+/// Whether a character is a digit from 0 to 7.
+fn is_octal(character: u8) -> bool
+    ensures { result ≡ is_octal character }
+{
+    b'0' <= character && character <= b'7'
+}
+
+/// Where the longest suffix of octal digits begins.
+fn octal_digits_start(cells: &[Cell]) -> usize
+    ensures { result ≡ length (octal_prefix (text_of_cells cells.now)) }
+{
+    let mut start = cells.len();
+    while start > 0 && is_octal(character_of(&cells[start - 1])) {
+        start -= 1;
+    }
+    start
+}
+
+/// The longest suffix of octal digits.
+pub(crate) fn octal_digits(cells: &[Cell]) -> &[Cell]
+    ensures digits { text_of_cells result.now ≡ octal_digits (text_of_cells cells.now) }
+    ensures octal { IsOctal result.now }
+    ensures short { length result.now ≤ length cells.now }
+{
+    cells.split_at(octal_digits_start(cells)).1
+}
+
+/// Where the bit string at the end of a text begins.
+pub fn octal_start(cells: &[Cell]) -> u32
+    requires { IsText cells.now }
+    ensures { result ≡ length (octal_prefix (text_of_cells cells.now)) }
+{
+    octal_digits_start(cells) as u32
+}
+
+/// The digit at a place, counted in a string of so many digits that these are the last of; the digit 0 before the first.
+fn aligned_digit(digits: &[Cell], long: usize, place: usize) -> u8
+    requires octal { IsOctal digits.now }
+    requires long { (length digits.now ≤ long) × (long < 2 ^ 62) }
+    requires place { place < long }
+    ensures octal { is_octal result ≡ true }
+    ensures digit { result ≡ slice_index_or (padded_text long (text_of_cells digits.now)) place 48 }
+{
+    if place + digits.len() < long {
+        b'0'
+    } else {
+        character_of(&digits[place + digits.len() - long])
+    }
+}
+
+/// The digit at a place of the union of the bits of digits. The characters of digits differ in their last three bits.
+pub(crate) fn union_digit(a: &[Cell], b: &[Cell], k: u32) -> Option<u8>
+    requires left { IsOctal a.now }
+    requires right { IsOctal b.now }
+    requires short { (length a.now ≤ 16777216) × (length b.now ≤ 16777216) }
+    ensures { result ≡ slice_get (octal (union (bits_of_cells a.now) (bits_of_cells b.now))) k }
+{
+    let long = a.len().max(b.len());
+    let place = k as usize;
+    if place >= long {
+        return None;
+    }
+    Some(aligned_digit(a, long, place) | aligned_digit(b, long, place))
+}
+
+/// The digit at a place of the intersection of the bits of digits.
+pub(crate) fn intersection_digit(a: &[Cell], b: &[Cell], k: u32) -> Option<u8>
+    requires left { IsOctal a.now }
+    requires right { IsOctal b.now }
+    requires short { (length a.now ≤ 16777216) × (length b.now ≤ 16777216) }
+    ensures { result ≡ slice_get (octal (intersection (bits_of_cells a.now) (bits_of_cells b.now))) k }
+{
+    let short = a.len().min(b.len());
+    let place = k as usize;
+    if place >= short {
+        return None;
+    }
+    Some(character_of(&a[place + a.len() - short]) & character_of(&b[place + b.len() - short]))
+}
+
+/// The digit at a place of the complement of the bits of digits.
+pub(crate) fn complement_digit(digits: &[Cell], k: u32) -> Option<u8>
+    requires { IsOctal digits.now }
+    ensures { result ≡ slice_get (octal (complement (bits_of_cells digits.now))) k }
+{
+    let place = k as usize;
+    if place >= digits.len() {
+        return None;
+    }
+    Some(character_of(&digits[place]) ^ 7)
+}
+
+/// The bit at a place, 0 past the last.
+fn bit_at(digits: &[Cell], place: usize) -> bool
+    requires { IsOctal digits.now }
+    ensures { result ≡ slice_index_or (bits_of_cells digits.now) place false }
+{
+    place / 3 < digits.len() && character_of(&digits[place / 3]) & (4 >> (place % 3)) != 0
+}
+
+/// The digit of three bits.
+fn octal_digit(a: bool, b: bool, c: bool) -> u8
+    ensures { result ≡ octal_digit a b c }
+{
+    b'0' + 4 * u8::from(a) + 2 * u8::from(b) + u8::from(c)
+}
+
+/// The bit at a place of a shift, 0 where there is none.
+fn shifted_bit(digits: &[Cell], by: Count, place: usize) -> bool
+    requires octal { IsOctal digits.now }
+    requires place { place < 2 ^ 62 }
+    ensures { result ≡ bit_at (bits_of_cells digits.now) (pos place +ℤ signed by.negative by.size) }
+{
+    let distance = by.size as usize;
+    if by.negative {
+        distance <= place && bit_at(digits, place - distance)
+    } else {
+        bit_at(digits, place + distance)
+    }
+}
+
+/// The digit at a place of a shift of the bits of digits.
+pub(crate) fn shifted_digit(digits: &[Cell], by: Count, k: u32) -> Option<u8>
+    requires { IsOctal digits.now }
+    ensures { result ≡ slice_get (octal (shifted (signed by.negative by.size) (bits_of_cells digits.now))) k }
+{
+    let place = k as usize;
+    if place >= digits.len() {
+        return None;
+    }
+    let first = shifted_bit(digits, by, 3 * place);
+    let second = shifted_bit(digits, by, 3 * place + 1);
+    let third = shifted_bit(digits, by, 3 * place + 2);
+    Some(octal_digit(first, second, third))
+}
+
+/// The bit at a place of a rotation.
+fn rotated_bit(digits: &[Cell], by: u32, place: usize) -> bool
+    requires octal { IsOctal digits.now }
+    requires by { by < 3 * length digits.now }
+    requires place { place < 3 * length digits.now }
+    ensures { result ≡ slice_index_or (bits_of_cells digits.now) ((place + by) % (3 * length digits.now)) false }
+{
+    let moved = place + by as usize;
+    if moved / 3 < digits.len() {
+        bit_at(digits, moved)
+    } else {
+        bit_at(digits, moved - 3 * digits.len())
+    }
+}
+
+/// The digit at a place of a rotation of the bits of digits, of which there are more than by how many they move.
+pub(crate) fn rotated_digit(digits: &[Cell], by: u32, k: u32) -> Option<u8>
+    requires octal { IsOctal digits.now }
+    requires by { by < 3 * length digits.now }
+    ensures { result ≡ slice_get (octal (rotated (pos by) (bits_of_cells digits.now))) k }
+{
+    let place = k as usize;
+    if place >= digits.len() {
+        return None;
+    }
+    let first = rotated_bit(digits, by, 3 * place);
+    let second = rotated_bit(digits, by, 3 * place + 1);
+    let third = rotated_bit(digits, by, 3 * place + 2);
+    Some(octal_digit(first, second, third))
+}
+
+/// The digit at a place of the union of two bit strings.
+pub fn bool_union(a: &[Cell], b: &[Cell], k: u32) -> Option<u8>
+    requires left { IsText a.now }
+    requires right { IsText b.now }
+    ensures { result ≡ slice_get (octal (union (bits (text_of_cells a.now)) (bits (text_of_cells b.now)))) k }
+{
+    union_digit(octal_digits(a), octal_digits(b), k)
+}
+
+/// The digit at a place of the intersection of two bit strings.
+pub fn bool_intersection(a: &[Cell], b: &[Cell], k: u32) -> Option<u8>
+    requires left { IsText a.now }
+    requires right { IsText b.now }
+    ensures { result ≡ slice_get (octal (intersection (bits (text_of_cells a.now)) (bits (text_of_cells b.now)))) k }
+{
+    intersection_digit(octal_digits(a), octal_digits(b), k)
+}
+
+/// The digit at a place of the complement of a bit string.
+pub fn bool_complement(a: &[Cell], k: u32) -> Option<u8>
+    requires { IsText a.now }
+    ensures { result ≡ slice_get (octal (complement (bits (text_of_cells a.now)))) k }
+{
+    complement_digit(octal_digits(a), k)
+}
+
+/// The digit at a place of a bit string that is shifted by a number of any length, to the left where that is positive.
+pub fn bool_shift(d: &[Cell], a: &[Cell], k: u32) -> Option<u8>
+    requires distance { IsText d.now }
+    requires shifted { IsText a.now }
+    ensures { result ≡ slice_get (octal (shifted (number (text_of_cells d.now)) (bits (text_of_cells a.now)))) k }
+{
+    shifted_digit(octal_digits(a), shift_of(d), k)
+}
+
+/// The digit at a place of a bit string that is rotated by a number of any length, to the left where that is positive.
+pub fn bool_rotation(d: &[Cell], a: &[Cell], k: u32) -> Option<u8>
+    requires distance { IsText d.now }
+    requires rotated { IsText a.now }
+    ensures { result ≡ slice_get (octal (rotated (number (text_of_cells d.now)) (bits (text_of_cells a.now)))) k }
+{
+    let digits = octal_digits(a);
+    if digits.is_empty() {
+        return None;
+    }
+    rotated_digit(digits, rotation_of(d, 3 * digits.len() as u32), k)
+}

@@ -1,0 +1,268 @@
+//! Numbers at the end of texts.
+ghost use Rattle.std.specs.Prelude.{◌≡◌, ◌↔◌, ℕ, ◌+◌, ◌*◌, ◌%◌, ◌<◌, ◌≤◌, ◌^◌, min, IsTrue, length, int_lt, neg_ℤ, pos, unsigned_abs, ◌<ℤ◌};
+ghost use Rattle.std.specs.Int.{int_rem_euclid};
+ghost use Rattle.std.specs.Ordering.{nat_cmp};
+ghost use Rattle.std.specs.Str.Parse.{digits_value};
+ghost use Rattle.trac_core.specs.Digits.{IsDecimal};
+ghost use Rattle.trac_core.specs.Number.{arith, before_digits, digits, if_in_range, in_range, number, prefix, value_upto};
+ghost use Rattle.trac_core.specs.Cells.{IsText};
+ghost use Rattle.trac_forms.specs.FlatForms.{text_of_cells};
+
+use super::text::{character_of, ends_with};
+use std::cmp::Ordering;
+use trac_forms::Cell;
+
+/// An operation of arithmetic.
+#[derive(Clone, Copy)]
+pub enum Arith {
+    Add,
+    Subtract,
+    Multiply,
+    Divide,
+}
+
+impl Arith {
+    /// The sum, difference, product or quotient, which is rounded towards 0. None where it is outside the range of
+    /// arithmetic, and for a divisor of 0.
+    pub fn apply(self, a: i128, b: i128) -> Option<i128>
+        requires left { IsTrue (in_range a) }
+        requires right { IsTrue (in_range b) }
+        ensures { result ≡ arith self a b }
+    {
+        let exact = match self {
+            Arith::Add => a.checked_add(b),
+            Arith::Subtract => a.checked_sub(b),
+            Arith::Multiply => a.checked_mul(b),
+            Arith::Divide => a.checked_div(b),
+        };
+        match exact {
+            Some(n) => if n == i128::MIN { None } else { Some(n) },
+            None => None,
+        }
+    }
+}
+
+/// The number at the end of a text, as `tail_number` finds it.
+#[derive(Clone, Copy)]
+pub struct TailNumber {
+    /// The length of the text before the number and its sign.
+    pub start: u32,
+    /// The number, or None where it is outside the range of arithmetic.
+    pub value: Option<i128>,
+}
+
+/// Where the longest suffix of decimal digits begins.
+fn digits_start(cells: &[Cell]) -> usize
+    ensures { result ≡ length (before_digits (text_of_cells cells.now)) }
+{
+    let mut start = cells.len();
+    while start > 0 && character_of(&cells[start - 1]).is_ascii_digit() {
+        start -= 1;
+    }
+    start
+}
+
+/// Ten times a number and a digit, None where that, or the number, is outside the range of arithmetic.
+fn with_digit(value: Option<i128>, digit: u8) -> Option<i128>
+    requires { digit < 10 }
+    ensures { (n : ℕ) → value ≡ if_in_range (Some (pos n)) → result ≡ if_in_range (Some (pos (n * 10 + digit))) }
+{
+    value?.checked_mul(10)?.checked_add(i128::from(digit))
+}
+
+/// A text before its longest suffix of decimal digits, and these.
+fn split_digits(cells: &[Cell]) -> (&[Cell], &[Cell])
+    ensures front { text_of_cells result.0.now ≡ before_digits (text_of_cells cells.now) }
+    ensures digits { text_of_cells result.1.now ≡ digits (text_of_cells cells.now) }
+    ensures passes { IsDecimal result.1.now }
+    ensures short { length result.1.now ≤ length cells.now }
+{
+    cells.split_at(digits_start(cells))
+}
+
+/// The number that digits are, None where it is outside the range of arithmetic.
+fn value_of(digits: &[Cell]) -> Option<i128>
+    requires { IsDecimal digits.now }
+    ensures { result ≡ if_in_range (Some (pos (digits_value 10 (text_of_cells digits.now)))) }
+{
+    let mut value = Some(0);
+    for cell in digits {
+        value = with_digit(value, character_of(cell) - b'0');
+    }
+    value
+}
+
+/// The number turned to the other sign.
+fn negated(value: Option<i128>) -> Option<i128>
+    ensures { (n : ℕ) → value ≡ if_in_range (Some (pos n)) → result ≡ if_in_range (Some (neg_ℤ (pos n))) }
+{
+    value?.checked_neg()
+}
+
+/// The number at the end of a text, and where its prefix ends.
+pub fn tail_number(cells: &[Cell]) -> TailNumber
+    requires { IsText cells.now }
+    ensures start { result.start ≡ length (prefix (text_of_cells cells.now)) }
+    ensures value { result.value ≡ if_in_range (Some (number (text_of_cells cells.now))) }
+{
+    let (front, digits) = split_digits(cells);
+    let start = front.len() as u32;
+    if digits.is_empty() {
+        return TailNumber {
+            start,
+            value: Some(0),
+        };
+    }
+    let value = value_of(digits);
+    if ends_with(front, b'-') {
+        TailNumber {
+            start: start - 1,
+            value: negated(value),
+        }
+    } else if ends_with(front, b'+') {
+        TailNumber {
+            start: start - 1,
+            value,
+        }
+    } else {
+        TailNumber { start, value }
+    }
+}
+
+/// What an operation makes of the numbers of two texts. None where one of them or the result is outside the range of
+/// arithmetic, and for a divisor of 0.
+pub(crate) fn arithmetic(operation: Arith, a: &[Cell], b: &[Cell]) -> Option<i128>
+    requires left { IsText a.now }
+    requires right { IsText b.now }
+    ensures { result ≡ arith operation (number (text_of_cells a.now)) (number (text_of_cells b.now)) }
+{
+    operation.apply(tail_number(a).value?, tail_number(b).value?)
+}
+
+/// The digit at a place, counted in a number of so many digits that these are the last of; 0 before the first.
+fn digit_at(digits: &[Cell], long: usize, place: usize) -> u8
+    requires digits { IsDecimal digits.now }
+    requires long { (length digits.now ≤ long) × (long < 2 ^ 62) }
+    requires place { place < long }
+    ensures below { result < 10 }
+    ensures value { value_upto (text_of_cells digits.now) long (place + 1) ≡ value_upto (text_of_cells digits.now) long place * 10 + result }
+{
+    if place + digits.len() < long {
+        0
+    } else {
+        character_of(&digits[place + digits.len() - long]) - b'0'
+    }
+}
+
+/// How the numbers that digits are compare, of any length.
+fn compare_digits(a: &[Cell], b: &[Cell]) -> Ordering
+    requires left { IsDecimal a.now }
+    requires right { IsDecimal b.now }
+    requires short { (length a.now ≤ 16777216) × (length b.now ≤ 16777216) }
+    ensures { result ≡ nat_cmp (digits_value 10 (text_of_cells a.now)) (digits_value 10 (text_of_cells b.now)) }
+{
+    let long = a.len().max(b.len());
+    let mut order = Ordering::Equal;
+    for place in 0..long {
+        order = order.then(digit_at(a, long, place).cmp(&digit_at(b, long, place)));
+    }
+    order
+}
+
+/// Whether the number at the end of a text is greater than that of another, at any length.
+pub fn greater(a: &[Cell], b: &[Cell]) -> bool
+    requires left { IsText a.now }
+    requires right { IsText b.now }
+    ensures { IsTrue result ↔ (number (text_of_cells b.now) <ℤ number (text_of_cells a.now)) }
+{
+    let (a_front, a_digits) = split_digits(a);
+    let (b_front, b_digits) = split_digits(b);
+    let a_negative = ends_with(a_front, b'-');
+    let b_negative = ends_with(b_front, b'-');
+    if a_negative && b_negative {
+        compare_digits(a_digits, b_digits).is_lt()
+    } else if a_negative {
+        false
+    } else if b_negative {
+        compare_digits(a_digits, &[]).is_gt() || compare_digits(b_digits, &[]).is_gt()
+    } else {
+        compare_digits(a_digits, b_digits).is_gt()
+    }
+}
+
+/// A number up to a limit: whether it is negative, and its size or the limit, whichever is less.
+#[derive(Clone, Copy)]
+pub(crate) struct Count {
+    pub negative: bool,
+    pub size: u32,
+}
+
+/// The number that digits are, or the limit where that is less.
+fn value_up_to(digits: &[Cell], limit: u32) -> u32
+    requires digits { IsDecimal digits.now }
+    requires limit { limit ≤ 50331648 }
+    ensures { result ≡ min (digits_value 10 (text_of_cells digits.now)) limit }
+{
+    let mut value = 0;
+    for cell in digits {
+        value = (value * 10 + u32::from(character_of(cell) - b'0')).min(limit);
+    }
+    value
+}
+
+/// The number at the end of a text, of any length, up to a limit.
+fn count_up_to(cells: &[Cell], limit: u32) -> Count
+    requires limit { (0 < limit) × (limit ≤ 50331648) }
+    ensures negative { result.negative ≡ int_lt (number (text_of_cells cells.now)) (pos 0) }
+    ensures size { result.size ≡ min (unsigned_abs (number (text_of_cells cells.now))) limit }
+{
+    let (front, digits) = split_digits(cells);
+    let size = value_up_to(digits, limit);
+    Count {
+        negative: size > 0 && ends_with(front, b'-'),
+        size,
+    }
+}
+
+/// How many characters the number of a text counts, up to as many as a block can hold.
+pub(crate) fn count_of(cells: &[Cell]) -> Count
+    ensures negative { result.negative ≡ int_lt (number (text_of_cells cells.now)) (pos 0) }
+    ensures size { result.size ≡ min (unsigned_abs (number (text_of_cells cells.now))) 16777216 }
+{
+    count_up_to(cells, 16_777_216)
+}
+
+/// How far the number of a text shifts bits, up to as many as a block can hold.
+pub(crate) fn shift_of(cells: &[Cell]) -> Count
+    ensures negative { result.negative ≡ int_lt (number (text_of_cells cells.now)) (pos 0) }
+    ensures size { result.size ≡ min (unsigned_abs (number (text_of_cells cells.now))) 50331648 }
+{
+    count_up_to(cells, 50_331_648)
+}
+
+/// What is left of the number that digits are, divided by another.
+fn remainder_of(digits: &[Cell], divisor: u32) -> u32
+    requires digits { IsDecimal digits.now }
+    requires divisor { (0 < divisor) × (divisor ≤ 50331648) }
+    ensures { result ≡ digits_value 10 (text_of_cells digits.now) % divisor }
+{
+    let mut rest = 0;
+    for cell in digits {
+        rest = (rest * 10 + u32::from(character_of(cell) - b'0')) % divisor;
+    }
+    rest
+}
+
+/// How far to the left the number of a text rotates a string of so many bits.
+pub(crate) fn rotation_of(cells: &[Cell], bits: u32) -> u32
+    requires { (0 < bits) × (bits ≤ 50331648) }
+    ensures { int_rem_euclid (number (text_of_cells cells.now)) (pos bits) ≡ pos result }
+{
+    let (front, digits) = split_digits(cells);
+    let rest = remainder_of(digits, bits);
+    if rest > 0 && ends_with(front, b'-') {
+        bits - rest
+    } else {
+        rest
+    }
+}
