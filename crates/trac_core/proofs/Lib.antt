@@ -21,3 +21,4 @@ pub mod Counted
 pub mod FlatLemmas
 pub mod ArgumentLemmas
 pub mod Making
+pub mod MetaLemmas

@@ -1,21 +1,22 @@
 -- What a try of one step over the contents of a workspace says of each machine that holds them.
-use Rattle.std.specs.Prelude.{◌≡◌, ℕ, ◌+◌, ◌<◌, ◌≤◌, Bool, true, false, List, [], ◌∷◌, ◌++◌, length, drop, Option, Some, None, slice_range, take, nat_le, if◌then◌else◌, All}
+use Rattle.std.specs.Prelude.{◌≡◌, ℕ, ◌+◌, ◌<◌, ◌≤◌, Bool, true, false, List, [], ◌∷◌, ◌++◌, length, take, Option, Some, None, slice_get}
 use Rattle.trac_space.specs.declared.cell.Cell.{Cell}
 use Rattle.trac_space.specs.declared.cell.Cell.TheVariants.{Byte}
+use Rattle.trac_space.specs.declared.cell.Mode.{Mode}
+use Rattle.trac_space.specs.declared.cell.Mode.TheVariants.{Active, Neutral}
 use Rattle.trac_space.specs.Cells.{NoCall}
 use Rattle.trac_space.specs.Calls.{IsLastCall}
 use Rattle.trac_forms.specs.Text.{Text}
-use Rattle.trac_forms.specs.Form.{Form}
-use Rattle.trac_forms.specs.FlatForms.{flat_text}
-use Rattle.trac_forms.specs.Contents.{Contents, used, IsStringCell}
+use Rattle.trac_forms.specs.FlatForms.{flat_text, text_of_cells}
+use Rattle.trac_forms.specs.Contents.{Contents, used, IsSound}
 use Rattle.trac_core.specs.declared.function.Function.{Function}
 use Rattle.trac_core.specs.declared.machine.Fate.{Fate}
+use Rattle.trac_core.specs.declared.machine.Fate.TheVariants.{Workspace}
 use Rattle.trac_core.specs.Devices.{Stream}
-use Rattle.trac_core.specs.State.{Input, Memory, argument}
 use Rattle.trac_core.specs.Function.{function_named}
-use Rattle.trac_core.specs.Meaning.{World, Answer, Gives, meaning_of, built}
+use Rattle.trac_core.specs.State.{Input, argument}
 use Rattle.trac_core.specs.Step.{Next, step, need}
-use Rattle.trac_core.specs.Flat.{memory_of, texts_of, arguments_at}
+use Rattle.trac_core.specs.Flat.{memory_of, arguments_at}
 use Rattle.trac_core.specs.Machine.{MachineState, moment, state_with, Answers, counted}
 
 -- the contents of a workspace, a meta character, a source and what a sink holds
@@ -40,14 +41,39 @@ pub record Scans (old new : Contents) (needed : ℕ) : Type 0 where
   pub goes : (meta : ℕ) (input : Input) (output : Text) → step (state_with (memory_of meta old) input output) ≡ Next (state_with (memory_of meta new) input output)
   pub needs : (meta : ℕ) (input : Input) (output : Text) → need (state_with (memory_of meta old) input output) ≡ needed
 
+-- such a step was done, or needs more than the room
+abbrev pub Scanned : Option Fate → ℕ → Contents → Contents → Type 0
+Scanned None needed old new = Scans old new needed
+Scanned (Some Workspace) needed old new = (meta : ℕ) (input : Input) (output : Text) → old.room < need (state_with (memory_of meta old) input output)
+Scanned (Some _) needed old new = ⊥
+
+-- a right parenthesis that closes no call, if one begins the active string
+abbrev pub ClosesNone : Contents → Type 0
+ClosesNone w = slice_get (text_of_cells w.active) 0 ≡ Some 41 → NoCall w.neutral
+
 -- the innermost call, whose mark stands at the place, is performed by the right parenthesis that active begins with; w has
 -- that parenthesis no more
 pub record Performs (old w : Contents) (place : ℕ) : Type 0 where
-  pub closes : old.active ≡ Byte 41 ∷ w.active
   pub same : old ≡ record w { active = Byte 41 ∷ w.active }
-  pub innermost : IsLastCall old.neutral place
+  pub innermost : IsLastCall w.neutral place
 
--- these bytes left the source, at most two more than the free cells
+-- a call of this function, or of none, is to be performed, whose mark stands at the place
+pub record IsCall (w : Contents) (place : ℕ) (function : Option Function) : Type 0 where
+  pub sound : IsSound w
+  pub innermost : IsLastCall w.neutral place
+  pub names : function_named (argument (arguments_at w.neutral place) 0) ≡ function
+
+-- for each machine that is to perform this call, the answer is right
+abbrev pub TriedCall : ℕ → Scene → Option Fate → ℕ → Scene → Type 0
+TriedCall place w answer needed new = (old : Contents) → Performs old w.contents place → Tried (record w { contents = old }) answer needed new
+
+-- the call leaves, and its value goes before the active string or to the end of the neutral one
+abbrev pub delivered : Mode → Bool → Text → ℕ → Contents → Contents
+delivered Active forced value place w = record w { active = flat_text value ++ w.active; neutral = take place w.neutral }
+delivered Neutral true value place w = record w { active = flat_text value ++ w.active; neutral = take place w.neutral }
+delivered Neutral false value place w = record w { neutral = take place w.neutral ++ flat_text value }
+
+-- these bytes left the source, at most two more than the free cells of a workspace with one cell more
 pub record TakesFrom (w : Contents) (old new : Stream) (taken : Text) : Type 0 where
   pub consumed : old.bytes ≡ taken ++ new.bytes
-  pub few : length taken + used w ≤ w.room + 2
+  pub few : length taken + used w ≤ w.room + 1

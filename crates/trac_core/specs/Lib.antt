@@ -14,6 +14,8 @@ pub mod Devices
 pub mod Slices
 pub mod Digits
 pub mod Calls
+pub mod Performed
+pub mod Transfer
 pub mod Machine
 pub mod Attempts
 pub mod Laws

@@ -7,6 +7,7 @@ mod device;
 mod function;
 pub mod laws;
 mod machine;
+mod transfer;
 pub mod values;
 
 pub use device::{Next, ReadSource, Sink, SinkFailed, SliceSink, SliceSource, Source, WriteSink};

@@ -1,0 +1,37 @@
+-- The function that the next step performs.
+use Rattle.std.specs.Prelude.{Bool, true, false, List, [], ◌∷◌, Option, Some, None}
+use Rattle.trac_core.specs.declared.function.Function.{Function}
+use Rattle.trac_core.specs.declared.function.Function.TheVariants.{ReadString, ReadCharacter, PrintString, PrintForm}
+use Rattle.trac_core.specs.State.{OpenCall, Memory}
+use Rattle.trac_core.specs.Rule.{Rule, LoadIdling, DeleteLayout, AddProtected, ClearActive, BeginArgument, BeginCall, EndCall, AddCharacter, rule}
+use Rattle.trac_core.specs.Step.{function_of}
+
+-- the function of the innermost of these calls, if the rule performs it
+abbrev pub performed_by : Rule → List OpenCall → Option Function
+performed_by (EndCall rest) [] = None
+performed_by (EndCall rest) (call ∷ outer) = function_of call
+performed_by LoadIdling calls = None
+performed_by (DeleteLayout rest) calls = None
+performed_by (AddProtected inside rest) calls = None
+performed_by ClearActive calls = None
+performed_by (BeginArgument rest) calls = None
+performed_by (BeginCall mode rest) calls = None
+performed_by (AddCharacter c rest) calls = None
+
+-- the function that the next step performs, if it performs a call of one
+abbrev pub performs : Memory → Option Function
+performs memory = performed_by (rule memory.active) memory.calls
+
+-- whether a call of the function reads
+abbrev pub reads_input : Option Function → Bool
+reads_input None = false
+reads_input (Some ReadString) = true
+reads_input (Some ReadCharacter) = true
+reads_input (Some _) = false
+
+-- whether a call of the function prints
+abbrev pub prints_output : Option Function → Bool
+prints_output None = false
+prints_output (Some PrintString) = true
+prints_output (Some PrintForm) = true
+prints_output (Some _) = false

@@ -1,0 +1,198 @@
+//! The scanner: the rules that perform no call.
+ghost use Rattle.std.specs.Prelude.{◌≡◌, ◌≢◌, ℕ, ◌+◌, ◌<◌, ◌≤◌, [], ◌∷◌, length, take, drop, slice_get, MatchOption, None, Some, true, false, ◌++◌};
+ghost use Rattle.trac_space.specs.Calls.{IsLastCall};
+ghost use Rattle.trac_forms.specs.FlatForms.{text_of_cells};
+ghost use Rattle.trac_forms.specs.Contents.{used, IsSound};
+ghost use Rattle.trac_core.specs.Protected.{protected};
+ghost use Rattle.trac_core.specs.Rule.{is_layout};
+ghost use Rattle.trac_core.specs.Attempts.{Scans, Scanned, ClosesNone};
+
+use crate::machine::Fate;
+use crate::values::text::character_of;
+use trac_forms::{Cell, Mode, Work};
+
+/// The idling procedure, which reads and scans a string and prints what is left of it (Mooers 1966).
+const IDLING: &[u8; 11] = b"#(ps,#(rs))";
+
+/// What the try of a step came to, and the cells that it needed.
+#[derive(Clone, Copy, Debug, PartialEq, Eq)]
+pub(crate) struct Attempt {
+    pub(crate) fate: Option<Fate>,
+    pub(crate) need: u32,
+}
+
+/// The character of the active string at a place.
+#[inline]
+pub(crate) fn character(work: &Work, place: u32) -> Option<u8>
+    ensures { result ≡ slice_get (text_of_cells work.now.active) place }
+{
+    match work.active_at(place) {
+        Some(cell) => Some(character_of(&cell)),
+        None => None,
+    }
+}
+
+/// One step by the rule that fits the beginning of the active string, where that performs no call.
+pub(crate) fn scan(work: &mut Work) -> Attempt
+    requires sound { IsSound work.old }
+    requires closes_none { ClosesNone work.old }
+    ensures scanned { Scanned result.fate result.need work.old work.new }
+    ensures fits { result.need ≤ work.old.room }
+    ensures room { work.new.room ≡ work.old.room }
+    ensures sound { IsSound work.new }
+{
+    let need = work.used();
+    match character(work, 0) {
+        None => return load_idling(work),
+        Some(b'\t' | b'\n' | b'\r') => delete_layout(work),
+        Some(b'(') => protect(work),
+        Some(b')') => delete_parenthesis(work),
+        Some(b',') => begin_argument(work),
+        Some(b'#') => number_sign(work),
+        Some(byte) => add_character(work, byte),
+    }
+    Attempt { fate: None, need }
+}
+
+/// The active string is empty: the neutral string is cleared, and the idling procedure becomes the active string.
+fn load_idling(work: &mut Work) -> Attempt
+    requires { work.old.active ≡ [] }
+    ensures scanned { Scanned result.fate result.need work.old work.new }
+    ensures fits { result.need ≤ work.old.room }
+    ensures room { work.new.room ≡ work.old.room }
+    ensures sound { IsSound work.new }
+{
+    work.clear_neutral();
+    if work.load_active(IDLING) {
+        Attempt {
+            fate: None,
+            need: work.used(),
+        }
+    } else {
+        Attempt {
+            fate: Some(Fate::Workspace),
+            need: 0,
+        }
+    }
+}
+
+/// A tab, a line feed or a carriage return is deleted.
+fn delete_layout(work: &mut Work)
+    requires { (c : ℕ) × ((slice_get (text_of_cells work.old.active) 0 ≡ Some c) × (is_layout c ≡ true)) }
+    ensures scans { Scans work.old work.new (used work.old) }
+    ensures room { work.new.room ≡ work.old.room }
+    ensures sound { IsSound work.new }
+{
+    work.drop_active(1);
+}
+
+/// A right parenthesis is deleted where no call is open (this processor's own choice).
+fn delete_parenthesis(work: &mut Work)
+    requires closes { slice_get (text_of_cells work.old.active) 0 ≡ Some 41 }
+    requires none { ClosesNone work.old }
+    ensures scans { Scans work.old work.new (used work.old) }
+    ensures room { work.new.room ≡ work.old.room }
+    ensures sound { IsSound work.new }
+{
+    work.drop_active(1);
+}
+
+/// The text between a left parenthesis and its match is added unscanned; where there is no match the active string becomes
+/// empty (this processor's own choice).
+fn protect(work: &mut Work)
+    requires { slice_get (text_of_cells work.old.active) 0 ≡ Some 40 }
+    ensures scans { Scans work.old work.new (used work.old) }
+    ensures room { work.new.room ≡ work.old.room }
+    ensures sound { IsSound work.new }
+{
+    prove!(work.used() <= work.room());
+    match matching(work.active_part(1, work.active_len())) {
+        Some(len) => {
+            work.drop_active(1);
+            work.active_to_neutral(len);
+            work.drop_active(1);
+        }
+        None => work.clear_active(),
+    }
+}
+
+/// Where the right parenthesis stands that matches a left one before the cells.
+fn matching(cells: &[Cell]) -> Option<u32>
+    requires { length cells.now ≤ 16777216 }
+    ensures { MatchOption result (protected (text_of_cells cells.now) ≡ None)
+        (λ place. (place < length cells.now) × (protected (text_of_cells cells.now) ≡ Some (take place (text_of_cells cells.now), drop (place + 1) (text_of_cells cells.now)))) }
+{
+    let mut depth = 0u32;
+    for (i, cell) in cells.iter().enumerate() {
+        match character_of(cell) {
+            b'(' => depth += 1,
+            b')' => {
+                if depth == 0 {
+                    return Some(i as u32);
+                }
+                depth -= 1;
+            }
+            _ => {}
+        }
+    }
+    None
+}
+
+/// A comma is deleted. Where a call is open, a new argument of the innermost begins.
+fn begin_argument(work: &mut Work)
+    requires { slice_get (text_of_cells work.old.active) 0 ≡ Some 44 }
+    ensures scans { Scans work.old work.new (used work.old) }
+    ensures room { work.new.room ≡ work.old.room }
+    ensures sound { IsSound work.new }
+{
+    work.drop_active(1);
+    if work.last_call().is_some() {
+        let _ = work.push_neutral(Cell::Comma);
+    }
+}
+
+/// A number sign opens a call with a left parenthesis after it, or after a second one; any other is added.
+fn number_sign(work: &mut Work)
+    requires { slice_get (text_of_cells work.old.active) 0 ≡ Some 35 }
+    ensures scans { Scans work.old work.new (used work.old) }
+    ensures room { work.new.room ≡ work.old.room }
+    ensures sound { IsSound work.new }
+{
+    match (character(work, 1), character(work, 2)) {
+        (Some(b'('), _) => begin_call(work, 2, Mode::Active),
+        (Some(b'#'), Some(b'(')) => begin_call(work, 3, Mode::Neutral),
+        _ => put_first(work, b'#'),
+    }
+}
+
+/// The characters that open a call leave the active string, and its mark stands last in the neutral one.
+fn begin_call(work: &mut Work, characters: u32, mode: Mode)
+    requires some { (0 < characters) × (characters ≤ length work.old.active) }
+    ensures opened { work.new ≡ record work.old { active = drop characters work.old.active; neutral = work.old.neutral ++ Cell.Call mode 0 ∷ [] } }
+    ensures sound { IsSound work.new }
+{
+    work.drop_active(characters);
+    let _ = work.push_neutral(Cell::Call(mode, 0));
+}
+
+/// The first character of the active string goes to the end of the neutral one.
+fn put_first(work: &mut Work, byte: u8)
+    requires { slice_get (text_of_cells work.old.active) 0 ≡ Some byte }
+    ensures put { work.new ≡ record work.old { active = drop 1 work.old.active; neutral = work.old.neutral ++ Cell.Byte byte ∷ [] } }
+    ensures sound { IsSound work.new }
+{
+    work.drop_active(1);
+    let _ = work.push_neutral(Cell::Byte(byte));
+}
+
+/// Any other character is added.
+fn add_character(work: &mut Work, byte: u8)
+    requires first { slice_get (text_of_cells work.old.active) 0 ≡ Some byte }
+    requires layout { is_layout byte ≡ false }
+    requires other { (byte ≢ 40) × (byte ≢ 41) × (byte ≢ 44) × (byte ≢ 35) }
+    ensures scans { Scans work.old work.new (used work.old) }
+    ensures room { work.new.room ≡ work.old.room }
+    ensures sound { IsSound work.new }
+{
+    put_first(work, byte);
+}

@@ -1,0 +1,69 @@
+//! Bytes from a source into the neutral string, and from there to a sink.
+ghost use Rattle.std.specs.Prelude.{◌≡◌, ◌≢◌, ℕ, ◌+◌, ◌-◌, ◌<◌, ◌≤◌, ◌^◌, List, [], ◌∷◌, ◌++◌, is_ok, if◌then◌else◌, MatchResult, OnErr, true, false};
+ghost use Rattle.trac_forms.specs.Text.{Text};
+ghost use Rattle.trac_forms.specs.FlatForms.{character_of, text_of_cells};
+ghost use Rattle.trac_forms.specs.Contents.{used, IsSound};
+ghost use Rattle.trac_core.specs.Devices.{failures_of};
+ghost use Rattle.trac_core.specs.Transfer.{Reads, StreamsTo, failures_of_read};
+
+use crate::device::{Next, Sink, SinkFailed, Source};
+use crate::values::text::character_of;
+use trac_forms::{Cell, Work};
+
+/// How a text ended that was read.
+#[derive(Clone, Copy, Debug, PartialEq, Eq)]
+pub(crate) enum ReadEnd {
+    /// The meta character followed, and was consumed.
+    Meta,
+    /// The source ended.
+    Ended,
+    /// The source failed.
+    Failed,
+    /// No cell was free for a byte that followed.
+    Full,
+}
+
+/// Puts the bytes of a source up to the meta character at the end of the neutral string, as far as they fit.
+pub(crate) fn read_text<I: Source>(work: &mut Work, meta: u8, source: &mut I) -> ReadEnd
+    requires counts { I.failure_count source.old < 2 ^ 64 - 1 }
+    requires sound { IsSound work.old }
+    ensures reads { (text : Text) × (Reads meta work.old work.new text × (I.tells source.old → StreamsTo result meta (I.stream source.old) text (I.stream source.new))) }
+    ensures full { result ≡ ReadEnd.Full → work.new.room ≤ used work.new }
+    ensures told { I.tells source.old → I.tells source.new }
+    ensures counts { I.failure_count source.new ≡ I.failure_count source.old + failures_of_read result }
+    ensures sound { IsSound work.new }
+{
+    loop {
+        match source.next() {
+            Next::Byte(byte) if byte == meta => return ReadEnd::Meta,
+            Next::Byte(byte) => {
+                if !work.push_neutral(Cell::Byte(byte)) {
+                    return ReadEnd::Full;
+                }
+            }
+            Next::End => return ReadEnd::Ended,
+            Next::Failed => return ReadEnd::Failed,
+        }
+    }
+}
+
+/// Puts the characters of cells into a sink, and then flushes it where there was one.
+pub(crate) fn print_text<O: Sink>(text: &[Cell], sink: &mut O) -> Result<(), SinkFailed>
+    requires { O.failure_count sink.old < 2 ^ 64 - 1 }
+    ensures writes { O.tells sink.old → MatchResult result
+        (λ _. O.written sink.new ≡ O.written sink.old ++ text_of_cells text.now)
+        (λ _. (put : Text) × ((rest : Text) × (text_of_cells text.now ≡ put ++ rest) × (O.written sink.new ≡ O.written sink.old ++ put))) }
+    ensures some { OnErr result (text_of_cells text.now ≢ []) }
+    ensures told { O.tells sink.old → O.tells sink.new }
+    ensures counts { O.failure_count sink.new ≡ O.failure_count sink.old + failures_of result }
+{
+    if text.is_empty() {
+        return Ok(());
+    }
+    for cell in text {
+        if let Err(failed) = sink.put(character_of(cell)) {
+            return Err(failed);
+        }
+    }
+    sink.flush()
+}
