@@ -22,3 +22,6 @@ pub mod FlatLemmas
 pub mod ArgumentLemmas
 pub mod Making
 pub mod MetaLemmas
+pub mod Scanning
+pub mod Matching
+pub mod Performing

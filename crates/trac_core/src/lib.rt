@@ -7,6 +7,7 @@ mod device;
 mod function;
 pub mod laws;
 mod machine;
+mod scan;
 mod transfer;
 pub mod values;
 

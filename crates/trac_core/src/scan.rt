@@ -1,5 +1,5 @@
 //! The scanner: the rules that perform no call.
-ghost use Rattle.std.specs.Prelude.{◌≡◌, ◌≢◌, ℕ, ◌+◌, ◌<◌, ◌≤◌, [], ◌∷◌, length, take, drop, slice_get, MatchOption, None, Some, true, false, ◌++◌};
+ghost use Rattle.std.specs.Prelude.{◌≡◌, ◌≢◌, ℕ, ◌+◌, ◌<◌, ◌≤◌, [], ◌∷◌, length, take, drop, slice_get, MatchOption, IsTrue, ◌↔◌, None, Some, true, false, ◌++◌};
 ghost use Rattle.trac_space.specs.Calls.{IsLastCall};
 ghost use Rattle.trac_forms.specs.FlatForms.{text_of_cells};
 ghost use Rattle.trac_forms.specs.Contents.{used, IsSound};
@@ -29,6 +29,17 @@ pub(crate) fn character(work: &Work, place: u32) -> Option<u8>
     match work.active_at(place) {
         Some(cell) => Some(character_of(&cell)),
         None => None,
+    }
+}
+
+/// Whether a character stands at a place of the active string.
+#[inline]
+fn is_at(work: &Work, place: u32, byte: u8) -> bool
+    ensures { IsTrue result ↔ (slice_get (text_of_cells work.now.active) place ≡ Some byte) }
+{
+    match character(work, place) {
+        Some(c) => c == byte,
+        None => false,
     }
 }
 
@@ -100,7 +111,8 @@ fn delete_parenthesis(work: &mut Work)
 /// The text between a left parenthesis and its match is added unscanned; where there is no match the active string becomes
 /// empty (this processor's own choice).
 fn protect(work: &mut Work)
-    requires { slice_get (text_of_cells work.old.active) 0 ≡ Some 40 }
+    requires sound { IsSound work.old }
+    requires first { slice_get (text_of_cells work.old.active) 0 ≡ Some 40 }
     ensures scans { Scans work.old work.new (used work.old) }
     ensures room { work.new.room ≡ work.old.room }
     ensures sound { IsSound work.new }
@@ -140,7 +152,8 @@ fn matching(cells: &[Cell]) -> Option<u32>
 
 /// A comma is deleted. Where a call is open, a new argument of the innermost begins.
 fn begin_argument(work: &mut Work)
-    requires { slice_get (text_of_cells work.old.active) 0 ≡ Some 44 }
+    requires sound { IsSound work.old }
+    requires first { slice_get (text_of_cells work.old.active) 0 ≡ Some 44 }
     ensures scans { Scans work.old work.new (used work.old) }
     ensures room { work.new.room ≡ work.old.room }
     ensures sound { IsSound work.new }
@@ -153,20 +166,24 @@ fn begin_argument(work: &mut Work)
 
 /// A number sign opens a call with a left parenthesis after it, or after a second one; any other is added.
 fn number_sign(work: &mut Work)
-    requires { slice_get (text_of_cells work.old.active) 0 ≡ Some 35 }
+    requires sound { IsSound work.old }
+    requires first { slice_get (text_of_cells work.old.active) 0 ≡ Some 35 }
     ensures scans { Scans work.old work.new (used work.old) }
     ensures room { work.new.room ≡ work.old.room }
     ensures sound { IsSound work.new }
 {
-    match (character(work, 1), character(work, 2)) {
-        (Some(b'('), _) => begin_call(work, 2, Mode::Active),
-        (Some(b'#'), Some(b'(')) => begin_call(work, 3, Mode::Neutral),
-        _ => put_first(work, b'#'),
+    if is_at(work, 1, b'(') {
+        begin_call(work, 2, Mode::Active);
+    } else if is_at(work, 1, b'#') && is_at(work, 2, b'(') {
+        begin_call(work, 3, Mode::Neutral);
+    } else {
+        put_first(work, b'#');
     }
 }
 
 /// The characters that open a call leave the active string, and its mark stands last in the neutral one.
 fn begin_call(work: &mut Work, characters: u32, mode: Mode)
+    requires sound { IsSound work.old }
     requires some { (0 < characters) × (characters ≤ length work.old.active) }
     ensures opened { work.new ≡ record work.old { active = drop characters work.old.active; neutral = work.old.neutral ++ Cell.Call mode 0 ∷ [] } }
     ensures sound { IsSound work.new }
@@ -177,7 +194,8 @@ fn begin_call(work: &mut Work, characters: u32, mode: Mode)
 
 /// The first character of the active string goes to the end of the neutral one.
 fn put_first(work: &mut Work, byte: u8)
-    requires { slice_get (text_of_cells work.old.active) 0 ≡ Some byte }
+    requires sound { IsSound work.old }
+    requires first { slice_get (text_of_cells work.old.active) 0 ≡ Some byte }
     ensures put { work.new ≡ record work.old { active = drop 1 work.old.active; neutral = work.old.neutral ++ Cell.Byte byte ∷ [] } }
     ensures sound { IsSound work.new }
 {
@@ -187,6 +205,7 @@ fn put_first(work: &mut Work, byte: u8)
 
 /// Any other character is added.
 fn add_character(work: &mut Work, byte: u8)
+    requires sound { IsSound work.old }
     requires first { slice_get (text_of_cells work.old.active) 0 ≡ Some byte }
     requires layout { is_layout byte ≡ false }
     requires other { (byte ≢ 40) × (byte ≢ 41) × (byte ≢ 44) × (byte ≢ 35) }

@@ -1,0 +1,288 @@
+-- The rules that perform no call, over the contents of a workspace.
+use Rattle.std.proofs.Common.{◌≡◌, ◌≢◌, ℕ, zero, suc, ◌+◌, ◌-◌, ◌<◌, ◌≤◌, Bool, true, false, List, [], ◌∷◌, ◌++◌, length, take, drop, map, All, Option, Some, None, IsTrue, ◌↔◌, cond, refl, sym, ap, ◌∙◌, subst, ⊎_elim, arith, slice_get}
+use Rattle.std.specs.Prelude.{◌==◌}
+use Rattle.std.specs.Bool.{OnTrue}
+use Rattle.std.specs.Prelude.{MatchOption, is_some, slice_range}
+use Rattle.std.proofs.lemmas.Bool.{ne_eqb, cases_lt, cases_eq}
+use Rattle.std.proofs.lemmas.List.{drop-map, take-map, length-map, length-drop, drop-drop}
+use Rattle.std.proofs.lemmas.List.Elements.{All-take, All-drop}
+use Rattle.std.proofs.Math.Seq.{take-length}
+use Rattle.trac_space.specs.declared.cell.Cell.{Cell}
+use Rattle.trac_space.specs.declared.cell.Cell.TheVariants.{Byte, Call, Comma}
+use Rattle.trac_space.specs.declared.cell.Mode.{Mode}
+use Rattle.trac_space.specs.declared.cell.Mode.TheVariants.{Active, Neutral as NeutralMode}
+use Rattle.trac_space.specs.Cells.{NoCall}
+use Rattle.trac_space.specs.Calls.{IsLastCall}
+use Rattle.trac_forms.specs.Text.{Text}
+use Rattle.trac_forms.specs.Form.{Form}
+use Rattle.trac_forms.specs.Store.{cells}
+use Rattle.trac_forms.specs.FlatForms.{flat_text, text_of_cells, character_of}
+use Rattle.trac_forms.specs.Contents.{Contents, used, IsByte, IsSound}
+use Rattle.trac_core.specs.Protected.{protected}
+use Rattle.trac_core.specs.State.{Memory, Input, State, OpenCall, size, add, begin_argument, begin_call}
+use Rattle.trac_core.specs.Rule.{Rule, LoadIdling, DeleteLayout, AddProtected, ClearActive, BeginArgument, BeginCall, EndCall, AddCharacter, parenthesis_rule, is_layout, rule}
+use Rattle.trac_core.specs.Step.{Outcome, Next, Over, idling, end_call, with_active, follow, end_need, need_by, step, need}
+use Rattle.trac_core.specs.Flat.{Neutral, with_cell, with_cells, neutral_of, memory_with, memory_of}
+use Rattle.trac_core.specs.Machine.{state_with}
+use Rattle.trac_core.specs.Attempts.{Scans, ClosesNone}
+use Rattle.trac_core.proofs.FlatLemmas.{with_cells-append, neutral_of-push, neutral_of-innermost, size-used, with_cells-text, calls-none}
+use Rattle.trac_core.proofs.ArgumentLemmas.{flat-bytes}
+use Rattle.trac_core.proofs.Rules.{rule_comma, rule_end, rule_active, rule_neutral, rule_sign_last, rule_two_signs_last, rule_sign, rule_two_signs, rule_other}
+
+-- ---- texts
+
+pub first-rest : (text : Text) (c : ℕ) → slice_get text 0 ≡ Some c → text ≡ c ∷ drop 1 text
+first-rest [] c e = absurd cc
+first-rest (b ∷ text) c e = let same : b ≡ c = cc in ap (λ b. b ∷ text) same
+
+pub drop-text : (n : ℕ) (cells : List Cell) → text_of_cells (drop n cells) ≡ drop n (text_of_cells cells)
+drop-text n cells = sym (drop-map character_of n cells)
+
+pub take-text : (n : ℕ) (cells : List Cell) → text_of_cells (take n cells) ≡ take n (text_of_cells cells)
+take-text n cells = sym (take-map character_of n cells)
+
+pub some-active : (cells : List Cell) (c : ℕ) → slice_get (text_of_cells cells) 0 ≡ Some c → 0 < length cells
+some-active [] c e = absurd cc
+some-active (cell ∷ cells) c e = omega arith
+
+-- ---- a step by a rule
+
+module _ (old new : Contents) where
+  text : Text
+  text = text_of_cells old.active
+
+  -- a step by this rule
+  pub scans-by : (r : Rule) (needed : ℕ) → rule (text_of_cells old.active) ≡ r → ((meta : ℕ) (input : Input) (output : Text) → follow r (state_with (memory_of meta old) input output) ≡ Next (state_with (memory_of meta new) input output)) → ((meta : ℕ) (input : Input) (output : Text) → need_by r (state_with (memory_of meta old) input output) ≡ needed) → Scans old new needed
+  unfolding step need
+  scans-by r needed fits goes needs = record {
+    goes = λ meta input output. ap (λ r. follow r (state_with (memory_of meta old) input output)) fits ∙ goes meta input output;
+    needs = λ meta input output. ap (λ r. need_by r (state_with (memory_of meta old) input output)) fits ∙ needs meta input output;
+  }
+
+-- the memory with another active text
+same-active : (n : Neutral) (t u : Text) (forms : List Form) (meta : ℕ) (input : Input) (output : Text) → t ≡ u → Next (state_with (memory_with n t forms meta) input output) ≡ Next (state_with (memory_with n u forms meta) input output)
+same-active n t u forms meta input output e = ap (λ t. Next (state_with (memory_with n t forms meta) input output)) e
+
+rule-layout : (c : ℕ) (rest : Text) → is_layout c ≡ true → rule (c ∷ rest) ≡ DeleteLayout rest
+unfolding rule
+rule-layout c rest h = rw h refl
+
+rule-parenthesis : (text : Text) (o : Option (Text × Text)) → protected text ≡ o → rule (40 ∷ text) ≡ parenthesis_rule o
+unfolding rule
+rule-parenthesis text o e = ap parenthesis_rule e
+
+rule-nothing : rule [] ≡ LoadIdling
+unfolding rule
+rule-nothing = refl
+
+pub scans-layout : (old : Contents) (c : ℕ) → slice_get (text_of_cells old.active) 0 ≡ Some c → is_layout c ≡ true → Scans old (record old { active = drop 1 old.active }) (used old)
+scans-layout old c first layout =
+    let t = text_of_cells old.active in
+    scans-by old (record old { active = drop 1 old.active }) (DeleteLayout (drop 1 t)) (used old)
+    (ap rule (first-rest t c first) ∙ rule-layout c (drop 1 t) layout)
+    (λ meta input output. same-active (neutral_of old.neutral) (drop 1 t) (text_of_cells (drop 1 old.active)) old.forms meta input output (sym (drop-text 1 old.active)))
+    (λ meta input output. size-used meta old)
+
+pub scans-parenthesis : (old : Contents) → slice_get (text_of_cells old.active) 0 ≡ Some 41 → ClosesNone old → Scans old (record old { active = drop 1 old.active }) (used old)
+scans-parenthesis old first none =
+    let t = text_of_cells old.active in
+    let calls = calls-none old.neutral (none first) in
+    scans-by old (record old { active = drop 1 old.active }) (EndCall (drop 1 t)) (used old)
+    (ap rule (first-rest t 41 first) ∙ rule_end (drop 1 t))
+    (λ meta input output.
+    ap (λ calls. end_call calls (with_active (drop 1 t) (state_with (memory_of meta old) input output))) calls
+    ∙ same-active (neutral_of old.neutral) (drop 1 t) (text_of_cells (drop 1 old.active)) old.forms meta input output (sym (drop-text 1 old.active)))
+    (λ meta input output. ap (λ calls. end_need calls (state_with (memory_of meta old) input output)) calls ∙ size-used meta old)
+
+pub scans-unmatched : (old : Contents) → slice_get (text_of_cells old.active) 0 ≡ Some 40 → protected (drop 1 (text_of_cells old.active)) ≡ None → Scans old (record old { active = [] }) (used old)
+scans-unmatched old first none =
+    let t = text_of_cells old.active in
+    scans-by old (record old { active = [] }) ClearActive (used old)
+    (ap rule (first-rest t 40 first) ∙ rule-parenthesis (drop 1 t) None none)
+    (λ meta input output. refl)
+    (λ meta input output. size-used meta old)
+
+-- characters at the end of neutral are a text added
+added-bytes : (old : List Cell) (more : List Cell) (active : Text) (forms : List Form) (meta : ℕ) → All IsByte more → memory_with (neutral_of (old ++ more)) active forms meta ≡ add (text_of_cells more) (memory_with (neutral_of old) active forms meta)
+added-bytes old more active forms meta bytes =
+    ap (λ cells. memory_with (neutral_of (old ++ cells)) active forms meta) (sym (flat-bytes more bytes))
+    ∙ ap (λ (n : Neutral). memory_with n active forms meta) (with_cells-append _ old (flat_text (text_of_cells more)))
+    ∙ with_cells-text (text_of_cells more) (neutral_of old) active forms meta
+
+pub scans-protected : (old : Contents) (len : ℕ) → IsSound old → slice_get (text_of_cells old.active) 0 ≡ Some 40 → protected (drop 1 (text_of_cells old.active)) ≡ Some (take len (drop 1 (text_of_cells old.active)), drop (len + 1) (drop 1 (text_of_cells old.active))) → Scans old (record old { neutral = old.neutral ++ take len (drop 1 old.active); active = drop 1 (drop len (drop 1 old.active)) }) (used old)
+scans-protected old len sound first found =
+    let t = text_of_cells old.active in
+    let inside = take len (drop 1 t) in
+    let rest = drop (len + 1) (drop 1 t) in
+    let cells = take len (drop 1 old.active) in
+    let inside_is : text_of_cells cells ≡ inside = take-text len (drop 1 old.active) ∙ ap (take len) (drop-text 1 old.active) in
+    let rest_is : text_of_cells (drop 1 (drop len (drop 1 old.active))) ≡ rest = drop-text 1 (drop len (drop 1 old.active)) ∙ ap (drop 1) (drop-text len (drop 1 old.active) ∙ ap (drop len) (drop-text 1 old.active)) ∙ drop-drop 1 len (drop 1 t) in
+    let bytes : All IsByte cells = All-take IsByte len (drop 1 old.active) (All-drop IsByte 1 old.active sound.active) in
+    scans-by old (record old { neutral = old.neutral ++ cells; active = drop 1 (drop len (drop 1 old.active)) }) (AddProtected inside rest) (used old)
+    (ap rule (first-rest t 40 first) ∙ rule-parenthesis (drop 1 t) (Some (inside, rest)) found)
+    (λ meta input output.
+    sym (ap (λ m. Next (state_with m input output)) (added-bytes old.neutral cells (text_of_cells (drop 1 (drop len (drop 1 old.active)))) old.forms meta bytes)
+    ∙ ap (λ t. Next (state_with (add t (memory_with (neutral_of old.neutral) (text_of_cells (drop 1 (drop len (drop 1 old.active)))) old.forms meta)) input output)) inside_is
+    ∙ ap (λ t. Next (state_with (add inside (memory_with (neutral_of old.neutral) t old.forms meta)) input output)) rest_is))
+    (λ meta input output. size-used meta old)
+
+-- with a comma mark an argument of the innermost call begins
+comma-memory : (n : Neutral) (call : OpenCall) (outer : List OpenCall) → n.calls ≡ call ∷ outer → with_cell n Comma ≡ record n { calls = begin_argument n.calls }
+comma-memory n call outer e = rw e refl
+
+pub scans-comma : (old : Contents) (place : ℕ) → slice_get (text_of_cells old.active) 0 ≡ Some 44 → IsLastCall old.neutral place → Scans old (record old { active = drop 1 old.active; neutral = old.neutral ++ Comma ∷ [] }) (used old)
+scans-comma old place first last =
+    let t = text_of_cells old.active in
+    let n = neutral_of old.neutral in
+    let calls = ap (λ (n : Neutral). n.calls) (neutral_of-innermost old.neutral place last) in
+    scans-by old (record old { active = drop 1 old.active; neutral = old.neutral ++ Comma ∷ [] }) (BeginArgument (drop 1 t)) (used old)
+    (ap rule (first-rest t 44 first) ∙ rule_comma (drop 1 t))
+    (λ meta input output.
+    same-active (record n { calls = begin_argument n.calls }) (drop 1 t) (text_of_cells (drop 1 old.active)) old.forms meta input output (sym (drop-text 1 old.active))
+    ∙ ap (λ (n : Neutral). Next (state_with (memory_with n (text_of_cells (drop 1 old.active)) old.forms meta) input output)) (sym (neutral_of-push old.neutral Comma ∙ comma-memory n _ _ calls)))
+    (λ meta input output. size-used meta old)
+
+pub scans-comma-none : (old : Contents) → slice_get (text_of_cells old.active) 0 ≡ Some 44 → NoCall old.neutral → Scans old (record old { active = drop 1 old.active }) (used old)
+scans-comma-none old first none =
+    let t = text_of_cells old.active in
+    let n = neutral_of old.neutral in
+    let calls = calls-none old.neutral none in
+    scans-by old (record old { active = drop 1 old.active }) (BeginArgument (drop 1 t)) (used old)
+    (ap rule (first-rest t 44 first) ∙ rule_comma (drop 1 t))
+    (λ meta input output.
+    same-active (record n { calls = begin_argument n.calls }) (drop 1 t) (text_of_cells (drop 1 old.active)) old.forms meta input output (sym (drop-text 1 old.active))
+    ∙ ap (λ calls. Next (state_with (memory_with (record n { calls = calls }) (text_of_cells (drop 1 old.active)) old.forms meta) input output)) (ap begin_argument calls ∙ sym calls))
+    (λ meta input output. size-used meta old)
+
+-- a mark opens a call
+scans-call : (old : Contents) (mode : Mode) (n : ℕ) → rule (text_of_cells old.active) ≡ BeginCall mode (drop n (text_of_cells old.active)) → Scans old (record old { active = drop n old.active; neutral = old.neutral ++ Call mode 0 ∷ [] }) (used old)
+scans-call old mode n fits =
+    let t = text_of_cells old.active in
+    let before = neutral_of old.neutral in
+    scans-by old (record old { active = drop n old.active; neutral = old.neutral ++ Call mode 0 ∷ [] }) (BeginCall mode (drop n t)) (used old)
+    fits
+    (λ meta input output.
+    same-active (record before { calls = begin_call mode before.calls }) (drop n t) (text_of_cells (drop n old.active)) old.forms meta input output (sym (drop-text n old.active))
+    ∙ ap (λ (m : Neutral). Next (state_with (memory_with m (text_of_cells (drop n old.active)) old.forms meta) input output)) (sym (neutral_of-push old.neutral (Call mode 0))))
+    (λ meta input output. size-used meta old)
+
+second-rest : (text : Text) (b c : ℕ) → slice_get text 0 ≡ Some b → slice_get text 1 ≡ Some c → text ≡ b ∷ c ∷ drop 2 text
+second-rest [] b c e f = absurd cc
+second-rest (x ∷ []) b c e f = absurd cc
+second-rest (x ∷ y ∷ text) b c e f = let first : x ≡ b = cc in let second : y ≡ c = cc in rw (first, second) refl
+
+third-rest : (text : Text) (b c d : ℕ) → slice_get text 0 ≡ Some b → slice_get text 1 ≡ Some c → slice_get text 2 ≡ Some d → text ≡ b ∷ c ∷ d ∷ drop 3 text
+third-rest [] b c d e f g = absurd cc
+third-rest (x ∷ []) b c d e f g = absurd cc
+third-rest (x ∷ y ∷ []) b c d e f g = absurd cc
+third-rest (x ∷ y ∷ z ∷ text) b c d e f g = let first : x ≡ b = cc in let second : y ≡ c = cc in let third : z ≡ d = cc in rw (first, second, third) refl
+
+pub scans-active : (old : Contents) → slice_get (text_of_cells old.active) 0 ≡ Some 35 → slice_get (text_of_cells old.active) 1 ≡ Some 40 → Scans old (record old { active = drop 2 old.active; neutral = old.neutral ++ Call Active 0 ∷ [] }) (used old)
+scans-active old first second =
+    let t = text_of_cells old.active in
+    scans-call old Active 2 (ap rule (second-rest t 35 40 first second) ∙ rule_active (drop 2 t))
+
+pub scans-neutral : (old : Contents) → slice_get (text_of_cells old.active) 0 ≡ Some 35 → slice_get (text_of_cells old.active) 1 ≡ Some 35 → slice_get (text_of_cells old.active) 2 ≡ Some 40 → Scans old (record old { active = drop 3 old.active; neutral = old.neutral ++ Call NeutralMode 0 ∷ [] }) (used old)
+scans-neutral old first second third =
+    let t = text_of_cells old.active in
+    scans-call old NeutralMode 3 (ap rule (third-rest t 35 35 40 first second third) ∙ rule_neutral (drop 3 t))
+
+-- the first character goes to the end of neutral
+scans-first : (old : Contents) (c : ℕ) → rule (text_of_cells old.active) ≡ AddCharacter c (drop 1 (text_of_cells old.active)) → Scans old (record old { active = drop 1 old.active; neutral = old.neutral ++ Byte c ∷ [] }) (used old)
+scans-first old c fits =
+    let t = text_of_cells old.active in
+    scans-by old (record old { active = drop 1 old.active; neutral = old.neutral ++ Byte c ∷ [] }) (AddCharacter c (drop 1 t)) (used old)
+    fits
+    (λ meta input output.
+    sym (ap (λ (n : Neutral). Next (state_with (memory_with n (text_of_cells (drop 1 old.active)) old.forms meta) input output)) (neutral_of-push old.neutral (Byte c))
+    ∙ ap (λ m. Next (state_with m input output)) (with_cells-text (c ∷ []) (neutral_of old.neutral) (text_of_cells (drop 1 old.active)) old.forms meta)
+    ∙ ap (λ t. Next (state_with (add (c ∷ []) (memory_with (neutral_of old.neutral) t old.forms meta)) input output)) (drop-text 1 old.active)))
+    (λ meta input output. size-used meta old)
+
+-- a number sign that opens no call
+sign-rule : (text : Text) → slice_get text 0 ≡ Some 35 → slice_get text 1 ≢ Some 40 → (slice_get text 1 ≡ Some 35 → slice_get text 2 ≢ Some 40) → rule text ≡ AddCharacter 35 (drop 1 text)
+sign-rule [] first second third = absurd cc
+sign-rule (b ∷ []) first second third = let e : b ≡ 35 = cc in ap (λ b. rule (b ∷ [])) e ∙ rule_sign_last
+sign-rule (b ∷ c ∷ []) first second third =
+    let e : b ≡ 35 = cc in
+    let opens : c ≢ 40 = λ f. second (ap Some f) in
+    ap (λ b. rule (b ∷ c ∷ [])) e
+    ∙ ⊎_elim
+    (λ same. ap (λ c. rule (35 ∷ c ∷ [])) same ∙ rule_two_signs_last ∙ ap (λ c. AddCharacter 35 (c ∷ [])) (sym same))
+    (λ other. rule_sign c [] opens other)
+    (cases_eq c 35)
+sign-rule (b ∷ c ∷ d ∷ text) first second third =
+    let e : b ≡ 35 = cc in
+    let opens : c ≢ 40 = λ f. second (ap Some f) in
+    ap (λ b. rule (b ∷ c ∷ d ∷ text)) e
+    ∙ ⊎_elim
+    (λ same.
+    let later : d ≢ 40 = λ f. third (ap Some same) (ap Some f) in
+    ap (λ c. rule (35 ∷ c ∷ d ∷ text)) same ∙ rule_two_signs d text later ∙ ap (λ c. AddCharacter 35 (c ∷ d ∷ text)) (sym same))
+    (λ other. rule_sign c (d ∷ text) opens other)
+    (cases_eq c 35)
+
+pub scans-sign : (old : Contents) → slice_get (text_of_cells old.active) 0 ≡ Some 35 → slice_get (text_of_cells old.active) 1 ≢ Some 40 → (slice_get (text_of_cells old.active) 1 ≡ Some 35 → slice_get (text_of_cells old.active) 2 ≢ Some 40) → Scans old (record old { active = drop 1 old.active; neutral = old.neutral ++ Byte 35 ∷ [] }) (used old)
+scans-sign old first second third = scans-first old 35 (sign-rule (text_of_cells old.active) first second third)
+
+-- a character that isn't layout
+not-layout : (c : ℕ) → is_layout c ≡ false → (c ≢ 9) × (c ≢ 10) × (c ≢ 13)
+not-layout c h = (λ e. absurd (tab e), λ e. absurd (feed e), λ e. absurd (back e))
+  where
+    tab : c ≡ 9 → ⊥
+    tab e = let f : is_layout 9 ≡ false = subst (λ c. is_layout c ≡ false) e h in cc
+
+    feed : c ≡ 10 → ⊥
+    feed e = let f : is_layout 10 ≡ false = subst (λ c. is_layout c ≡ false) e h in cc
+
+    back : c ≡ 13 → ⊥
+    back e = let f : is_layout 13 ≡ false = subst (λ c. is_layout c ≡ false) e h in cc
+
+pub scans-other : (old : Contents) (c : ℕ) → slice_get (text_of_cells old.active) 0 ≡ Some c → is_layout c ≡ false → c ≢ 40 → c ≢ 41 → c ≢ 44 → c ≢ 35 → Scans old (record old { active = drop 1 old.active; neutral = old.neutral ++ Byte c ∷ [] }) (used old)
+scans-other old c first layout opens closes comma sign =
+    let t = text_of_cells old.active in
+    let l = not-layout c layout in
+    scans-first old c (ap rule (first-rest t c first) ∙ rule_other c (drop 1 t) l.0 l.1 l.2 opens comma sign closes)
+
+-- the idling procedure is loaded
+pub scans-idling : (old : Contents) → old.active ≡ [] → Scans old (record old { neutral = []; active = map Byte idling }) (cells old.forms + 11)
+scans-idling old none =
+    scans-by old (record old { neutral = []; active = map Byte idling }) LoadIdling (cells old.forms + 11)
+    (ap (λ a. rule (text_of_cells a)) none ∙ rule-nothing)
+    (λ meta input output. refl)
+    (λ meta input output. refl)
+
+pub idling-need : (old : Contents) → old.active ≡ [] → (meta : ℕ) (input : Input) (output : Text) → need (state_with (memory_of meta old) input output) ≡ cells old.forms + 11
+idling-need old none = (scans-idling old none).needs
+
+-- a mark or a character takes the place of characters of the active string
+pub push-after-drop : (old left new : Contents) (n : ℕ) (done : Bool) (cell : Cell) → IsSound old → 0 < n → n ≤ length old.active → left ≡ record old { active = drop n old.active } → (IsTrue done ↔ (used left < left.room)) → OnTrue done (new ≡ record left { neutral = left.neutral ++ cell ∷ [] }) → new ≡ record old { active = drop n old.active; neutral = old.neutral ++ cell ∷ [] }
+push-after-drop old left new n done cell sound some within left_is tells put =
+    let long = length-drop n old.active in
+    let fits = sound.fits in
+    let active : length left.active ≡ length (drop n old.active) = ap (λ (w : Contents). length w.active) left_is in
+    let neutral : length left.neutral ≡ length old.neutral = ap (λ (w : Contents). length w.neutral) left_is in
+    let forms : cells left.forms ≡ cells old.forms = ap (λ (w : Contents). cells w.forms) left_is in
+    let room : left.room ≡ old.room = ap (λ (w : Contents). w.room) left_is in
+    let done_is : done ≡ true = tells.1 (omega arith) in
+    let made : new ≡ record left { neutral = left.neutral ++ cell ∷ [] } = go done done_is put in
+    made ∙ ap (λ (w : Contents). record w { neutral = w.neutral ++ cell ∷ [] }) left_is
+  where
+    go : (b : Bool) → b ≡ true → OnTrue b (new ≡ record left { neutral = left.neutral ++ cell ∷ [] }) → new ≡ record left { neutral = left.neutral ++ cell ∷ [] }
+    go true e h = h
+    go false e h = absurd cc
+
+-- what a search for a mark has told
+pub last-some : (o : Option ℕ) (P : Type 0) (Q : ℕ → Type 0) → is_some o ≡ true → MatchOption o P Q → (place : ℕ) × Q place
+last-some None P Q e h = absurd cc
+last-some (Some place) P Q e h = (place, h)
+
+pub last-none : (o : Option ℕ) (P : Type 0) (Q : ℕ → Type 0) → is_some o ≡ false → MatchOption o P Q → P
+last-none None P Q e h = h
+last-none (Some place) P Q e h = absurd cc
+
+-- the text of the cells after the first
+pub text-after : (active part : List Cell) → part ≡ slice_range active 1 (length active) → text_of_cells part ≡ drop 1 (text_of_cells active)
+text-after active part e =
+    let long : length active - 1 ≡ length (drop 1 active) = sym (length-drop 1 active) in
+    ap text_of_cells (e ∙ ap (λ n. take n (drop 1 active)) long ∙ take-length (drop 1 active)) ∙ drop-text 1 active

@@ -1,0 +1,30 @@
+use Rattle.std.proofs.Common.{◌≡◌, ◌+◌, ◌≤◌, ◌<◌, [], ⊎_elim, map, ap, ◌∙◌, arith, true, false, length}
+use Rattle.std.proofs.lemmas.Bool.{cases_lt}
+use Rattle.trac_space.specs.declared.cell.Cell.TheVariants.{Byte}
+use Rattle.trac_forms.specs.Contents.{Contents, used}
+use Rattle.trac_forms.specs.Store.{cells}
+use Rattle.trac_core.specs.Flat.{memory_of}
+use Rattle.trac_core.specs.Machine.{state_with}
+use Rattle.trac_core.specs.Step.{idling, need}
+use Rattle.trac_core.proofs.Scanning.{scans-idling, idling-need}
+use Rattle.trac_core.proofs.scan.load_idling.Goals as goal
+
+pub returns-then-load_active-clause-scanned : goal.returns-then-load_active-clause-scanned
+returns-then-load_active-clause-scanned c =
+    let old = c.args.work.now in
+    let made : c.load_active.new.self ≡ record old { neutral = []; active = map Byte idling } = c.if-load_active.ensures.is_text ∙ ap (λ (w : Contents). record w { active = map Byte idling }) c.clear_neutral.ensures.empty in
+    let need : c.used.result ≡ cells old.forms + 11 = c.used.ensures.value ∙ ap used made ∙ omega arith in
+    rw (made, need) (scans-idling old c.requires)
+
+pub returns-else-load_active-clause-scanned : goal.returns-else-load_active-clause-scanned
+returns-else-load_active-clause-scanned c = λ meta input output.
+    let old = c.args.work.now in
+    let need_is = idling-need old c.requires meta input output in
+    let forms = ap (λ (w : Contents). cells w.forms) c.clear_neutral.ensures.empty in
+    let room = ap (λ (w : Contents). w.room) c.clear_neutral.ensures.empty in
+    let all = ap used c.clear_neutral.ensures.empty in
+    let none : length old.active ≡ 0 = ap length c.requires in
+    ⊎_elim
+    (λ lt. lt)
+    (λ le. absurd (let fits = c.if-load_active.ensures.loaded.1 (omega arith) in cc))
+    (cases_lt old.room (need (state_with (memory_of meta old) input output)))

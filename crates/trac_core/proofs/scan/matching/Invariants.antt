@@ -1,0 +1,12 @@
+use Rattle.std.proofs.Common.{◌≤◌}
+use Rattle.trac_forms.specs.FlatForms.{text_of_cells}
+use Rattle.trac_core.proofs.Matching.{IsAt}
+use Rattle.trac_core.proofs.scan.matching.Given as goal
+
+-- no match stands among the cells so far, and so many left parentheses are open
+abbrev pub invariant-loop-i : goal.invariant-loop-i
+invariant-loop-i l =
+    record {
+      at : IsAt (text_of_cells l.cells) l.i l.depth;
+      bound : l.depth ≤ l.i;
+    }

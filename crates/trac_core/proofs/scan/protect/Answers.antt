@@ -1,0 +1,27 @@
+use Rattle.std.proofs.Common.{◌≡◌, ◌+◌, ◌++◌, take, drop, length, slice_range, map, Some, None, sym, ap, ◌∙◌, subst}
+use Rattle.trac_space.specs.Cells.{seen}
+use Rattle.trac_forms.specs.FlatForms.{text_of_cells}
+use Rattle.trac_forms.specs.Contents.{Contents}
+use Rattle.trac_core.specs.Protected.{protected}
+use Rattle.trac_core.proofs.ArgumentLemmas.{text_of_cells-seen}
+use Rattle.trac_core.proofs.Scanning.{scans-protected, scans-unmatched, text-after}
+use Rattle.trac_core.proofs.scan.protect.Goals as goal
+
+pub returns-in-Some-clause-scans : goal.returns-in-Some-clause-scans
+returns-in-Some-clause-scans c =
+    let old = c.args.work.now in
+    let part = c.active_part.result.now in
+    let len = c.in-Some.len in
+    let text = sym (text_of_cells-seen part) ∙ text-after old.active (map seen part) (c.active_part.ensures ∙ ap (λ n. slice_range old.active 1 n) c.active_len.ensures.value) in
+    let found = subst (λ t. protected t ≡ Some (take len t, drop (len + 1) t)) text c.in-Some.ensures.1 in
+    let moved = c.drop_active-in-Some.ensures.rest
+        ∙ ap (λ (w : Contents). record w { active = drop 1 w.active })
+        (c.active_to_neutral.ensures.moved ∙ ap (λ (w : Contents). record w { neutral = w.neutral ++ take len w.active; active = drop len w.active }) c.drop_active.ensures.rest) in
+    rw moved (scans-protected old len c.requires.sound c.requires.first found)
+
+pub returns-in-None-clause-scans : goal.returns-in-None-clause-scans
+returns-in-None-clause-scans c =
+    let old = c.args.work.now in
+    let part = c.active_part.result.now in
+    let text = sym (text_of_cells-seen part) ∙ text-after old.active (map seen part) (c.active_part.ensures ∙ ap (λ n. slice_range old.active 1 n) c.active_len.ensures.value) in
+    rw c.clear_active.ensures.empty (scans-unmatched old c.requires.first (subst (λ t. protected t ≡ None) text c.in-None.ensures))
