@@ -25,3 +25,4 @@ pub mod MetaLemmas
 pub mod Scanning
 pub mod Matching
 pub mod Performing
+pub mod Reading

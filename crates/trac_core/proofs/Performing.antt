@@ -1,8 +1,10 @@
 -- A call that is performed, over the contents of a workspace.
-use Rattle.std.proofs.Common.{◌≡◌, ◌≢◌, ℕ, suc, ◌+◌, ◌-◌, ◌<◌, ◌≤◌, max, Bool, true, false, not, ◌&&◌, List, [], ◌∷◌, ◌++◌, length, take, drop, Option, Some, None, refl, sym, ap, ◌∙◌, subst, arith, append_assoc, append-nil, length-append}
-use Rattle.std.specs.Prelude.{◌==◌}
+use Rattle.std.proofs.Common.{◌≡◌, ◌≢◌, ℕ, suc, ◌+◌, ◌-◌, ◌<◌, ◌≤◌, max, Bool, true, false, not, ◌&&◌, ◌||◌, List, [], ◌∷◌, ◌++◌, length, take, drop, All, Option, Some, None, refl, sym, ap, ◌∙◌, subst, arith, append_assoc, append-nil, length-append}
+use Rattle.std.specs.Prelude.{◌==◌, slice_get, unwrap_or}
+use Rattle.std.proofs.lemmas.Option.{unwrap_or-slice_get}
 use Rattle.std.specs.List.{before_first, position_or_len, list_any}
-use Rattle.std.proofs.lemmas.List.{length-map}
+use Rattle.std.proofs.lemmas.List.{length-map, get_or_append_left}
+use Rattle.std.proofs.Math.Seq.{drop-append_seam, take-append_seam}
 use Rattle.trac_space.specs.declared.cell.Cell.{Cell}
 use Rattle.trac_space.specs.declared.cell.Cell.TheVariants.{Byte}
 use Rattle.trac_space.specs.declared.cell.Mode.{Mode}
@@ -10,24 +12,27 @@ use Rattle.trac_space.specs.declared.cell.Mode.TheVariants.{Active, Neutral as N
 use Rattle.trac_forms.specs.Text.{Text}
 use Rattle.trac_forms.specs.Form.{Form}
 use Rattle.trac_forms.specs.FlatForms.{flat_text, text_of_cells}
-use Rattle.trac_forms.specs.Contents.{Contents, used}
+use Rattle.trac_space.specs.Calls.{IsLastCall}
+use Rattle.trac_forms.specs.Contents.{Contents, used, IsByte, IsSound}
 use Rattle.trac_core.specs.declared.function.Function.{Function}
-use Rattle.trac_core.specs.declared.function.Function.TheVariants.{ReadString, ReadCharacter, PrintString, Halt}
+use Rattle.trac_core.specs.declared.function.Function.TheVariants.{ReadString, ReadCharacter, ChangeMeta, PrintString, PrintForm, Halt}
 use Rattle.trac_core.specs.declared.machine.Fate.{Fate}
 use Rattle.trac_core.specs.declared.machine.Fate.TheVariants.{Halted, InputEnded, Workspace, Steps, InputFailed, OutputFailed}
 use Rattle.trac_core.specs.Devices.{Stream}
-use Rattle.trac_core.specs.Function.{function_named}
+use Rattle.trac_core.specs.Function.{function_named, is_plain, is_read_string}
 use Rattle.trac_core.specs.State.{OpenCall, Memory, Input, State, arguments, argument, size, add}
-use Rattle.trac_core.specs.Meaning.{World, Answer, Meaning, Gives, Ends, meaning, built}
+use Rattle.trac_core.specs.Meaning.{World, Answer, Meaning, Gives, Ends, meaning_of, meaning, built}
 use Rattle.trac_core.specs.Rule.{EndCall, rule}
 use Rattle.trac_core.specs.Step.{Outcome, Next, Over, function_of, world_of, deliver, perform, end_call, with_active, follow, end_need, need_by, step, need, reads_last, end_reads_last, reads_last_by, reads_to_end}
 use Rattle.trac_core.specs.Performed.{performed_by, performs}
-use Rattle.trac_core.specs.Flat.{Neutral, no_neutral, with_cells, neutral_of, memory_with, memory_of, mode_at, arguments_at}
-use Rattle.trac_core.specs.Calls.{world}
+use Rattle.trac_core.specs.Flat.{Neutral, no_neutral, with_cells, neutral_of, memory_with, memory_of, mode_of, mode_at, is_active_mode, arguments_at}
+use Rattle.trac_core.specs.declared.arguments.Made.TheVariants.{Full}
+use Rattle.trac_core.specs.Calls.{world, IsValue, IsDefined, Makes}
 use Rattle.trac_core.specs.Machine.{MachineState, Moment, moment, ending, failing, state_with, state_of, failing_state_of, MayStep, EndsRun}
 use Rattle.trac_core.specs.Attempts.{scene, Tried, TriedCall, Performs, delivered}
-use Rattle.trac_core.proofs.FlatLemmas.{with_cells-append, with_cells-text, text_of-flat, text_of_cells-append, neutral_of-innermost, call_at, opened, grown-mode, arguments-call_at, size-used}
+use Rattle.trac_core.proofs.FlatLemmas.{with_cells-append, with_cells-text, text_of-flat, text_of_cells-append, neutral_of-innermost, call_at, opened, texts_of-some, grown-mode, arguments-call_at, size-used}
 use Rattle.trac_core.proofs.Rules.{rule_end}
+use Rattle.trac_core.proofs.ArgumentLemmas.{bytes-flat}
 
 -- the contents without the innermost call
 abbrev pub closed : Contents → ℕ → Contents
@@ -131,8 +136,8 @@ tried-answer w new place f meta meta' source source' written put needed value fo
     }
 
 -- the call needs more than the room
-pub tried-full : (w new : Contents) (place : ℕ) (f : Option Function) (meta : ℕ) (source source' : Stream) (written : Text) → function_named (argument (arguments_at w.neutral place) 0) ≡ f → w.room < used w + built f (arguments_at w.neutral place) (world w.forms meta (ending source.bytes)) → TriedCall place (scene w meta source written) (Some Workspace) 0 (scene new meta source' written)
-tried-full w new place f meta source source' written names full = λ old p m room_is memory_is allowed.
+pub tried-full : (w new : Contents) (place : ℕ) (f : Option Function) (meta : ℕ) (source source' : Stream) (written : Text) (needed : ℕ) → function_named (argument (arguments_at w.neutral place) 0) ≡ f → w.room < used w + built f (arguments_at w.neutral place) (world w.forms meta (ending source.bytes)) → TriedCall place (scene w meta source written) (Some Workspace) needed (scene new meta source' written)
+tried-full w new place f meta source source' written needed names full = λ old p m room_is memory_is allowed.
     let input = ending source.bytes in
     let s = state_with (memory_of meta old) input written in
     let here : state_of (moment m source written) ≡ s = ap (λ memory. state_with memory input written) memory_is in
@@ -213,3 +218,142 @@ tried-broken w new place f meta source written put rest needed answer names mean
         ),
       ),
     )
+
+-- ---- calls that neither read nor print
+
+-- nothing is printed
+pub tried-quiet : (w new : Contents) (place : ℕ) (f : Option Function) (meta meta' : ℕ) (source source' : Stream) (written : Text) (needed : ℕ) (value : Text) (forced : Bool) (forms : List Form) → function_named (argument (arguments_at w.neutral place) 0) ≡ f → Answered w new place f meta meta' source source' [] needed value forced forms → TriedCall place (scene w meta source written) None needed (scene new meta' source' written)
+tried-quiet w new place f meta meta' source source' written needed value forced forms names a =
+    subst (λ output. TriedCall place (scene w meta source written) None needed (scene new meta' source' output)) (append-nil written)
+    (tried-answer w new place f meta meta' source source' written [] needed value forced forms names a)
+
+-- with a null value the call only leaves
+pub delivered-null : (mode : Mode) (place : ℕ) (w : Contents) → delivered mode false [] place w ≡ closed w place
+delivered-null Active place w = refl
+delivered-null NeutralMode place w = ap (λ n. record w { neutral = n }) (append-nil (take place w.neutral))
+
+pub delivered-active : (mode : Mode) (forced : Bool) (value : Text) (place : ℕ) (w : Contents) → (forced || is_active_mode mode) ≡ true → delivered mode forced value place w ≡ record w { active = flat_text value ++ w.active; neutral = take place w.neutral }
+delivered-active Active forced value place w h = refl
+delivered-active NeutralMode true value place w h = refl
+delivered-active NeutralMode false value place w h = absurd cc
+
+pub delivered-neutral : (mode : Mode) (forced : Bool) (value : Text) (place : ℕ) (w : Contents) → (forced || is_active_mode mode) ≡ false → delivered mode forced value place w ≡ record w { neutral = take place w.neutral ++ flat_text value }
+delivered-neutral Active true value place w h = absurd cc
+delivered-neutral Active false value place w h = absurd cc
+delivered-neutral NeutralMode true value place w h = absurd cc
+delivered-neutral NeutralMode false value place w h = refl
+
+-- the function's name and what follows it
+pub whole-arguments : (neutral : List Cell) (place : ℕ) (rest : List Text) → rest ≡ drop 1 (arguments_at neutral place) → argument (arguments_at neutral place) 0 ∷ rest ≡ arguments_at neutral place
+whole-arguments neutral place rest e = ap (λ l. argument (arguments_at neutral place) 0 ∷ l) e ∙ go (arguments_at neutral place) (texts_of-some (drop (place + 1) neutral))
+  where
+    go : (l : List Text) → 0 < length l → argument l 0 ∷ drop 1 l ≡ l
+    go [] some = absurd (omega arith)
+    go (t ∷ ts) some = refl
+
+-- a plain function reads nothing
+plain-reads : (f : Function) → is_plain f ≡ true → is_read_string f ≡ false
+plain-reads ReadString h = absurd cc
+plain-reads ReadCharacter h = absurd cc
+plain-reads ChangeMeta h = absurd cc
+plain-reads PrintString h = absurd cc
+plain-reads PrintForm h = absurd cc
+plain-reads Halt h = absurd cc
+plain-reads _ h = refl
+
+-- a value that stands behind what was there is delivered
+pub delivered-value : (w mid new : Contents) (place end : ℕ) (value : Text) (forced : Bool) (forms : List Form) → IsLastCall w.neutral place → mid ≡ record w { forms = forms; neutral = w.neutral ++ flat_text value } → end ≡ length w.neutral → new ≡ delivered (mode_at mid.neutral place) forced (text_of_cells (drop end mid.neutral)) place (record mid { neutral = take end mid.neutral }) → new ≡ delivered (mode_at w.neutral place) forced value place (record w { forms = forms })
+delivered-value w mid new place end value forced forms innermost stands end_is new_is =
+    let neutral = ap (λ (w : Contents). w.neutral) stands in
+    let same_text : text_of_cells (drop end mid.neutral) ≡ value =
+    ap (λ n. text_of_cells (drop end n)) neutral ∙ ap (λ k. text_of_cells (drop k (w.neutral ++ flat_text value))) end_is ∙ ap text_of_cells (drop-append_seam w.neutral (flat_text value)) ∙ text_of-flat value in
+    let before : take end mid.neutral ≡ w.neutral = ap (take end) neutral ∙ ap (λ k. take k (w.neutral ++ flat_text value)) end_is ∙ take-append_seam w.neutral (flat_text value) in
+    let mode : mode_at mid.neutral place ≡ mode_at w.neutral place = ap (λ n. mode_at n place) neutral ∙ ap mode_of (get_or_append_left w.neutral (flat_text value) (Byte 0) place innermost.mark.0) in
+    new_is
+    ∙ ap (λ m. delivered m forced (text_of_cells (drop end mid.neutral)) place (record mid { neutral = take end mid.neutral })) mode
+    ∙ ap (λ v. delivered (mode_at w.neutral place) forced v place (record mid { neutral = take end mid.neutral })) same_text
+    ∙ ap (λ n. delivered (mode_at w.neutral place) forced value place (record mid { neutral = n })) before
+    ∙ ap (λ (c : Contents). delivered (mode_at w.neutral place) forced value place (record c { neutral = w.neutral })) stands
+
+module _ (w mid : Contents) (place : ℕ) (f : Function) (rest : List Text) (names : function_named (argument (arguments_at w.neutral place) 0) ≡ Some f) (innermost : IsLastCall w.neutral place) (plain : is_plain f ≡ true) (rest_is : rest ≡ drop 1 (arguments_at w.neutral place)) where
+  -- a call that builds a value which stands at the end of neutral
+  pub tried-value : (new : Contents) (end needed : ℕ) (value : Text) (forced : Bool) → IsValue f (argument (arguments_at w.neutral place) 0 ∷ rest) w mid forced value → end ≡ length w.neutral → new ≡ delivered (mode_at mid.neutral place) forced (text_of_cells (drop end mid.neutral)) place (record mid { neutral = take end mid.neutral }) → needed ≡ used w + (length mid.neutral - end) → (meta : ℕ) (source : Stream) (written : Text) → TriedCall place (scene w meta source written) None needed (scene new meta source written)
+  tried-value new end needed value forced is end_is new_is needs meta source written =
+      let all = whole-arguments w.neutral place rest rest_is in
+      let here = world w.forms meta (ending source.bytes) in
+      let neutral = ap (λ (w : Contents). w.neutral) is.stands in
+      let built_is = sym (ap (λ args. built (Some f) args here) (sym all) ∙ is.valued.builds meta (ending source.bytes)) in
+      let long : length mid.neutral - end ≡ length value =
+      ap (λ n. length n - end) neutral ∙ rw (end_is, length-append w.neutral (flat_text value), length-map value Byte) (omega arith) in
+      let fits = is.fits in
+      tried-quiet w new place (Some f) meta meta source source written needed value forced mid.forms names
+      (record {
+        means = ap (λ args. meaning_of f args here) (sym all) ∙ is.valued.means meta (ending source.bytes);
+        stands = delivered-value w mid new place end value forced mid.forms innermost is.stands end_is new_is;
+        needs = needs ∙ ap (λ n. used w + n) (long ∙ built_is);
+        fits = omega arith;
+        stays_ended = λ e. e;
+        read_all = λ reads. absurd (let no_reading = plain-reads f plain in let none = ap (λ b. b && not (list_any (λ c. c == meta) source.bytes)) no_reading in cc);
+      })
+
+  -- a call that builds a form
+  pub tried-defined : (new : Contents) (needed cells : ℕ) → IsDefined f (argument (arguments_at w.neutral place) 0 ∷ rest) w mid cells → new ≡ closed mid place → needed ≡ used w + cells → (meta : ℕ) (source : Stream) (written : Text) → TriedCall place (scene w meta source written) None needed (scene new meta source written)
+  tried-defined new needed cells is new_is needs meta source written =
+      let all = whole-arguments w.neutral place rest rest_is in
+      let here = world w.forms meta (ending source.bytes) in
+      let built_is = sym (ap (λ args. built (Some f) args here) (sym all) ∙ is.builds meta (ending source.bytes)) in
+      let fits = is.fits in
+      tried-quiet w new place (Some f) meta meta source source written needed [] false mid.forms names
+      (record {
+        means = ap (λ args. meaning_of f args here) (sym all) ∙ is.means meta (ending source.bytes);
+        stands = new_is ∙ ap (λ (c : Contents). record c { forms = mid.forms; neutral = take place c.neutral }) is.stands ∙ sym (delivered-null (mode_at w.neutral place) place (record w { forms = mid.forms }));
+        needs = needs ∙ ap (λ n. used w + n) built_is;
+        fits = omega arith;
+        stays_ended = λ e. e;
+        read_all = λ reads. absurd (let no_reading = plain-reads f plain in let none = ap (λ b. b && not (list_any (λ c. c == meta) source.bytes)) no_reading in cc);
+      })
+
+  -- a call that doesn't fit
+  pub tried-too-much : (new : Contents) → Makes f (argument (arguments_at w.neutral place) 0 ∷ rest) w Full mid → (meta : ℕ) (source : Stream) (written : Text) → TriedCall place (scene w meta source written) (Some Workspace) 0 (scene new meta source written)
+  tried-too-much new is meta source written =
+      let all = whole-arguments w.neutral place rest rest_is in
+      let here = world w.forms meta (ending source.bytes) in
+      let same = ap (λ args. built (Some f) args here) all in
+      let full = is meta (ending source.bytes) in
+      tried-full w new place (Some f) meta source source written 0 names (omega arith)
+
+-- a call of no function
+pub tried-nothing : (w new : Contents) (place needed : ℕ) → function_named (argument (arguments_at w.neutral place) 0) ≡ None → IsSound w → new ≡ closed w place → needed ≡ used w → (meta : ℕ) (source : Stream) (written : Text) → TriedCall place (scene w meta source written) None needed (scene new meta source written)
+tried-nothing w new place needed names sound new_is needs meta source written =
+    let fits = sound.fits in
+    tried-quiet w new place None meta meta source source written needed [] false w.forms names
+    (record {
+      means = refl;
+      stands = new_is ∙ sym (delivered-null (mode_at w.neutral place) place w);
+      needs = omega arith;
+      fits = omega arith;
+      stays_ended = λ e. e;
+      read_all = λ reads. absurd cc;
+    })
+
+-- no cell stands at the place
+pub mode-none : (forced : Bool) (neutral : List Cell) (place : ℕ) → None ≡ slice_get neutral place → true ≡ (forced || is_active_mode (mode_at neutral place))
+mode-none forced neutral place e = sym (ap (λ m. forced || is_active_mode (mode_of m)) (sym (unwrap_or-slice_get neutral place (Byte 0)) ∙ ap (λ o. unwrap_or o (Byte 0)) (sym e)) ∙ go forced)
+  where
+    go : (b : Bool) → (b || true) ≡ true
+    go true = refl
+    go false = refl
+
+-- a value stands behind what was there, and its cells are characters
+pub value-within : (f : Function) (args : List Text) (w mid : Contents) (forced : Bool) (value : Text) → IsValue f args w mid forced value → length mid.neutral ≡ length w.neutral + length value
+value-within f args w mid forced value is =
+    ap (λ (w : Contents). length w.neutral) is.stands ∙ length-append w.neutral (flat_text value) ∙ ap (λ n. length w.neutral + n) (length-map value Byte)
+
+pub value-bytes : (f : Function) (args : List Text) (w mid : Contents) (forced : Bool) (value : Text) (end : ℕ) → IsValue f args w mid forced value → end ≡ length w.neutral → All IsByte (drop end mid.neutral)
+value-bytes f args w mid forced value end is end_is =
+    subst (All IsByte)
+    (sym (drop-append_seam w.neutral (flat_text value)) ∙ ap (λ k. drop k (w.neutral ++ flat_text value)) (sym end_is) ∙ sym (ap (λ (w : Contents). drop end w.neutral) is.stands))
+    (bytes-flat value)
+
+pub defined-within : (f : Function) (args : List Text) (w mid : Contents) (cells : ℕ) → IsDefined f args w mid cells → length mid.neutral ≡ length w.neutral
+defined-within f args w mid cells is = ap (λ (w : Contents). length w.neutral) is.stands

@@ -67,6 +67,10 @@ pub record IsCall (w : Contents) (place : ℕ) (function : Option Function) : Ty
 abbrev pub TriedCall : ℕ → Scene → Option Fate → ℕ → Scene → Type 0
 TriedCall place w answer needed new = (old : Contents) → Performs old w.contents place → Tried (record w { contents = old }) answer needed new
 
+-- the function of the call whose mark stands at the place
+abbrev pub function_at : List Cell → ℕ → Option Function
+function_at neutral place = function_named (argument (arguments_at neutral place) 0)
+
 -- the call leaves, and its value goes before the active string or to the end of the neutral one
 abbrev pub delivered : Mode → Bool → Text → ℕ → Contents → Contents
 delivered Active forced value place w = record w { active = flat_text value ++ w.active; neutral = take place w.neutral }
@@ -77,3 +81,8 @@ delivered Neutral false value place w = record w { neutral = take place w.neutra
 pub record TakesFrom (w : Contents) (old new : Stream) (taken : Text) : Type 0 where
   pub consumed : old.bytes ≡ taken ++ new.bytes
   pub few : length taken + used w ≤ w.room + 1
+
+-- these bytes left the source, at most two more than the free cells
+pub record TakesAtMost (w : Contents) (old new : Stream) (taken : Text) : Type 0 where
+  pub consumed : old.bytes ≡ taken ++ new.bytes
+  pub few : length taken + used w ≤ w.room + 2

@@ -52,6 +52,7 @@ pub record Valued (function : Function) (args : List Text) (old : List Form) (va
 -- the value of a call stands at the end of neutral, and the forms are changed
 pub record IsValue (function : Function) (args : List Text) (old new : Contents) (forced : Bool) (value : Text) : Type 0 where
   pub valued : Valued function args old.forms value forced new.forms
+  pub fits : used old + length value ≤ old.room
   pub stands : new ≡ record old { forms = new.forms; neutral = old.neutral ++ flat_text value }
 
 -- a call with a null value built so many cells of forms

@@ -1,9 +1,9 @@
 -- The memory that cells stand for.
-use Rattle.std.specs.Prelude.{ℕ, ◌+◌, List, [], ◌∷◌, ◌++◌, drop, slice_index_or}
+use Rattle.std.specs.Prelude.{ℕ, ◌+◌, Bool, true, false, List, [], ◌∷◌, ◌++◌, drop, slice_index_or}
 use Rattle.trac_space.specs.declared.cell.Cell.{Cell}
 use Rattle.trac_space.specs.declared.cell.Cell.TheVariants.{Byte, Call, Comma, Gap, Head}
 use Rattle.trac_space.specs.declared.cell.Mode.{Mode}
-use Rattle.trac_space.specs.declared.cell.Mode.TheVariants.{Active}
+use Rattle.trac_space.specs.declared.cell.Mode.TheVariants.{Active, Neutral as NeutralMode}
 use Rattle.trac_forms.specs.Text.{Text}
 use Rattle.trac_forms.specs.Form.{Form}
 use Rattle.trac_forms.specs.FlatForms.{text_of_cells}
@@ -81,6 +81,10 @@ mode_of (Head _) = Active
 -- the mode of the call whose mark stands at a place
 abbrev pub mode_at : List Cell → ℕ → Mode
 mode_at neutral place = mode_of (slice_index_or neutral place (Byte 0))
+
+abbrev pub is_active_mode : Mode → Bool
+is_active_mode Active = true
+is_active_mode NeutralMode = false
 
 -- the arguments of the innermost call, whose mark stands at a place
 abbrev pub arguments_at : List Cell → ℕ → List Text

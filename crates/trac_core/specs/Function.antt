@@ -27,3 +27,13 @@ function_named name = look_up (map to_ascii_lowercase name) functions
 abbrev pub is_read_string : Function → Bool
 is_read_string ReadString = true
 is_read_string _ = false
+
+-- a function that neither reads nor prints, nor changes the meta character, nor ends the run
+abbrev pub is_plain : Function → Bool
+is_plain ReadString = false
+is_plain ReadCharacter = false
+is_plain ChangeMeta = false
+is_plain PrintString = false
+is_plain PrintForm = false
+is_plain Halt = false
+is_plain _ = true

@@ -2,9 +2,11 @@
 #![tactic(auto)]
 
 mod arguments;
+mod call;
 mod comparing;
 mod device;
 mod function;
+mod input_output;
 pub mod laws;
 mod machine;
 mod scan;

@@ -34,7 +34,7 @@ pub(crate) fn character(work: &Work, place: u32) -> Option<u8>
 
 /// Whether a character stands at a place of the active string.
 #[inline]
-fn is_at(work: &Work, place: u32, byte: u8) -> bool
+pub(crate) fn is_at(work: &Work, place: u32, byte: u8) -> bool
     ensures { IsTrue result ↔ (slice_get (text_of_cells work.now.active) place ≡ Some byte) }
 {
     match character(work, place) {

@@ -1,0 +1,195 @@
+-- The calls that read.
+use Rattle.std.proofs.Common.{◌≡◌, ◌≢◌, ℕ, suc, ◌+◌, ◌-◌, ◌<◌, ◌≤◌, Bool, true, false, not, ◌&&◌, ◌||◌, List, [], ◌∷◌, ◌++◌, length, take, drop, Option, Some, None, refl, sym, ap, ◌∙◌, subst, arith, append_assoc, append-nil, length-append, eqb}
+use Rattle.std.specs.Prelude.{◌==◌}
+use Rattle.std.specs.List.{before_first, position_or_len, list_any}
+use Rattle.std.proofs.Common.{eq-eqb}
+use Rattle.std.proofs.lemmas.List.{length-map}
+use Rattle.trac_space.specs.declared.cell.Cell.{Cell}
+use Rattle.trac_space.specs.declared.cell.Cell.TheVariants.{Byte}
+use Rattle.trac_space.specs.Calls.{IsLastCall}
+use Rattle.trac_forms.specs.Text.{Text}
+use Rattle.trac_forms.specs.FlatForms.{flat_text, text_of_cells}
+use Rattle.trac_forms.specs.Contents.{Contents, used, IsSound}
+use Rattle.trac_core.specs.declared.function.Function.{Function}
+use Rattle.trac_core.specs.declared.function.Function.TheVariants.{ReadString, ReadCharacter}
+use Rattle.trac_core.specs.declared.machine.Fate.TheVariants.{InputEnded, Workspace, InputFailed}
+use Rattle.trac_core.specs.Devices.{Stream}
+use Rattle.trac_core.specs.Function.{function_named}
+use Rattle.trac_core.specs.State.{argument}
+use Rattle.trac_core.specs.Meaning.{World, Gives, Ends, meaning_of, meaning, built, before_meta, from_meta, read_string, read_all, valued, with_input}
+use Rattle.trac_core.specs.Step.{reads_last}
+use Rattle.trac_core.specs.Transfer.{has_meta, Reads}
+use Rattle.trac_core.specs.Flat.{mode_at, arguments_at}
+use Rattle.trac_core.specs.Calls.{world}
+use Rattle.trac_core.specs.Machine.{ending, failing}
+use Rattle.trac_core.specs.Attempts.{scene, TriedCall, IsCall, delivered, TakesFrom}
+use Rattle.trac_core.proofs.MetaLemmas.{position-past, before-none, from-none, before-at, from-at, length-before, any-at}
+use Rattle.trac_core.proofs.Performing.{tried-quiet, tried-full, tried-end, tried-failed, delivered-value}
+
+-- the cells that are used after a text was read
+pub used-reads : (meta : ℕ) (w mid : Contents) (text : Text) → Reads meta w mid text → used mid ≡ used w + length text
+used-reads meta w mid text reads =
+    let long = length-append w.neutral (flat_text text) in
+    let text_long = length-map text Byte in
+    ap used reads.pushed ∙ omega arith
+
+pub room-reads : (meta : ℕ) (w mid : Contents) (text : Text) → Reads meta w mid text → mid.room ≡ w.room
+room-reads meta w mid text reads = ap (λ (w : Contents). w.room) reads.pushed
+
+pub neutral-reads : (meta : ℕ) (w mid : Contents) (text : Text) → Reads meta w mid text → length mid.neutral ≡ length w.neutral + length text
+neutral-reads meta w mid text reads = ap (λ (w : Contents). length w.neutral) reads.pushed ∙ length-append w.neutral (flat_text text) ∙ ap (λ n. length w.neutral + n) (length-map text Byte)
+
+is-same : (meta : ℕ) → (meta == meta) ≡ true
+is-same meta = eq-eqb meta meta refl
+
+module _ (w mid : Contents) (place meta : ℕ) (text : Text) (call : IsCall w place (Some ReadString)) (reads : Reads meta w mid text) (sound : IsSound mid) where
+  args : List Text
+  args = arguments_at w.neutral place
+
+  -- the meta character followed
+  pub read-to-meta : (new : Contents) (from : ℕ) (source source' : Stream) (written : Text) → from ≡ length w.neutral → new ≡ delivered (mode_at mid.neutral place) false (text_of_cells (drop from mid.neutral)) place (record mid { neutral = take from mid.neutral }) → source.bytes ≡ text ++ meta ∷ source'.bytes → source.ended ≡ false → TriedCall place (scene w meta source written) None (used mid) (scene new meta source' written)
+  unfolding meaning_of
+  read-to-meta new from source source' written from_is new_is gave open_still =
+      let p = λ (c : ℕ). c == meta in
+      let here = world w.forms meta (ending source.bytes) in
+      let before : before_meta here ≡ text = ap (before_first p) gave ∙ before-at p text meta source'.bytes reads.no_meta (is-same meta) in
+      let after : from_meta here ≡ meta ∷ source'.bytes = ap (λ t. drop (position_or_len p t) t) gave ∙ from-at p text meta source'.bytes reads.no_meta (is-same meta) in
+      let fits = sound.fits in
+      let room = room-reads meta w mid text reads in
+      tried-quiet w new place (Some ReadString) meta meta source source' written (used mid) text false w.forms call.names
+      (record {
+        means = ap (λ t. read_string t (from_meta here) here) before ∙ ap (λ t. read_string text t here) after;
+        stands = delivered-value w mid new place from text false w.forms call.innermost reads.pushed from_is new_is;
+        needs = used-reads meta w mid text reads ∙ ap (λ t. used w + length t) (sym before);
+        fits = omega arith;
+        stays_ended = λ e. absurd cc;
+        read_all = λ e. absurd (let any = ap (list_any p) gave ∙ any-at p text meta source'.bytes (is-same meta) in let n = ap not any in cc);
+      })
+
+  -- the source ended after some bytes
+  pub read-some : (new : Contents) (from : ℕ) (source source' : Stream) (written : Text) → from ≡ length w.neutral → new ≡ delivered (mode_at mid.neutral place) false (text_of_cells (drop from mid.neutral)) place (record mid { neutral = take from mid.neutral }) → 0 < length text → source.bytes ≡ text → source'.bytes ≡ [] → source'.ended ≡ true → TriedCall place (scene w meta source written) None (used mid) (scene new meta source' written)
+  unfolding meaning_of
+  read-some new from source source' written from_is new_is some gave none_left ended =
+      let p = λ (c : ℕ). c == meta in
+      let here = world w.forms meta (ending source.bytes) in
+      let before : before_meta here ≡ text = ap (before_first p) gave ∙ before-none p text reads.no_meta in
+      let after : from_meta here ≡ [] = ap (λ t. drop (position_or_len p t) t) gave ∙ from-none p text reads.no_meta in
+      let fits = sound.fits in
+      let room = room-reads meta w mid text reads in
+      tried-quiet w new place (Some ReadString) meta meta source source' written (used mid) text false w.forms call.names
+      (record {
+        means = ap (λ t. read_string t (from_meta here) here) before ∙ ap (λ t. read_string text t here) after ∙ all text some here ∙ ap (λ t. valued text (with_input t here)) (sym none_left);
+        stands = delivered-value w mid new place from text false w.forms call.innermost reads.pushed from_is new_is;
+        needs = used-reads meta w mid text reads ∙ ap (λ t. used w + length t) (sym before);
+        fits = omega arith;
+        stays_ended = λ e. ended;
+        read_all = λ e. ended;
+      })
+    where
+      all : (text : Text) → 0 < length text → (here : World) → read_all false text here ≡ valued text (with_input [] here)
+      all [] some here = absurd (omega arith)
+      all (c ∷ text) some here = refl
+
+  -- the source ended at once
+  pub read-none : (source source' : Stream) (written : Text) → length text ≡ 0 → source.bytes ≡ text → source'.bytes ≡ [] → TriedCall place (scene w meta source written) (Some InputEnded) (used mid) (scene mid meta source' written)
+  unfolding meaning_of
+  read-none source source' written none gave none_left = λ old p m room_is memory_is allowed.
+      let here = world w.forms meta (ending source.bytes) in
+      let text_is : text ≡ [] = nothing text none in
+      let bytes_is : source.bytes ≡ [] = gave ∙ text_is in
+      let fits = sound.fits in
+      let room = room-reads meta w mid text reads in
+      tried-end InputEnded w mid place (Some ReadString) meta source source' written (used mid) call.names
+      (ap (λ bytes. meaning_of ReadString (arguments_at w.neutral place) (world w.forms meta (ending bytes))) bytes_is)
+      (used-reads meta w mid text reads ∙ ap (λ n. used w + n) (none ∙ sym (ap (λ bytes. length (before_first (λ c. c == meta) bytes)) bytes_is)))
+      (omega arith) (none_left ∙ sym bytes_is) old p m room_is memory_is allowed _ refl refl
+    where
+      nothing : (text : Text) → length text ≡ 0 → text ≡ []
+      nothing [] e = refl
+      nothing (c ∷ text) e = absurd (omega arith)
+
+  -- the source failed
+  pub read-failed : (source source' : Stream) (written : Text) → source.bytes ≡ text ++ source'.bytes → source.ended ≡ false → TriedCall place (scene w meta source written) (Some InputFailed) (used mid) (scene mid meta source' written)
+  unfolding meaning_of
+  read-failed source source' written gave open_still =
+      let p = λ (c : ℕ). c == meta in
+      let here = world w.forms meta (failing text) in
+      let before : before_meta here ≡ text = before-none p text reads.no_meta in
+      let after : from_meta here ≡ [] = from-none p text reads.no_meta in
+      let fits = sound.fits in
+      let room = room-reads meta w mid text reads in
+      tried-failed w mid place (Some ReadString) meta source source' written text (used mid) call.names
+      (ap (λ t. read_string t (from_meta here) here) before ∙ ap (λ t. read_string text t here) after)
+      (used-reads meta w mid text reads ∙ ap (λ t. used w + length t) (sym before))
+      (omega arith) gave open_still
+
+  -- no cell was free for the next byte
+  pub read-full : (source source' : Stream) (written : Text) (next needed : ℕ) → mid.room ≤ used mid → source.bytes ≡ text ++ next ∷ source'.bytes → has_meta meta (next ∷ []) ≡ false → TriedCall place (scene w meta source written) (Some Workspace) needed (scene mid meta source' written)
+  read-full source source' written next needed full gave differs =
+      let p = λ (c : ℕ). c == meta in
+      let here = world w.forms meta (ending source.bytes) in
+      let more = position-past p text next source'.bytes reads.no_meta (alone next differs) in
+      let long : length (before_meta here) ≡ position_or_len p (text ++ next ∷ source'.bytes) = ap (λ t. length (before_first p t)) gave ∙ length-before p (text ++ next ∷ source'.bytes) in
+      let room = room-reads meta w mid text reads in
+      let cells = used-reads meta w mid text reads in
+      tried-full w mid place (Some ReadString) meta source source' written needed call.names (omega arith)
+    where
+      alone : (c : ℕ) → has_meta meta (c ∷ []) ≡ false → (c == meta) ≡ false
+      alone c h = go (c == meta) h
+        where
+          go : (b : Bool) → (b || false) ≡ false → b ≡ false
+          go true e = e
+          go false e = refl
+
+-- what a call of rs took from the source
+pub reads-take : (meta : ℕ) (w mid : Contents) (text last : Text) (source source' : Stream) → Reads meta w mid text → IsSound mid → length last ≤ 1 → source.bytes ≡ text ++ (last ++ source'.bytes) → TakesFrom w source source' (text ++ last)
+reads-take meta w mid text last source source' reads sound short gave =
+    let fits = sound.fits in
+    let room = room-reads meta w mid text reads in
+    let cells = used-reads meta w mid text reads in
+    record { consumed = gave ∙ sym (append_assoc text last source'.bytes); few = omega (arith, length-append text last) }
+
+-- ---- rc
+
+module _ (w : Contents) (place meta : ℕ) (call : IsCall w place (Some ReadCharacter)) where
+  pub character-read : (mid new : Contents) (from byte : ℕ) (source source' : Stream) (written : Text) → IsSound mid → mid ≡ record w { neutral = w.neutral ++ Byte byte ∷ [] } → from ≡ length w.neutral → new ≡ delivered (mode_at mid.neutral place) false (text_of_cells (drop from mid.neutral)) place (record mid { neutral = take from mid.neutral }) → source.bytes ≡ byte ∷ source'.bytes → source.ended ≡ false → TriedCall place (scene w meta source written) None (used mid) (scene new meta source' written)
+  unfolding meaning_of
+  character-read mid new from byte source source' written sound pushed from_is new_is gave open_still =
+      let args = arguments_at w.neutral place in
+      let means = ap (λ bytes. meaning_of ReadCharacter args (world w.forms meta (ending bytes))) gave in
+      let long = length-append w.neutral (Byte byte ∷ []) in
+      let fits = sound.fits in
+      let room = ap (λ (w : Contents). w.room) pushed in
+      let cells : used mid ≡ used w + 1 = ap used pushed ∙ omega arith in
+      tried-quiet w new place (Some ReadCharacter) meta meta source source' written (used mid) (byte ∷ []) false w.forms call.names
+      (record {
+        means = means;
+        stands = delivered-value w mid new place from (byte ∷ []) false w.forms call.innermost pushed from_is new_is;
+        needs = cells ∙ ap (λ bytes. used w + built (Some ReadCharacter) args (world w.forms meta (ending bytes))) (sym gave);
+        fits = omega arith;
+        stays_ended = λ e. absurd cc;
+        read_all = λ e. absurd cc;
+      })
+
+  pub character-full : (new : Contents) (byte needed : ℕ) (source source' : Stream) (written : Text) → w.room ≤ used w → source.bytes ≡ byte ∷ source'.bytes → TriedCall place (scene w meta source written) (Some Workspace) needed (scene new meta source' written)
+  unfolding meaning_of
+  character-full new byte needed source source' written full gave =
+      let args = arguments_at w.neutral place in
+      let one : built (Some ReadCharacter) args (world w.forms meta (ending source.bytes)) ≡ 1 = ap (λ bytes. built (Some ReadCharacter) args (world w.forms meta (ending bytes))) gave in
+      tried-full w new place (Some ReadCharacter) meta source source' written needed call.names (omega arith)
+
+  pub character-ended : (source source' : Stream) (written : Text) → source.bytes ≡ [] → source'.bytes ≡ [] → TriedCall place (scene w meta source written) (Some InputEnded) (used w) (scene w meta source' written)
+  unfolding meaning_of
+  character-ended source source' written none none_left = λ old p m room_is memory_is allowed.
+      let args = arguments_at w.neutral place in
+      let fits = call.sound.fits in
+      let zero_built : built (Some ReadCharacter) args (world w.forms meta (ending source.bytes)) ≡ 0 = ap (λ bytes. built (Some ReadCharacter) args (world w.forms meta (ending bytes))) none in
+      tried-end InputEnded w w place (Some ReadCharacter) meta source source' written (used w) call.names
+      (ap (λ bytes. meaning_of ReadCharacter args (world w.forms meta (ending bytes))) none)
+      (omega arith) (omega arith) (none_left ∙ sym none) old p m room_is memory_is allowed _ refl refl
+
+  pub character-failed : (source source' : Stream) (written : Text) → source'.bytes ≡ source.bytes → source.ended ≡ false → TriedCall place (scene w meta source written) (Some InputFailed) (used w) (scene w meta source' written)
+  unfolding meaning_of
+  character-failed source source' written same open_still =
+      let fits = call.sound.fits in
+      tried-failed w w place (Some ReadCharacter) meta source source' written [] (used w) call.names refl (omega arith) (omega arith) (sym same) open_still

@@ -1,0 +1,237 @@
+//! Calls: one is performed when its right parenthesis is scanned.
+ghost use Rattle.std.specs.Prelude.{◌≡◌, ◌≢◌, ℕ, ◌+◌, ◌-◌, ◌<◌, ◌≤◌, ◌^◌, List, [], ◌∷◌, ◌++◌, length, take, drop, None, Some, slice_get, All, true, false, ◌||◌};
+ghost use Rattle.trac_space.specs.Calls.{IsLastCall};
+ghost use Rattle.trac_forms.specs.Text.{Text};
+ghost use Rattle.trac_forms.specs.FlatForms.{text_of_cells};
+ghost use Rattle.trac_forms.specs.Contents.{IsByte, IsSound, used};
+ghost use Rattle.trac_core.specs.Devices.{Stream};
+ghost use Rattle.trac_core.specs.Flat.{memory_of, mode_of, mode_at, is_active_mode, arguments_at};
+ghost use Rattle.trac_core.specs.Function.{is_plain};
+ghost use Rattle.trac_core.specs.Performed.{performs, reads_input, prints_output};
+ghost use Rattle.trac_core.specs.Calls.{AreArguments, texts, Makes};
+ghost use Rattle.trac_core.specs.Machine.{input_failures, output_failures};
+ghost use Rattle.trac_core.specs.Attempts.{scene, Tried, TriedCall, IsCall, function_at, delivered, TakesFrom, TakesAtMost};
+
+use crate::arguments::{Arguments, Made, text};
+use crate::comparing;
+use crate::device::{Sink, Source};
+use crate::function::{Function, function_named};
+use crate::input_output::{change_meta, halt, print_string, read_character, read_string};
+use crate::machine::Fate;
+use crate::scan::{Attempt, is_at, scan};
+use trac_forms::{Cell, Mode, Work};
+
+/// One step, by the rule that fits the beginning of the active string.
+pub(crate) fn advance<I: Source, O: Sink>(
+    work: &mut Work,
+    meta: &mut u8,
+    source: &mut I,
+    sink: &mut O,
+) -> Attempt
+    requires source_counts { I.failure_count source.old < 2 ^ 64 - 1 }
+    requires sink_counts { O.failure_count sink.old < 2 ^ 64 - 1 }
+    requires sound { IsSound work.old }
+    ensures tried { I.tells source.old → O.tells sink.old →
+        Tried (scene work.old meta.old (I.stream source.old) (O.written sink.old)) result.fate result.need
+        (scene work.new meta.new (I.stream source.new) (O.written sink.new)) }
+    ensures input_failed { I.failure_count source.new ≡ I.failure_count source.old + input_failures None result.fate }
+    ensures output_failed { O.failure_count sink.new ≡ O.failure_count sink.old + output_failures None result.fate }
+    ensures unread { reads_input (performs (memory_of meta.old work.old)) ≡ false → source.new ≡ source.old }
+    ensures unprinted { prints_output (performs (memory_of meta.old work.old)) ≡ false → sink.new ≡ sink.old }
+    ensures takes { I.tells source.old → (taken : Text) × TakesAtMost work.old (I.stream source.old) (I.stream source.new) taken }
+    ensures told_source { I.tells source.old → I.tells source.new }
+    ensures told_sink { O.tells sink.old → O.tells sink.new }
+    ensures fits { result.need ≤ work.old.room }
+    ensures room { work.new.room ≡ work.old.room }
+    ensures sound { IsSound work.new }
+{
+    if is_at(work, 0, b')') {
+        if let Some(place) = work.last_call() {
+            return close(work, place, meta, source, sink);
+        }
+    }
+    scan(work)
+}
+
+/// The right parenthesis is deleted, and the innermost call, whose mark stands at the place, is performed.
+fn close<I: Source, O: Sink>(
+    work: &mut Work,
+    place: u32,
+    meta: &mut u8,
+    source: &mut I,
+    sink: &mut O,
+) -> Attempt
+    requires closes { slice_get (text_of_cells work.old.active) 0 ≡ Some 41 }
+    requires innermost { IsLastCall work.old.neutral place }
+    requires source_counts { I.failure_count source.old < 2 ^ 64 - 1 }
+    requires sink_counts { O.failure_count sink.old < 2 ^ 64 - 1 }
+    requires sound { IsSound work.old }
+    ensures tried { I.tells source.old → O.tells sink.old →
+        Tried (scene work.old meta.old (I.stream source.old) (O.written sink.old)) result.fate result.need
+        (scene work.new meta.new (I.stream source.new) (O.written sink.new)) }
+    ensures input_failed { I.failure_count source.new ≡ I.failure_count source.old + input_failures None result.fate }
+    ensures output_failed { O.failure_count sink.new ≡ O.failure_count sink.old + output_failures None result.fate }
+    ensures unread { reads_input (performs (memory_of meta.old work.old)) ≡ false → source.new ≡ source.old }
+    ensures unprinted { prints_output (performs (memory_of meta.old work.old)) ≡ false → sink.new ≡ sink.old }
+    ensures takes { I.tells source.old → (taken : Text) × TakesAtMost work.old (I.stream source.old) (I.stream source.new) taken }
+    ensures told_source { I.tells source.old → I.tells source.new }
+    ensures told_sink { O.tells sink.old → O.tells sink.new }
+    ensures fits { result.need ≤ work.old.room }
+    ensures room { work.new.room ≡ work.old.room }
+    ensures sound { IsSound work.new }
+{
+    work.drop_active(1);
+    perform(work, place, meta, source, sink)
+}
+
+/// The innermost call, whose mark stands at the place and whose right parenthesis was deleted, is performed.
+fn perform<I: Source, O: Sink>(
+    work: &mut Work,
+    place: u32,
+    meta: &mut u8,
+    source: &mut I,
+    sink: &mut O,
+) -> Attempt
+    requires innermost { IsLastCall work.old.neutral place }
+    requires source_counts { I.failure_count source.old < 2 ^ 64 - 1 }
+    requires sink_counts { O.failure_count sink.old < 2 ^ 64 - 1 }
+    requires sound { IsSound work.old }
+    ensures tried { I.tells source.old → O.tells sink.old →
+        TriedCall place (scene work.old meta.old (I.stream source.old) (O.written sink.old)) result.fate result.need
+        (scene work.new meta.new (I.stream source.new) (O.written sink.new)) }
+    ensures input_failed { I.failure_count source.new ≡ I.failure_count source.old + input_failures None result.fate }
+    ensures output_failed { O.failure_count sink.new ≡ O.failure_count sink.old + output_failures None result.fate }
+    ensures unread { reads_input (function_at work.old.neutral place) ≡ false → source.new ≡ source.old }
+    ensures unprinted { prints_output (function_at work.old.neutral place) ≡ false → sink.new ≡ sink.old }
+    ensures takes { I.tells source.old → (taken : Text) × TakesFrom work.old (I.stream source.old) (I.stream source.new) taken }
+    ensures told_source { I.tells source.old → I.tells source.new }
+    ensures told_sink { O.tells sink.old → O.tells sink.new }
+    ensures fits { result.need ≤ work.old.room }
+    ensures room { work.new.room ≡ work.old.room }
+    ensures sound { IsSound work.new }
+{
+    let mut arguments = Arguments {
+        from: place + 1,
+        end: work.neutral_len(),
+    };
+    let name = arguments.next(work);
+    match function_named(text(work, name)) {
+        None => skip(work, place),
+        Some(function) => match function {
+            Function::ReadString => read_string(work, place, *meta, source),
+            Function::ReadCharacter => read_character(work, place, source),
+            Function::PrintString => print_string(work, place, arguments, sink),
+            Function::ChangeMeta => change_meta(work, place, arguments, meta),
+            Function::Halt => halt(work, place),
+            _ => evaluate(work, place, function, arguments),
+        },
+    }
+}
+
+/// A call of a name that is no function has a null value (this processor's own choice).
+fn skip(work: &mut Work, place: u32) -> Attempt
+    requires { IsCall work.old place None }
+    ensures tried { (meta : ℕ) (source : Stream) (written : Text) →
+        TriedCall place (scene work.old meta source written) result.fate result.need (scene work.new meta source written) }
+    ensures fate { result.fate ≡ None }
+    ensures fits { result.need ≤ work.old.room }
+    ensures room { work.new.room ≡ work.old.room }
+    ensures sound { IsSound work.new }
+{
+    let need = work.used();
+    work.cut_neutral(place);
+    Attempt { fate: None, need }
+}
+
+/// A call of a function that neither reads nor prints, nor changes the meta character, nor ends the run.
+fn evaluate(work: &mut Work, place: u32, function: Function, arguments: Arguments) -> Attempt
+    requires call { IsCall work.old place (Some function) }
+    requires plain { is_plain function ≡ true }
+    requires arguments { AreArguments work.old arguments }
+    requires rest { texts work.old arguments ≡ drop 1 (arguments_at work.old.neutral place) }
+    ensures tried { (meta : ℕ) (source : Stream) (written : Text) →
+        TriedCall place (scene work.old meta source written) result.fate result.need (scene work.new meta source written) }
+    ensures fate { (result.fate ≢ Some Fate.InputFailed) × (result.fate ≢ Some Fate.OutputFailed) }
+    ensures fits { result.need ≤ work.old.room }
+    ensures room { work.new.room ≡ work.old.room }
+    ensures sound { IsSound work.new }
+{
+    let before = work.used();
+    let end = work.neutral_len();
+    match value_of(work, function, arguments) {
+        Made::Full => Attempt {
+            fate: Some(Fate::Workspace),
+            need: 0,
+        },
+        Made::Defined(cells) => {
+            work.cut_neutral(place);
+            Attempt {
+                fate: None,
+                need: before + cells,
+            }
+        }
+        Made::Value => {
+            let need = before + (work.neutral_len() - end);
+            deliver(work, place, end, false);
+            Attempt { fate: None, need }
+        }
+        Made::Forced => {
+            let need = before + (work.neutral_len() - end);
+            deliver(work, place, end, true);
+            Attempt { fate: None, need }
+        }
+    }
+}
+
+/// What the function makes of the arguments that follow its name.
+fn value_of(work: &mut Work, function: Function, arguments: Arguments) -> Made
+    requires plain { is_plain function ≡ true }
+    requires arguments { AreArguments work.old arguments }
+    ensures makes { (name : Text) → Makes function (name ∷ texts work.old arguments) work.old result work.new }
+    ensures room { work.new.room ≡ work.old.room }
+    ensures sound { IsSound work.new }
+{
+    match function {
+        Function::Equal => comparing::equal(work, arguments),
+        _ => unreachable!(),
+    }
+}
+
+/// The call whose mark stands at the place leaves, and its value, which stands from another place on, goes before the
+/// active string or stays.
+pub(crate) fn deliver(work: &mut Work, place: u32, from: u32, forced: bool)
+    requires order { place < from }
+    requires within { from ≤ length work.old.neutral }
+    requires value { All IsByte (drop from work.old.neutral) }
+    ensures delivered { work.new ≡ delivered (mode_at work.old.neutral place) forced (text_of_cells (drop from work.old.neutral)) place
+        (record work.old { neutral = take from work.old.neutral }) }
+    ensures sound { IsSound work.new }
+{
+    if is_scanned_again(work, place, forced) {
+        work.neutral_to_active(from);
+        work.cut_neutral(place);
+    } else {
+        work.drop_neutral(place, from);
+    }
+}
+
+/// Whether the value of the call whose mark stands at the place goes before the active string.
+fn is_scanned_again(work: &Work, place: u32, forced: bool) -> bool
+    ensures { result ≡ (forced || is_active_mode (mode_at work.now.neutral place)) }
+{
+    match work.neutral_at(place) {
+        Some(mark) => forced || is_active(mark),
+        None => true,
+    }
+}
+
+/// Whether the value of a call with this mark is scanned again.
+fn is_active(mark: Cell) -> bool
+    ensures { result ≡ is_active_mode (mode_of mark) }
+{
+    match mark {
+        Cell::Call(Mode::Active, _) => true,
+        Cell::Call(Mode::Neutral, _) => false,
+        _ => true,
+    }
+}
