@@ -26,3 +26,4 @@ pub mod Scanning
 pub mod Matching
 pub mod Performing
 pub mod Reading
+pub mod Printing

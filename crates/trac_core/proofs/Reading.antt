@@ -1,15 +1,17 @@
 -- The calls that read.
-use Rattle.std.proofs.Common.{◌≡◌, ◌≢◌, ℕ, suc, ◌+◌, ◌-◌, ◌<◌, ◌≤◌, Bool, true, false, not, ◌&&◌, ◌||◌, List, [], ◌∷◌, ◌++◌, length, take, drop, Option, Some, None, refl, sym, ap, ◌∙◌, subst, arith, append_assoc, append-nil, length-append, eqb}
+use Rattle.std.proofs.Common.{◌≡◌, ◌≢◌, ℕ, suc, ◌+◌, ◌-◌, ◌<◌, ◌≤◌, Bool, true, false, not, ◌&&◌, ◌||◌, List, [], ◌∷◌, ◌++◌, length, take, drop, Option, Some, None, refl, sym, ap, ◌∙◌, subst, arith, append_assoc, append-nil, length-append, eqb, All, ⊎_elim}
 use Rattle.std.specs.Prelude.{◌==◌}
 use Rattle.std.specs.List.{before_first, position_or_len, list_any}
 use Rattle.std.proofs.Common.{eq-eqb}
 use Rattle.std.proofs.lemmas.List.{length-map}
+use Rattle.std.proofs.lemmas.Bool.{cases_lt}
+use Rattle.std.proofs.Math.Seq.{drop-append_seam}
 use Rattle.trac_space.specs.declared.cell.Cell.{Cell}
 use Rattle.trac_space.specs.declared.cell.Cell.TheVariants.{Byte}
 use Rattle.trac_space.specs.Calls.{IsLastCall}
 use Rattle.trac_forms.specs.Text.{Text}
 use Rattle.trac_forms.specs.FlatForms.{flat_text, text_of_cells}
-use Rattle.trac_forms.specs.Contents.{Contents, used, IsSound}
+use Rattle.trac_forms.specs.Contents.{Contents, used, IsByte, IsSound}
 use Rattle.trac_core.specs.declared.function.Function.{Function}
 use Rattle.trac_core.specs.declared.function.Function.TheVariants.{ReadString, ReadCharacter}
 use Rattle.trac_core.specs.declared.machine.Fate.TheVariants.{InputEnded, Workspace, InputFailed}
@@ -23,6 +25,7 @@ use Rattle.trac_core.specs.Flat.{mode_at, arguments_at}
 use Rattle.trac_core.specs.Calls.{world}
 use Rattle.trac_core.specs.Machine.{ending, failing}
 use Rattle.trac_core.specs.Attempts.{scene, TriedCall, IsCall, delivered, TakesFrom}
+use Rattle.trac_core.proofs.ArgumentLemmas.{bytes-flat}
 use Rattle.trac_core.proofs.MetaLemmas.{position-past, before-none, from-none, before-at, from-at, length-before, any-at}
 use Rattle.trac_core.proofs.Performing.{tried-quiet, tried-full, tried-end, tried-failed, delivered-value}
 
@@ -193,3 +196,13 @@ module _ (w : Contents) (place meta : ℕ) (call : IsCall w place (Some ReadChar
   character-failed source source' written same open_still =
       let fits = call.sound.fits in
       tried-failed w w place (Some ReadCharacter) meta source source' written [] (used w) call.names refl (omega arith) (omega arith) (sym same) open_still
+
+pub not-less : (a b : ℕ) → (a < b → false ≡ true) → b ≤ a
+not-less a b h = ⊎_elim (λ lt. absurd (let e = h lt in cc)) (λ le. le) (cases_lt a b)
+
+-- what was read are characters
+pub reads-bytes : (meta : ℕ) (w mid : Contents) (text : Text) (from : ℕ) → Reads meta w mid text → from ≡ length w.neutral → All IsByte (drop from mid.neutral)
+reads-bytes meta w mid text from reads from_is =
+    subst (All IsByte)
+    (sym (drop-append_seam w.neutral (flat_text text)) ∙ ap (λ k. drop k (w.neutral ++ flat_text text)) (sym from_is) ∙ sym (ap (λ (w : Contents). drop from w.neutral) reads.pushed))
+    (bytes-flat text)

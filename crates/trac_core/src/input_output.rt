@@ -1,5 +1,5 @@
 //! The functions that read, print, change the meta character and stop: `rs`, `rc`, `ps`, `cm`, `hl`.
-ghost use Rattle.std.specs.Prelude.{◌≡◌, ◌≢◌, ℕ, ◌+◌, ◌-◌, ◌<◌, ◌≤◌, ◌^◌, None, Some, take, drop, length, All, false};
+ghost use Rattle.std.specs.Prelude.{◌≡◌, ◌≢◌, ℕ, ◌+◌, ◌-◌, ◌<◌, ◌≤◌, ◌^◌, None, Some, take, drop, length, All, false, slice_get};
 ghost use Rattle.trac_forms.specs.Text.{Text};
 ghost use Rattle.trac_forms.specs.FlatForms.{text_of_cells};
 ghost use Rattle.trac_forms.specs.Contents.{IsByte, IsSound, used};
@@ -156,8 +156,8 @@ pub(crate) fn change_meta(work: &mut Work, place: u32, mut arguments: Arguments,
 {
     let need = work.used();
     let part = arguments.next(work);
-    if let Some(first) = text(work, part).first() {
-        *meta = character_of(first);
+    if let Some(first) = first_character(text(work, part)) {
+        *meta = first;
     }
     work.cut_neutral(place);
     Attempt { fate: None, need }
@@ -173,4 +173,14 @@ pub(crate) fn halt(work: &Work, place: u32) -> Attempt
     ensures sound { IsSound work.now }
 {
     stop(work, Fate::Halted)
+}
+
+/// The first character of a text.
+fn first_character(text: &[Cell]) -> Option<u8>
+    ensures { result ≡ slice_get (text_of_cells text.now) 0 }
+{
+    match text {
+        [first, ..] => Some(character_of(first)),
+        [] => None,
+    }
 }

@@ -1,0 +1,70 @@
+-- The calls that print, change the meta character and stop.
+use Rattle.std.proofs.Common.{◌≡◌, ◌≢◌, ℕ, ◌+◌, ◌≤◌, false, List, [], ◌∷◌, ◌++◌, length, drop, Option, Some, None, refl, sym, ap, ◌∙◌, arith, slice_get}
+use Rattle.std.proofs.lemmas.List.{get_or-drop}
+use Rattle.trac_forms.specs.Text.{Text}
+use Rattle.trac_forms.specs.Contents.{Contents, used}
+use Rattle.trac_core.specs.declared.function.Function.TheVariants.{PrintString, ChangeMeta, Halt}
+use Rattle.trac_core.specs.declared.machine.Fate.TheVariants.{Halted, OutputFailed}
+use Rattle.trac_core.specs.Devices.{Stream}
+use Rattle.trac_core.specs.State.{argument}
+use Rattle.trac_core.specs.Meaning.{World, change_meta, silent, meaning_of, value_length, built}
+use Rattle.trac_core.specs.Flat.{mode_at, arguments_at}
+use Rattle.trac_core.specs.Calls.{world}
+use Rattle.trac_core.specs.Machine.{ending}
+use Rattle.trac_core.specs.Attempts.{scene, TriedCall, IsCall}
+use Rattle.trac_core.proofs.Performing.{closed, delivered-null, tried-answer, tried-quiet, tried-end, tried-broken}
+
+-- the first argument after the name
+pub argument-one : (args rest : List Text) → rest ≡ drop 1 args → argument rest 0 ≡ argument args 1
+argument-one args rest e = ap (λ l. argument l 0) e ∙ get_or-drop 1 args 0 []
+
+pub some-same : {a b : ℕ} → Some a ≡ Some b → a ≡ b
+some-same e = cc
+
+module _ (w : Contents) (place needed : ℕ) where
+  pub tried-print : (new : Contents) → IsCall w place (Some PrintString) → new ≡ closed w place → needed ≡ used w → (meta : ℕ) (source : Stream) (written : Text) → TriedCall place (scene w meta source written) None needed (scene new meta source (written ++ argument (arguments_at w.neutral place) 1))
+  unfolding meaning_of
+  tried-print new call new_is needs meta source written =
+      let fits = call.sound.fits in
+      tried-answer w new place (Some PrintString) meta meta source source written (argument (arguments_at w.neutral place) 1) needed [] false w.forms call.names
+      (record {
+        means = refl;
+        stands = new_is ∙ sym (delivered-null (mode_at w.neutral place) place w);
+        needs = omega arith;
+        fits = omega arith;
+        stays_ended = λ e. e;
+        read_all = λ e. absurd cc;
+      })
+
+  pub tried-print-broken : IsCall w place (Some PrintString) → needed ≡ used w → (meta : ℕ) (source : Stream) (written put rest : Text) → argument (arguments_at w.neutral place) 1 ≡ put ++ rest → put ++ rest ≢ [] → TriedCall place (scene w meta source written) (Some OutputFailed) needed (scene w meta source (written ++ put))
+  unfolding meaning_of
+  tried-print-broken call needs meta source written put rest parts some =
+      let fits = call.sound.fits in
+      tried-broken w w place (Some PrintString) meta source written put rest needed _ call.names refl parts some (omega arith) (omega arith)
+
+  pub tried-halt : IsCall w place (Some Halt) → needed ≡ used w → (meta : ℕ) (source : Stream) (written : Text) → TriedCall place (scene w meta source written) (Some Halted) needed (scene w meta source written)
+  unfolding meaning_of
+  tried-halt call needs meta source written = λ old p m room_is memory_is allowed.
+      let fits = call.sound.fits in
+      tried-end Halted w w place (Some Halt) meta source source written needed call.names refl (omega arith) (omega arith) refl old p m room_is memory_is allowed _ refl refl
+
+  -- the meta character after a text was given
+  first-meta : (meta meta' : ℕ) (text : Text) → ((c : ℕ) → slice_get text 0 ≡ Some c → meta' ≡ c) → (slice_get text 0 ≡ None → meta' ≡ meta) → (world' : World) → change_meta text (record world' { meta = meta }) ≡ silent (record world' { meta = meta' })
+  first-meta meta meta' [] some none world' = ap (λ m. silent (record world' { meta = m })) (sym (none refl))
+  first-meta meta meta' (c ∷ text) some none world' = ap (λ m. silent (record world' { meta = m })) (sym (some c refl))
+
+  pub tried-meta : (new : Contents) (meta meta' : ℕ) → IsCall w place (Some ChangeMeta) → new ≡ closed w place → needed ≡ used w → ((c : ℕ) → slice_get (argument (arguments_at w.neutral place) 1) 0 ≡ Some c → meta' ≡ c) → (slice_get (argument (arguments_at w.neutral place) 1) 0 ≡ None → meta' ≡ meta) → (source : Stream) (written : Text) → TriedCall place (scene w meta source written) None needed (scene new meta' source written)
+  unfolding meaning_of
+  tried-meta new meta meta' call new_is needs some none source written =
+      let fits = call.sound.fits in
+      let args = arguments_at w.neutral place in
+      let means = first-meta meta meta' (argument args 1) some none (world w.forms meta (ending source.bytes)) in
+      tried-quiet w new place (Some ChangeMeta) meta meta' source source written needed [] false w.forms call.names
+      (record {
+        means = means;
+        stands = new_is ∙ sym (delivered-null (mode_at w.neutral place) place w);
+        needs = let none_built = ap value_length means in omega arith;
+        fits = omega arith;
+        stays_ended = λ e. e;
+        read_all = λ e. absurd cc;
+      })
