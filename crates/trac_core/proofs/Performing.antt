@@ -1,17 +1,17 @@
 -- A call that is performed, over the contents of a workspace.
 use Rattle.std.proofs.Common.{◌≡◌, ◌≢◌, ℕ, suc, ◌+◌, ◌-◌, ◌<◌, ◌≤◌, max, Bool, true, false, not, ◌&&◌, ◌||◌, List, [], ◌∷◌, ◌++◌, length, take, drop, All, Option, Some, None, refl, sym, ap, ◌∙◌, subst, arith, append_assoc, append-nil, length-append}
-use Rattle.std.specs.Prelude.{◌==◌, slice_get, unwrap_or}
+use Rattle.std.specs.Prelude.{◌==◌, slice_get, unwrap_or, nat_le}
 use Rattle.std.proofs.lemmas.Option.{unwrap_or-slice_get}
 use Rattle.std.specs.List.{before_first, position_or_len, list_any}
-use Rattle.std.proofs.lemmas.List.{length-map, get_or_append_left}
-use Rattle.std.proofs.Math.Seq.{drop-append_seam, take-append_seam}
+use Rattle.std.proofs.lemmas.List.{length-map, length-drop, get_or_append_left}
+use Rattle.std.proofs.Math.Seq.{drop-append_seam, take-append_seam, take-length}
 use Rattle.trac_space.specs.declared.cell.Cell.{Cell}
-use Rattle.trac_space.specs.declared.cell.Cell.TheVariants.{Byte}
+use Rattle.trac_space.specs.declared.cell.Cell.TheVariants.{Byte, Call, Comma, Gap, Head}
 use Rattle.trac_space.specs.declared.cell.Mode.{Mode}
 use Rattle.trac_space.specs.declared.cell.Mode.TheVariants.{Active, Neutral as NeutralMode}
 use Rattle.trac_forms.specs.Text.{Text}
 use Rattle.trac_forms.specs.Form.{Form}
-use Rattle.trac_forms.specs.FlatForms.{flat_text, text_of_cells}
+use Rattle.trac_forms.specs.FlatForms.{flat_text, text_of_cells, character_of}
 use Rattle.trac_space.specs.Calls.{IsLastCall}
 use Rattle.trac_forms.specs.Contents.{Contents, used, IsByte, IsSound}
 use Rattle.trac_core.specs.declared.function.Function.{Function}
@@ -25,11 +25,11 @@ use Rattle.trac_core.specs.Meaning.{World, Answer, Meaning, Gives, Ends, meaning
 use Rattle.trac_core.specs.Rule.{EndCall, rule}
 use Rattle.trac_core.specs.Step.{Outcome, Next, Over, function_of, world_of, deliver, perform, end_call, with_active, follow, end_need, need_by, step, need, reads_last, end_reads_last, reads_last_by, reads_to_end}
 use Rattle.trac_core.specs.Performed.{performed_by, performs}
-use Rattle.trac_core.specs.Flat.{Neutral, no_neutral, with_cells, neutral_of, memory_with, memory_of, mode_of, mode_at, is_active_mode, arguments_at}
+use Rattle.trac_core.specs.Flat.{texts_of, Neutral, no_neutral, with_cells, neutral_of, memory_with, memory_of, mode_of, mode_at, is_active_mode, arguments_at}
 use Rattle.trac_core.specs.declared.arguments.Made.TheVariants.{Full}
-use Rattle.trac_core.specs.Calls.{world, IsValue, IsDefined, Makes}
+use Rattle.trac_core.specs.Calls.{texts_from, world, IsValue, IsDefined, Makes}
 use Rattle.trac_core.specs.Machine.{MachineState, Moment, moment, ending, failing, state_with, state_of, failing_state_of, MayStep, EndsRun}
-use Rattle.trac_core.specs.Attempts.{scene, Tried, TriedCall, Performs, delivered}
+use Rattle.trac_core.specs.Attempts.{scene, Tried, TriedCall, Performs, Scanned, function_at, delivered}
 use Rattle.trac_core.proofs.FlatLemmas.{with_cells-append, with_cells-text, text_of-flat, text_of_cells-append, neutral_of-innermost, call_at, opened, texts_of-some, grown-mode, arguments-call_at, size-used}
 use Rattle.trac_core.proofs.Rules.{rule_end}
 use Rattle.trac_core.proofs.ArgumentLemmas.{bytes-flat}
@@ -357,3 +357,75 @@ value-bytes f args w mid forced value end is end_is =
 
 pub defined-within : (f : Function) (args : List Text) (w mid : Contents) (cells : ℕ) → IsDefined f args w mid cells → length mid.neutral ≡ length w.neutral
 defined-within f args w mid cells is = ap (λ (w : Contents). length w.neutral) is.stands
+
+-- ---- the parenthesis
+
+byte-first : (cell : Cell) (c : ℕ) → IsByte cell → character_of cell ≡ c → cell ≡ Byte c
+byte-first (Byte b) c h e = ap Byte e
+byte-first (Call mode k) c h e = absurd h
+byte-first Comma c h e = absurd h
+byte-first (Gap k) c h e = absurd h
+byte-first (Head k) c h e = absurd h
+
+first-byte : (cells : List Cell) (c : ℕ) → All IsByte cells → slice_get (text_of_cells cells) 0 ≡ Some c → cells ≡ Byte c ∷ drop 1 cells
+first-byte [] c h e = absurd cc
+first-byte (cell ∷ cells) c h e = let same : character_of cell ≡ c = cc in ap (λ x. x ∷ cells) (byte-first cell c (h 0 (Byte 0) (omega arith)) same)
+
+-- a right parenthesis that begins the active string performs the innermost call
+pub performs-closed : (old w : Contents) (place : ℕ) → IsSound old → slice_get (text_of_cells old.active) 0 ≡ Some 41 → IsLastCall old.neutral place → w ≡ record old { active = drop 1 old.active } → Performs old w place
+performs-closed old w place sound first last w_is =
+    record {
+      same = ap (λ a. record old { active = a }) (first-byte old.active 41 sound.active first) ∙ sym (ap (λ (w : Contents). record w { active = Byte 41 ∷ w.active }) w_is);
+      innermost = subst (λ n. IsLastCall n place) (sym (ap (λ (w : Contents). w.neutral) w_is)) last;
+    }
+
+-- the function of the call is that which the step performs
+pub function-performs : (old w : Contents) (place meta : ℕ) → Performs old w place → performs (memory_of meta old) ≡ function_at w.neutral place
+function-performs old w place meta p = performs-call old w place p (function_at w.neutral place) refl meta
+
+-- all arguments of the innermost call
+pub texts-all : (neutral : List Cell) (place : ℕ) → place < length neutral → texts_from neutral (place + 1) (length neutral) ≡ arguments_at neutral place
+texts-all neutral place within =
+    let le : place + 1 ≤ length neutral = omega arith in
+    let yes_le : nat_le (place + 1) (length neutral) ≡ true = grind arith in
+    let long : length neutral - (place + 1) ≡ length (drop (place + 1) neutral) = sym (length-drop (place + 1) neutral) in
+    rw yes_le (ap texts_of (ap (λ n. take n (drop (place + 1) neutral)) long ∙ take-length (drop (place + 1) neutral)))
+
+-- the functions that have no arm of their own are plain
+pub plain-rest : (f : Function) → f ≢ ReadString → f ≢ ReadCharacter → f ≢ ChangeMeta → f ≢ PrintString → f ≢ PrintForm → f ≢ Halt → is_plain f ≡ true
+plain-rest ReadString a b c d e g = absurd (a refl)
+plain-rest ReadCharacter a b c d e g = absurd (b refl)
+plain-rest ChangeMeta a b c d e g = absurd (c refl)
+plain-rest PrintString a b c d e g = absurd (d refl)
+plain-rest PrintForm a b c d e g = absurd (e refl)
+plain-rest Halt a b c d e g = absurd (g refl)
+plain-rest _ a b c d e g = refl
+
+-- what a rule that performs no call says of a machine
+pub tried-scanned : (old new : Contents) (fate : Option Fate) (needed : ℕ) → Scanned fate needed old new → needed ≤ old.room → (meta : ℕ) (source : Stream) (written : Text) → Tried (scene old meta source written) fate needed (scene new meta source written)
+tried-scanned old new None needed scans fits meta source written = λ m room_is memory_is allowed.
+    let input = ending source.bytes in
+    let here : state_of (moment m source written) ≡ state_with (memory_of meta old) input written = ap (λ memory. state_with memory input written) memory_is in
+    let need_is = scans.needs meta input written in
+    record {
+      may = record { allowed = allowed; fits = rw here (omega arith) };
+      goes = ap step here ∙ scans.goes meta input written;
+      counts = record { steps = refl; peak = rw (here, need_is) refl };
+      stays_ended = λ e. e;
+      read_all = λ reads. absurd (let none = scans.reads meta input written in let some = sym (ap reads_to_end here) ∙ reads in cc);
+    }
+tried-scanned old new (Some Workspace) needed full fits meta source written = λ m room_is memory_is allowed.
+    let input = ending source.bytes in
+    let here : state_of (moment m source written) ≡ state_with (memory_of meta old) input written = ap (λ memory. state_with memory input written) memory_is in
+    let more = full meta input written in
+    record {
+      allowed = allowed;
+      full = rw here (omega arith);
+      counts = record { steps = omega arith; peak = omega arith };
+      written = refl;
+    }
+tried-scanned old new (Some Halted) needed scans fits meta source written = absurd scans
+tried-scanned old new (Some InputEnded) needed scans fits meta source written = absurd scans
+tried-scanned old new (Some Steps) needed scans fits meta source written = absurd scans
+tried-scanned old new (Some InputFailed) needed scans fits meta source written = absurd scans
+tried-scanned old new (Some OutputFailed) needed scans fits meta source written = absurd scans

@@ -21,7 +21,7 @@ use Rattle.trac_forms.specs.Contents.{Contents, used, IsByte, IsSound}
 use Rattle.trac_core.specs.Protected.{protected}
 use Rattle.trac_core.specs.State.{Memory, Input, State, OpenCall, size, add, begin_argument, begin_call}
 use Rattle.trac_core.specs.Rule.{Rule, LoadIdling, DeleteLayout, AddProtected, ClearActive, BeginArgument, BeginCall, EndCall, AddCharacter, parenthesis_rule, is_layout, rule}
-use Rattle.trac_core.specs.Step.{Outcome, Next, Over, idling, end_call, with_active, follow, end_need, need_by, step, need}
+use Rattle.trac_core.specs.Step.{Outcome, Next, Over, idling, end_call, with_active, follow, end_need, need_by, step, need, world_of, end_reads_last, reads_last_by, reads_to_end}
 use Rattle.trac_core.specs.Flat.{Neutral, with_cell, with_cells, neutral_of, memory_with, memory_of}
 use Rattle.trac_core.specs.Machine.{state_with}
 use Rattle.trac_core.specs.Attempts.{Scans, ClosesNone}
@@ -52,11 +52,12 @@ module _ (old new : Contents) where
   text = text_of_cells old.active
 
   -- a step by this rule
-  pub scans-by : (r : Rule) (needed : ℕ) → rule (text_of_cells old.active) ≡ r → ((meta : ℕ) (input : Input) (output : Text) → follow r (state_with (memory_of meta old) input output) ≡ Next (state_with (memory_of meta new) input output)) → ((meta : ℕ) (input : Input) (output : Text) → need_by r (state_with (memory_of meta old) input output) ≡ needed) → Scans old new needed
+  pub scans-by : (r : Rule) (needed : ℕ) → rule (text_of_cells old.active) ≡ r → ((meta : ℕ) (input : Input) (output : Text) → follow r (state_with (memory_of meta old) input output) ≡ Next (state_with (memory_of meta new) input output)) → ((meta : ℕ) (input : Input) (output : Text) → need_by r (state_with (memory_of meta old) input output) ≡ needed) → ((meta : ℕ) (input : Input) (output : Text) → reads_last_by r (state_with (memory_of meta old) input output) ≡ false) → Scans old new needed
   unfolding step need
-  scans-by r needed fits goes needs = record {
+  scans-by r needed fits goes needs reads = record {
     goes = λ meta input output. ap (λ r. follow r (state_with (memory_of meta old) input output)) fits ∙ goes meta input output;
     needs = λ meta input output. ap (λ r. need_by r (state_with (memory_of meta old) input output)) fits ∙ needs meta input output;
+    reads = λ meta input output. ap (λ r. reads_last_by r (state_with (memory_of meta old) input output)) fits ∙ reads meta input output;
   }
 
 -- the memory with another active text
@@ -82,6 +83,7 @@ scans-layout old c first layout =
     (ap rule (first-rest t c first) ∙ rule-layout c (drop 1 t) layout)
     (λ meta input output. same-active (neutral_of old.neutral) (drop 1 t) (text_of_cells (drop 1 old.active)) old.forms meta input output (sym (drop-text 1 old.active)))
     (λ meta input output. size-used meta old)
+    (λ meta input output. refl)
 
 pub scans-parenthesis : (old : Contents) → slice_get (text_of_cells old.active) 0 ≡ Some 41 → ClosesNone old → Scans old (record old { active = drop 1 old.active }) (used old)
 scans-parenthesis old first none =
@@ -93,6 +95,7 @@ scans-parenthesis old first none =
     ap (λ calls. end_call calls (with_active (drop 1 t) (state_with (memory_of meta old) input output))) calls
     ∙ same-active (neutral_of old.neutral) (drop 1 t) (text_of_cells (drop 1 old.active)) old.forms meta input output (sym (drop-text 1 old.active)))
     (λ meta input output. ap (λ calls. end_need calls (state_with (memory_of meta old) input output)) calls ∙ size-used meta old)
+    (λ meta input output. ap (λ calls. end_reads_last calls (world_of (state_with (memory_of meta old) input output))) calls)
 
 pub scans-unmatched : (old : Contents) → slice_get (text_of_cells old.active) 0 ≡ Some 40 → protected (drop 1 (text_of_cells old.active)) ≡ None → Scans old (record old { active = [] }) (used old)
 scans-unmatched old first none =
@@ -101,6 +104,7 @@ scans-unmatched old first none =
     (ap rule (first-rest t 40 first) ∙ rule-parenthesis (drop 1 t) None none)
     (λ meta input output. refl)
     (λ meta input output. size-used meta old)
+    (λ meta input output. refl)
 
 -- characters at the end of neutral are a text added
 added-bytes : (old : List Cell) (more : List Cell) (active : Text) (forms : List Form) (meta : ℕ) → All IsByte more → memory_with (neutral_of (old ++ more)) active forms meta ≡ add (text_of_cells more) (memory_with (neutral_of old) active forms meta)
@@ -125,6 +129,7 @@ scans-protected old len sound first found =
     ∙ ap (λ t. Next (state_with (add t (memory_with (neutral_of old.neutral) (text_of_cells (drop 1 (drop len (drop 1 old.active)))) old.forms meta)) input output)) inside_is
     ∙ ap (λ t. Next (state_with (add inside (memory_with (neutral_of old.neutral) t old.forms meta)) input output)) rest_is))
     (λ meta input output. size-used meta old)
+    (λ meta input output. refl)
 
 -- with a comma mark an argument of the innermost call begins
 comma-memory : (n : Neutral) (call : OpenCall) (outer : List OpenCall) → n.calls ≡ call ∷ outer → with_cell n Comma ≡ record n { calls = begin_argument n.calls }
@@ -141,6 +146,7 @@ scans-comma old place first last =
     same-active (record n { calls = begin_argument n.calls }) (drop 1 t) (text_of_cells (drop 1 old.active)) old.forms meta input output (sym (drop-text 1 old.active))
     ∙ ap (λ (n : Neutral). Next (state_with (memory_with n (text_of_cells (drop 1 old.active)) old.forms meta) input output)) (sym (neutral_of-push old.neutral Comma ∙ comma-memory n _ _ calls)))
     (λ meta input output. size-used meta old)
+    (λ meta input output. refl)
 
 pub scans-comma-none : (old : Contents) → slice_get (text_of_cells old.active) 0 ≡ Some 44 → NoCall old.neutral → Scans old (record old { active = drop 1 old.active }) (used old)
 scans-comma-none old first none =
@@ -153,6 +159,7 @@ scans-comma-none old first none =
     same-active (record n { calls = begin_argument n.calls }) (drop 1 t) (text_of_cells (drop 1 old.active)) old.forms meta input output (sym (drop-text 1 old.active))
     ∙ ap (λ calls. Next (state_with (memory_with (record n { calls = calls }) (text_of_cells (drop 1 old.active)) old.forms meta) input output)) (ap begin_argument calls ∙ sym calls))
     (λ meta input output. size-used meta old)
+    (λ meta input output. refl)
 
 -- a mark opens a call
 scans-call : (old : Contents) (mode : Mode) (n : ℕ) → rule (text_of_cells old.active) ≡ BeginCall mode (drop n (text_of_cells old.active)) → Scans old (record old { active = drop n old.active; neutral = old.neutral ++ Call mode 0 ∷ [] }) (used old)
@@ -165,6 +172,7 @@ scans-call old mode n fits =
     same-active (record before { calls = begin_call mode before.calls }) (drop n t) (text_of_cells (drop n old.active)) old.forms meta input output (sym (drop-text n old.active))
     ∙ ap (λ (m : Neutral). Next (state_with (memory_with m (text_of_cells (drop n old.active)) old.forms meta) input output)) (sym (neutral_of-push old.neutral (Call mode 0))))
     (λ meta input output. size-used meta old)
+    (λ meta input output. refl)
 
 second-rest : (text : Text) (b c : ℕ) → slice_get text 0 ≡ Some b → slice_get text 1 ≡ Some c → text ≡ b ∷ c ∷ drop 2 text
 second-rest [] b c e f = absurd cc
@@ -198,6 +206,7 @@ scans-first old c fits =
     ∙ ap (λ m. Next (state_with m input output)) (with_cells-text (c ∷ []) (neutral_of old.neutral) (text_of_cells (drop 1 old.active)) old.forms meta)
     ∙ ap (λ t. Next (state_with (add (c ∷ []) (memory_with (neutral_of old.neutral) t old.forms meta)) input output)) (drop-text 1 old.active)))
     (λ meta input output. size-used meta old)
+    (λ meta input output. refl)
 
 -- a number sign that opens no call
 sign-rule : (text : Text) → slice_get text 0 ≡ Some 35 → slice_get text 1 ≢ Some 40 → (slice_get text 1 ≡ Some 35 → slice_get text 2 ≢ Some 40) → rule text ≡ AddCharacter 35 (drop 1 text)
@@ -249,6 +258,7 @@ pub scans-idling : (old : Contents) → old.active ≡ [] → Scans old (record 
 scans-idling old none =
     scans-by old (record old { neutral = []; active = map Byte idling }) LoadIdling (cells old.forms + 11)
     (ap (λ a. rule (text_of_cells a)) none ∙ rule-nothing)
+    (λ meta input output. refl)
     (λ meta input output. refl)
     (λ meta input output. refl)
 

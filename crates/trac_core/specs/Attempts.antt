@@ -15,7 +15,7 @@ use Rattle.trac_core.specs.declared.machine.Fate.TheVariants.{Workspace}
 use Rattle.trac_core.specs.Devices.{Stream}
 use Rattle.trac_core.specs.Function.{function_named}
 use Rattle.trac_core.specs.State.{Input, argument}
-use Rattle.trac_core.specs.Step.{Next, step, need}
+use Rattle.trac_core.specs.Step.{Next, step, need, reads_to_end}
 use Rattle.trac_core.specs.Flat.{memory_of, arguments_at}
 use Rattle.trac_core.specs.Machine.{MachineState, moment, state_with, Answers, counted}
 
@@ -40,6 +40,7 @@ Tried old answer needed new =
 pub record Scans (old new : Contents) (needed : ℕ) : Type 0 where
   pub goes : (meta : ℕ) (input : Input) (output : Text) → step (state_with (memory_of meta old) input output) ≡ Next (state_with (memory_of meta new) input output)
   pub needs : (meta : ℕ) (input : Input) (output : Text) → need (state_with (memory_of meta old) input output) ≡ needed
+  pub reads : (meta : ℕ) (input : Input) (output : Text) → reads_to_end (state_with (memory_of meta old) input output) ≡ false
 
 -- such a step was done, or needs more than the room
 abbrev pub Scanned : Option Fate → ℕ → Contents → Contents → Type 0
