@@ -27,3 +27,6 @@ pub mod Matching
 pub mod Performing
 pub mod Reading
 pub mod Printing
+pub mod Outputs
+pub mod Along
+pub mod Reported

@@ -36,6 +36,7 @@ pub(crate) fn advance<I: Source, O: Sink>(
         (scene work.new meta.new (I.stream source.new) (O.written sink.new)) }
     ensures input_failed { I.failure_count source.new ≡ I.failure_count source.old + input_failures None result.fate }
     ensures output_failed { O.failure_count sink.new ≡ O.failure_count sink.old + output_failures None result.fate }
+    ensures unspent { result.fate ≢ Some Fate.Steps }
     ensures unread { reads_input (performs (memory_of meta.old work.old)) ≡ false → source.new ≡ source.old }
     ensures unprinted { prints_output (performs (memory_of meta.old work.old)) ≡ false → sink.new ≡ sink.old }
     ensures takes { I.tells source.old → (taken : Text) × TakesAtMost work.old (I.stream source.old) (I.stream source.new) taken }
@@ -71,6 +72,7 @@ fn close<I: Source, O: Sink>(
         (scene work.new meta.new (I.stream source.new) (O.written sink.new)) }
     ensures input_failed { I.failure_count source.new ≡ I.failure_count source.old + input_failures None result.fate }
     ensures output_failed { O.failure_count sink.new ≡ O.failure_count sink.old + output_failures None result.fate }
+    ensures unspent { result.fate ≢ Some Fate.Steps }
     ensures unread { reads_input (performs (memory_of meta.old work.old)) ≡ false → source.new ≡ source.old }
     ensures unprinted { prints_output (performs (memory_of meta.old work.old)) ≡ false → sink.new ≡ sink.old }
     ensures takes { I.tells source.old → (taken : Text) × TakesAtMost work.old (I.stream source.old) (I.stream source.new) taken }
@@ -101,6 +103,7 @@ fn perform<I: Source, O: Sink>(
         (scene work.new meta.new (I.stream source.new) (O.written sink.new)) }
     ensures input_failed { I.failure_count source.new ≡ I.failure_count source.old + input_failures None result.fate }
     ensures output_failed { O.failure_count sink.new ≡ O.failure_count sink.old + output_failures None result.fate }
+    ensures unspent { result.fate ≢ Some Fate.Steps }
     ensures unread { reads_input (function_at work.old.neutral place) ≡ false → source.new ≡ source.old }
     ensures unprinted { prints_output (function_at work.old.neutral place) ≡ false → sink.new ≡ sink.old }
     ensures takes { I.tells source.old → (taken : Text) × TakesFrom work.old (I.stream source.old) (I.stream source.new) taken }
@@ -151,7 +154,7 @@ fn evaluate(work: &mut Work, place: u32, function: Function, arguments: Argument
     requires rest { texts work.old arguments ≡ drop 1 (arguments_at work.old.neutral place) }
     ensures tried { (meta : ℕ) (source : Stream) (written : Text) →
         TriedCall place (scene work.old meta source written) result.fate result.need (scene work.new meta source written) }
-    ensures fate { (result.fate ≢ Some Fate.InputFailed) × (result.fate ≢ Some Fate.OutputFailed) }
+    ensures fate { (result.fate ≢ Some Fate.InputFailed) × (result.fate ≢ Some Fate.OutputFailed) × (result.fate ≢ Some Fate.Steps) }
     ensures fits { result.need ≤ work.old.room }
     ensures room { work.new.room ≡ work.old.room }
     ensures sound { IsSound work.new }

@@ -27,7 +27,7 @@ pub(crate) fn read_string<I: Source>(work: &mut Work, place: u32, meta: u8, sour
     ensures tried { I.tells source.old → (written : Text) →
         TriedCall place (scene work.old meta (I.stream source.old) written) result.fate result.need
         (scene work.new meta (I.stream source.new) written) }
-    ensures fate { result.fate ≢ Some Fate.OutputFailed }
+    ensures fate { (result.fate ≢ Some Fate.OutputFailed) × (result.fate ≢ Some Fate.Steps) }
     ensures input_failed { I.failure_count source.new ≡ I.failure_count source.old + input_failures None result.fate }
     ensures takes { I.tells source.old → (taken : Text) × TakesFrom work.old (I.stream source.old) (I.stream source.new) taken }
     ensures told { I.tells source.old → I.tells source.new }
@@ -88,7 +88,7 @@ pub(crate) fn read_character<I: Source>(work: &mut Work, place: u32, source: &mu
     ensures tried { I.tells source.old → (meta : ℕ) (written : Text) →
         TriedCall place (scene work.old meta (I.stream source.old) written) result.fate result.need
         (scene work.new meta (I.stream source.new) written) }
-    ensures fate { result.fate ≢ Some Fate.OutputFailed }
+    ensures fate { (result.fate ≢ Some Fate.OutputFailed) × (result.fate ≢ Some Fate.Steps) }
     ensures input_failed { I.failure_count source.new ≡ I.failure_count source.old + input_failures None result.fate }
     ensures takes { I.tells source.old → (taken : Text) × TakesFrom work.old (I.stream source.old) (I.stream source.new) taken }
     ensures told { I.tells source.old → I.tells source.new }
@@ -119,7 +119,7 @@ pub(crate) fn print_string<O: Sink>(work: &mut Work, place: u32, mut arguments: 
     ensures tried { O.tells sink.old → (meta : ℕ) (source : Stream) →
         TriedCall place (scene work.old meta source (O.written sink.old)) result.fate result.need
         (scene work.new meta source (O.written sink.new)) }
-    ensures fate { result.fate ≢ Some Fate.InputFailed }
+    ensures fate { (result.fate ≢ Some Fate.InputFailed) × (result.fate ≢ Some Fate.Steps) }
     ensures output_failed { O.failure_count sink.new ≡ O.failure_count sink.old + output_failures None result.fate }
     ensures told { O.tells sink.old → O.tells sink.new }
     ensures fits { result.need ≤ work.old.room }

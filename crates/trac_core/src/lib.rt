@@ -14,4 +14,5 @@ mod transfer;
 pub mod values;
 
 pub use device::{Next, ReadSource, Sink, SinkFailed, SliceSink, SliceSource, Source, WriteSink};
-pub use machine::{Fate, Report};
+pub use machine::{Fate, Machine, Report};
+pub use trac_forms::Cell;

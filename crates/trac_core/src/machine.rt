@@ -1,6 +1,17 @@
 //! The machine: one step, and a run to the end.
+ghost use Rattle.std.specs.Prelude.{◌≡◌, ◌≢◌, ℕ, ◌+◌, ◌-◌, ◌^◌, ◌<◌, ◌≤◌, List, length, false, true, None, Some, IsSome};
+ghost use Rattle.trac_forms.specs.Text.{Text};
+ghost use Rattle.trac_core.specs.State.{Memory};
+ghost use Rattle.trac_core.specs.Performed.{performs, reads_input, prints_output};
+ghost use Rattle.trac_core.specs.Machine.{made, KeepsLimits, moment, Answers, Takes, StaysOver, input_failures, output_failures, reported_input_failures, reported_output_failures, Reports, course, counted, counts_as_step};
 
-/// How a run ended.
+use crate::call::advance;
+use crate::device::{Sink, Source};
+use crate::scan::Attempt;
+use std::marker::Model;
+use trac_forms::{Cell, Work};
+
+/// How a run ended. The fates and their numbers are this processor's own choice.
 #[derive(Clone, Copy, Debug, PartialEq, Eq)]
 pub enum Fate {
     /// A call of `hl` was performed.
@@ -20,9 +31,162 @@ pub enum Fate {
 /// What a run came to.
 #[derive(Clone, Copy, Debug, PartialEq, Eq)]
 pub struct Report {
+    /// How it ended.
     pub fate: Fate,
     /// The steps done.
     pub steps: u64,
-    /// The greatest need of a step, in cells.
+    /// The greatest need of a step, in cells: the least room in which the run ends the same way.
     pub peak: u32,
+}
+
+/// A processor over a lent block of cells, with an allowance of steps. It takes no other memory. The rules that it follows are
+/// Mooers' (1966 and 1972); the block, the allowance and the accounting are this processor's own choice.
+#[derive(Drop)]
+pub struct Machine<'a> {
+    work: Work<'a>,
+    meta: u8,
+    allowance: u64,
+    steps: u64,
+    peak: u32,
+    fate: Option<Fate>,
+}
+
+impl<'a> Model for Machine<'a> {
+    ghost use Rattle.std.specs.Prelude.{◌≤◌};
+    ghost use Rattle.trac_forms.specs.Contents.{IsSound};
+    ghost use Rattle.trac_core.specs.Flat.{memory_of};
+    ghost use Rattle.trac_core.specs.Machine.{MachineState};
+
+    ghost Value = { MachineState };
+
+    ghost view = { λ m. record { memory = memory_of m.meta m.work; room = m.work.room; allowance = m.allowance; steps = m.steps; peak = m.peak; fate = m.fate } };
+
+    ghost invariant = { λ m. (m.steps ≤ m.allowance) × (m.peak ≤ m.work.room) × IsSound m.work };
+}
+
+impl<'a> Machine<'a> {
+    /// A machine over the cells of a block, whatever they hold, with an allowance of so many steps. It has no form, and the
+    /// apostrophe is its meta character.
+    pub fn over(block: &'a mut [Cell], steps: u64) -> Machine<'a>
+        requires { length block.old ≤ 16777216 }
+        ensures { result ≡ made (length block.old) steps }
+    {
+        Machine {
+            work: Work::over(block),
+            meta: b'\'',
+            allowance: steps,
+            steps: 0,
+            peak: 0,
+            fate: None,
+        }
+    }
+
+    /// The steps done.
+    pub fn steps(&self) -> u64
+        ensures { result ≡ self.now.steps }
+    {
+        self.steps
+    }
+
+    /// The greatest need of a step so far, in cells.
+    pub fn peak(&self) -> u32
+        ensures { result ≡ self.now.peak }
+    {
+        self.peak
+    }
+
+    /// One step. None: it was done, and the run goes on. Some: the run is over with this fate, and each later call answers it
+    /// again and calls neither source nor sink.
+    pub fn step<I: Source, O: Sink>(&mut self, source: &mut I, sink: &mut O) -> Option<Fate>
+        requires source_counts { I.failure_count source.old < 2 ^ 64 - 1 }
+        requires sink_counts { O.failure_count sink.old < 2 ^ 64 - 1 }
+        // what each answer says of the machine, the source and the sink
+        ensures answers { self.old.fate ≡ None → I.tells source.old → O.tells sink.old →
+            Answers (moment self.old (I.stream source.old) (O.written sink.old)) result
+            (moment self.new (I.stream source.new) (O.written sink.new)) }
+        // the run is over exactly where a fate was answered
+        ensures fate { self.new.fate ≡ result }
+        // an answer None counts a step that was allowed
+        ensures proceeds { result ≡ None → (self.old.steps < self.old.allowance) × (self.new.steps ≡ self.old.steps + 1) }
+        // a run that is over stays so, and its devices are not called
+        ensures over { IsSome self.old.fate → StaysOver self.old result self.new × (source.new ≡ source.old) × (sink.new ≡ sink.old) }
+        // with the allowance used up nothing is called
+        ensures spent { result ≡ Some Fate.Steps → (source.new ≡ source.old) × (sink.new ≡ sink.old) }
+        // the failures of the devices are told, and no others
+        ensures input_failed { I.failure_count source.new ≡ I.failure_count source.old + input_failures self.old.fate result }
+        ensures output_failed { O.failure_count sink.new ≡ O.failure_count sink.old + output_failures self.old.fate result }
+        // only a call that reads calls the source, for at most two bytes more than are free; only a call that prints calls the sink
+        ensures unread { reads_input (performs self.old.memory) ≡ false → source.new ≡ source.old }
+        ensures unprinted { prints_output (performs self.old.memory) ≡ false → sink.new ≡ sink.old }
+        ensures takes { I.tells source.old → (taken : Text) × Takes self.old (I.stream source.old) (I.stream source.new) taken }
+        ensures told_source { I.tells source.old → I.tells source.new }
+        ensures told_sink { O.tells sink.old → O.tells sink.new }
+        // the limits stay, and are kept
+        ensures room { self.new.room ≡ self.old.room }
+        ensures allowance { self.new.allowance ≡ self.old.allowance }
+        ensures limits { KeepsLimits self.new }
+    {
+        if self.fate.is_some() {
+            return self.fate;
+        }
+        if self.steps == self.allowance {
+            return self.count(Attempt {
+                fate: Some(Fate::Steps),
+                need: 0,
+            });
+        }
+        let mut meta = self.meta;
+        let attempt = advance(&mut self.work, &mut meta, source, sink);
+        self.meta = meta;
+        self.count(attempt)
+    }
+
+    /// Counts a step that came to this.
+    fn count(&mut self, attempt: Attempt) -> Option<Fate>
+        requires allowed { counts_as_step attempt.fate ≡ true → self.old.steps < self.old.allowance }
+        requires fits { attempt.need ≤ self.old.room }
+        ensures answer { result ≡ attempt.fate }
+        ensures after { self.new ≡ counted self.old self.old.memory attempt.need attempt.fate }
+        ensures limits { KeepsLimits self.new }
+    {
+        prove!(self.steps <= self.allowance);
+        prove!(self.work.used() <= self.work.room());
+        match attempt.fate {
+            None | Some(Fate::Halted | Fate::InputEnded) => {
+                self.steps += 1;
+                self.peak = self.peak.max(attempt.need);
+            }
+            Some(Fate::InputFailed | Fate::OutputFailed) => {
+                self.peak = self.peak.max(attempt.need);
+            }
+            Some(Fate::Workspace | Fate::Steps) => {}
+        }
+        prove!(self.work.used() <= self.work.room());
+        self.fate = attempt.fate;
+        attempt.fate
+    }
+
+    /// Makes steps to the end of the run, and reports what it came to: with neither device failing, the output, the fate, the
+    /// steps and the peak of the definition's run in this room with this allowance. A machine that was just made is run.
+    pub fn run<I: Source, O: Sink>(mut self, source: &mut I, sink: &mut O) -> Report
+        requires made { self ≡ made self.room self.allowance }
+        requires source_counts { I.failure_count source.old < 2 ^ 64 - 1 }
+        requires sink_counts { O.failure_count sink.old < 2 ^ 64 - 1 }
+        ensures reports { I.tells source.old → O.tells sink.old →
+            Reports result.fate (course self.entry (I.stream source.old) (O.written sink.old) (I.stream source.new) (O.written sink.new)) result }
+        ensures input_failed { I.failure_count source.new ≡ I.failure_count source.old + reported_input_failures result.fate }
+        ensures output_failed { O.failure_count sink.new ≡ O.failure_count sink.old + reported_output_failures result.fate }
+        ensures steps { result.steps ≤ self.entry.allowance }
+        ensures peak { result.peak ≤ self.entry.room }
+    {
+        loop {
+            if let Some(fate) = self.step(source, sink) {
+                return Report {
+                    fate,
+                    steps: self.steps(),
+                    peak: self.peak(),
+                };
+            }
+        }
+    }
 }

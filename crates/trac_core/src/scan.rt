@@ -48,6 +48,7 @@ pub(crate) fn scan(work: &mut Work) -> Attempt
     requires sound { IsSound work.old }
     requires closes_none { ClosesNone work.old }
     ensures scanned { Scanned result.fate result.need work.old work.new }
+    ensures fate { (result.fate ≢ Some Fate.InputFailed) × (result.fate ≢ Some Fate.OutputFailed) × (result.fate ≢ Some Fate.Steps) }
     ensures fits { result.need ≤ work.old.room }
     ensures room { work.new.room ≡ work.old.room }
     ensures sound { IsSound work.new }
@@ -69,6 +70,7 @@ pub(crate) fn scan(work: &mut Work) -> Attempt
 fn load_idling(work: &mut Work) -> Attempt
     requires { work.old.active ≡ [] }
     ensures scanned { Scanned result.fate result.need work.old work.new }
+    ensures fate { (result.fate ≢ Some Fate.InputFailed) × (result.fate ≢ Some Fate.OutputFailed) × (result.fate ≢ Some Fate.Steps) }
     ensures fits { result.need ≤ work.old.room }
     ensures room { work.new.room ≡ work.old.room }
     ensures sound { IsSound work.new }
