@@ -5,7 +5,7 @@ use Rattle.trac_space.specs.declared.cell.Mode.{Mode}
 use Rattle.trac_core.specs.State.{OpenCall, Memory, Input, State, empty, first}
 use Rattle.trac_core.specs.Meaning.{Meaning, Gives, Ends}
 use Rattle.trac_core.specs.Rule.{Rule, LoadIdling, DeleteLayout, AddProtected, ClearActive, BeginArgument, BeginCall, EndCall, AddCharacter, rule}
-use Rattle.trac_core.specs.Step.{Outcome, Next, Over, perform, end_call, with_active, follow, end_need, need_by, step, need}
+use Rattle.trac_core.specs.Step.{Outcome, Next, Over, deliver, perform, end_call, with_active, follow, end_need, need_by, step, need}
 use Rattle.trac_core.specs.Run.{Run, within, go_on, one_more, run}
 use Rattle.std.specs.Prelude.{nat_lt}
 use Rattle.trac_core.specs.Machine.{state_with}
@@ -24,7 +24,7 @@ module _ (before : Text) where
 
   perform-later : (mode : Mode) (m : Meaning) (s : State) → perform mode m (record s { output = before ++ s.output }) ≡ later_outcome (perform mode m s)
   perform-later mode (Gives answer) s = ap (λ o. Next (record {
-    memory = _;
+    memory = deliver mode answer.forced answer.value (record s.memory { forms = answer.world.forms; meta = answer.world.meta });
     input = answer.world.input;
     output = o;
   })) (append_assoc before s.output answer.printed)
@@ -70,15 +70,18 @@ module _ (before : Text) where
   unfolding run
   run-later room zero s = refl
   run-later room (suc n) s =
-      ap (λ k. within (nat_lt room k) (later_state s) (run room n)) (need-later s) ∙ go (nat_lt room (need s)) (step s) (step-later s) (need-later s) (run-later room n)
+      ap (λ k. within (nat_lt room k) (later_state s) (run room n)) (need-later s) ∙ go (nat_lt room (need s)) (run-later room n)
     where
       on : (k : ℕ) (o : Outcome) → ((t : State) → run room n (record t { output = before ++ t.output }) ≡ later_run (run room n t)) → go_on k (later_outcome o) (record s { output = before ++ s.output }) (run room n) ≡ later_run (go_on k o s (run room n))
       on k (Next t) rest = ap (one_more k) (rest t)
       on k (Over f) rest = refl
 
-      go : (b : Bool) (o : Outcome) → step (record s { output = before ++ s.output }) ≡ later_outcome o → need (record s { output = before ++ s.output }) ≡ need s → ((t : State) → run room n (record t { output = before ++ t.output }) ≡ later_run (run room n t)) → within b (record s { output = before ++ s.output }) (run room n) ≡ later_run (within b s (run room n))
-      go true o e f rest = refl
-      go false o e f rest = ?
+      go : (b : Bool) → ((t : State) → run room n (record t { output = before ++ t.output }) ≡ later_run (run room n t)) → within b (record s { output = before ++ s.output }) (run room n) ≡ later_run (within b s (run room n))
+      go true rest = refl
+      go false rest =
+          ap (λ k. go_on k (step (later_state s)) (later_state s) (run room n)) (need-later s)
+          ∙ ap (λ o. go_on (need s) o (later_state s) (run room n)) (step-later s)
+          ∙ on (need s) (step s) rest
 
 -- the run from the first state, after this was printed
 pub run-from : (room n : ℕ) (input : Input) (before : Text) → run room n (state_with empty input before) ≡ later_run before (run room n (first input))

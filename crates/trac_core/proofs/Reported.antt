@@ -11,7 +11,7 @@ use Rattle.trac_core.specs.Run.{Run, counted, run}
 use Rattle.trac_core.specs.Machine.{MachineState, Moment, ending, failing, state_with, state_of, failing_state_of, StopsAtAllowance, StopsAtRoom, StopsAtInput, StopsAtOutput, EndsRun, Answers, Course, IsReportOf, RanThrough, RanToFailure, BrokeOff, Reports, whole_run, run_of}
 use Rattle.trac_core.proofs.Reached.{reached_over, reached_full, reached_spent, reached_unwritten}
 use Rattle.trac_core.proofs.ReachedAnywhere.{anywhere_failed}
-use Rattle.trac_core.proofs.Outputs.{run-from}
+use Rattle.trac_core.proofs.Outputs.{later_run, run-from}
 use Rattle.trac_core.proofs.Along.{SomeAlong}
 
 -- what a machine reports that stands so
@@ -96,9 +96,8 @@ module _ (room allowance : ℕ) (bytes before : Text) (old new : Moment) (room_i
       let counts = stop.counts.steps in
       let same : new.machine.steps ≡ old.machine.steps = omega arith in
       let runs = reached_unwritten room start old.machine.steps old.machine.peak (state_of old) next along.1.whole (omega arith) stop.goes in
-      let here = ap (λ k. run room k (first (ending bytes))) same in
-      let before_is = ap (λ r. record r { output = before ++ r.output }) (ap (λ k. run room k (first (ending bytes))) same) ∙ sym (run-from room old.machine.steps (ending bytes) before) ∙ runs.0 in
-      let after_is = ap (λ r. record r { output = before ++ r.output }) (ap (λ k. run room (k + 1) (first (ending bytes))) same) ∙ sym (run-from room (old.machine.steps + 1) (ending bytes) before) ∙ runs.1 in
+      let before_is = ap (later_run before) (ap (λ k. run room k (first (ending bytes))) same) ∙ sym (run-from room old.machine.steps (ending bytes) before) ∙ runs.0 in
+      let after_is = ap (later_run before) (ap (λ k. run room (k + 1) (first (ending bytes))) same) ∙ sym (run-from room (old.machine.steps + 1) (ending bytes) before) ∙ runs.1 in
       let out_before = ap (λ (r : Run). r.output) before_is in
       let out_after = ap (λ (r : Run). r.output) after_is in
       record {

@@ -1,6 +1,6 @@
-use Rattle.std.proofs.Common.{◌∙◌, arith}
-use Rattle.trac_core.specs.Machine.{moment}
-use Rattle.trac_core.proofs.Along.{along-more}
+use Rattle.std.proofs.Common.{◌≡◌, ◌≤◌, ◌∙◌, arith, sym, ap, subst, refl}
+use Rattle.trac_core.specs.Machine.{MachineState, KeepsLimits, moment, made}
+use Rattle.trac_core.proofs.Along.{SomeAlong, along-none, along-more}
 use Rattle.trac_core.proofs.Reported.{reported}
 use Rattle.trac_core.proofs.machine.Machine.run.Goals as goal
 
@@ -14,6 +14,25 @@ returns-in-Some-clause-reports g c = λ told_source told_sink.
     i.room i.allowance (i.along told_source told_sink) c.in-Some.fate
     (c.in-Some.ensures.answers i.not_over (i.told_source told_source) (i.told_sink told_sink)) in
     rw (c.steps.ensures, c.peak.ensures) last
+
+pub loop-fate-init : goal.loop-fate-init
+loop-fate-init g c =
+    let e = c.requires.made in
+    let self = c.args.self in
+    record {
+      not_over = ap (λ (m : MachineState). m.fate) e;
+      room = refl;
+      allowance = refl;
+      limits = subst KeepsLimits (sym e) (record { cells = omega arith; steps = omega arith; peak = omega arith });
+      source_failures = refl;
+      sink_failures = refl;
+      told_source = λ told. told;
+      told_sink = λ told. told;
+      along = λ told_source told_sink.
+          let source = g.I.Source.stream c.args.source.now in
+          let written = g.O.Sink.written c.args.sink.now in
+          subst (λ (m : MachineState). SomeAlong self.room source.bytes written (moment m source written)) (sym e) (along-none self.room self.allowance source written);
+    }
 
 pub loop-fate-preserved : goal.loop-fate-preserved
 loop-fate-preserved g c =

@@ -1,5 +1,6 @@
 use Rattle.std.proofs.Common.{◌≡◌, ◌<◌, [], refl, arith, sym, ◌∙◌, ap}
-use Rattle.trac_core.specs.contracts.machine.Machine.{the_view}
+use Rattle.trac_core.specs.Flat.{memory_of}
+use Rattle.trac_core.specs.Machine.{MachineState}
 use Rattle.trac_core.proofs.FlatLemmas.{size-used}
 use Rattle.trac_core.proofs.machine.Machine.step.Goals as goal
 
@@ -20,7 +21,8 @@ returns-then-is_some-clause-limits g c =
 
 pub returns-clause-answers : goal.returns-clause-answers
 returns-clause-answers g c = λ not_over told_source told_sink.
-    let m = the_view _ c.self.inside in
+    let i = c.self.inside in
+    let m : MachineState = record { memory = memory_of i.meta i.work; room = i.work.room; allowance = i.allowance; steps = i.steps; peak = i.peak; fate = i.fate } in
     let allowed : c.self.inside.steps < c.self.inside.allowance = omega (arith, c.self.invariant.0, c.if-self.false) in
     rw (← c.self.view_is, c.count-2.ensures.answer, c.count-2.ensures.after, c.advance-attempt.ensures.room)
     (c.advance-attempt.ensures.tried told_source told_sink m refl refl allowed)
