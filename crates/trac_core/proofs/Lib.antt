@@ -30,3 +30,4 @@ pub mod Printing
 pub mod Outputs
 pub mod Along
 pub mod Reported
+pub mod Taken

@@ -18,4 +18,5 @@ pub mod Performed
 pub mod Transfer
 pub mod Machine
 pub mod Attempts
+pub mod Taking
 pub mod Laws

@@ -1,7 +1,7 @@
 //! What the functions of the language make of texts, numbers and bit strings, read from slices of cells.
 
 mod bit_string;
-mod number;
+pub(crate) mod number;
 pub(crate) mod text;
 
 pub use bit_string::{

@@ -1,0 +1,310 @@
+//! The functions that take a part of a form: `cs`, `cc`, `cn`, `in`, and `cr`.
+ghost use Rattle.std.specs.Prelude.{◌≡◌, ◌↔◌, ℕ, ◌+◌, ◌-◌, ◌<◌, ◌≤◌, ◌++◌, ◌∷◌, min, take, drop, reverse, length, slice_range, pos, Some, None, IsTrue, true, false};
+ghost use Rattle.std.specs.Bool.{OnTrue, OnFalse};
+ghost use Rattle.trac_forms.specs.Text.{Text};
+ghost use Rattle.trac_forms.specs.Form.{text_of, after_pointer, before_pointer};
+ghost use Rattle.trac_forms.specs.FlatForms.{flat_text};
+ghost use Rattle.trac_forms.specs.Contents.{used, form_at, body_at, part_text, IsTextPart, IsSound};
+ghost use Rattle.trac_core.specs.declared.function.Function.TheVariants.{CallSegment, CallCharacter, CallNumber, InitialPart, CallRestore};
+ghost use Rattle.trac_core.specs.Digits.{signed};
+ghost use Rattle.trac_core.specs.Part.{first_characters, characters, next_characters, previous_characters, next_segment, initial_part};
+ghost use Rattle.trac_core.specs.Calls.{AreArguments, texts, Makes};
+ghost use Rattle.trac_core.specs.Taking.{TakesPart, IsFirstOr};
+ghost use Rattle.trac_forms.specs.Search.{character_at, gap_at};
+
+use crate::arguments::{Arguments, Made, put_part, text};
+use crate::values::number::{Count, count_of};
+use trac_forms::{FormId, Work};
+
+/// `cs,N,Z`: the characters from the pointer up to the next gap, or to the end where no gap follows; the pointer goes past
+/// that gap (Mooers 1966). With the pointer at the end Z is the value, and goes to the active string whatever the call's
+/// mode; a form that isn't defined gives a null value (this processor's own choice).
+pub(crate) fn call_segment(work: &mut Work, mut arguments: Arguments) -> Made
+    requires { AreArguments work.old arguments }
+    ensures makes { (name : Text) → Makes CallSegment (name ∷ texts work.old arguments) work.old result work.new }
+    ensures room { work.new.room ≡ work.old.room }
+    ensures sound { IsSound work.new }
+{
+    let name = arguments.next(work);
+    let default = arguments.next(work);
+    match work.find(name.0, name.1) {
+        Some(form) => take_segment(work, form, default),
+        None => Made::Value,
+    }
+}
+
+/// Takes the characters up to the next gap.
+fn take_segment(work: &mut Work, form: FormId, default: (u32, u32)) -> Made
+    requires known { form.0 < length work.old.forms }
+    requires part { IsTextPart work.old.neutral default.0 default.1 }
+    requires sound { IsSound work.old }
+    ensures takes { TakesPart (next_segment (form_at work.old.forms form.0)) (part_text work.old.neutral default.0 default.1) form.0 work.old result work.new }
+    ensures room { work.new.room ≡ work.old.room }
+    ensures sound { IsSound work.new }
+{
+    let from = work.pointer(form);
+    let end = work.body_len(form);
+    if from == end {
+        return take_default(work, default);
+    }
+    match work.next_gap(form, from) {
+        Some(gap) => take_part(work, form, (from, gap), gap + 1),
+        None => take_part(work, form, (from, end), end),
+    }
+}
+
+/// `cc,N,Z`: the next character after the pointer, gaps skipped; the pointer goes behind it (Mooers 1966). Z as for `cs`.
+pub(crate) fn call_character(work: &mut Work, mut arguments: Arguments) -> Made
+    requires { AreArguments work.old arguments }
+    ensures makes { (name : Text) → Makes CallCharacter (name ∷ texts work.old arguments) work.old result work.new }
+    ensures room { work.new.room ≡ work.old.room }
+    ensures sound { IsSound work.new }
+{
+    let name = arguments.next(work);
+    let default = arguments.next(work);
+    match work.find(name.0, name.1) {
+        Some(form) => take_forward(work, form, 1, default),
+        None => Made::Value,
+    }
+}
+
+/// `cn,N,D,Z`: the next D characters, or the last -D before the pointer where D is negative, gaps skipped; the pointer goes
+/// to the other side of them (Mooers 1966). All of them where there are fewer; D has any length; D = 0 gives a null value;
+/// Z as for `cs` (this processor's own choice).
+pub(crate) fn call_number(work: &mut Work, mut arguments: Arguments) -> Made
+    requires { AreArguments work.old arguments }
+    ensures makes { (name : Text) → Makes CallNumber (name ∷ texts work.old arguments) work.old result work.new }
+    ensures room { work.new.room ≡ work.old.room }
+    ensures sound { IsSound work.new }
+{
+    let name = arguments.next(work);
+    let number = arguments.next(work);
+    let default = arguments.next(work);
+    let count = count_of(text(work, number));
+    match work.find(name.0, name.1) {
+        Some(form) => take_characters(work, form, count, default),
+        None => Made::Value,
+    }
+}
+
+/// Takes so many characters forward or backward.
+fn take_characters(work: &mut Work, form: FormId, count: Count, default: (u32, u32)) -> Made
+    requires known { form.0 < length work.old.forms }
+    requires part { IsTextPart work.old.neutral default.0 default.1 }
+    requires sound { IsSound work.old }
+    ensures takes { TakesPart (characters (signed count.negative count.size) (form_at work.old.forms form.0)) (part_text work.old.neutral default.0 default.1) form.0 work.old result work.new }
+    ensures room { work.new.room ≡ work.old.room }
+    ensures sound { IsSound work.new }
+{
+    if count.size == 0 {
+        let pointer = work.pointer(form);
+        take_part(work, form, (pointer, pointer), pointer)
+    } else if count.negative {
+        take_backward(work, form, count.size, default)
+    } else {
+        take_forward(work, form, count.size, default)
+    }
+}
+
+/// Takes the next so many characters after the pointer.
+fn take_forward(work: &mut Work, form: FormId, count: u32, default: (u32, u32)) -> Made
+    requires known { form.0 < length work.old.forms }
+    requires some { 0 < count }
+    requires part { IsTextPart work.old.neutral default.0 default.1 }
+    requires sound { IsSound work.old }
+    ensures takes { TakesPart (next_characters count (form_at work.old.forms form.0)) (part_text work.old.neutral default.0 default.1) form.0 work.old result work.new }
+    ensures room { work.new.room ≡ work.old.room }
+    ensures sound { IsSound work.new }
+{
+    let from = work.pointer(form);
+    let to = place_after(work, form, from, count);
+    if to == from {
+        return take_default(work, default);
+    }
+    take_part(work, form, (from, to), to)
+}
+
+/// Takes the last so many characters before the pointer.
+fn take_backward(work: &mut Work, form: FormId, count: u32, default: (u32, u32)) -> Made
+    requires known { form.0 < length work.old.forms }
+    requires some { 0 < count }
+    requires part { IsTextPart work.old.neutral default.0 default.1 }
+    requires sound { IsSound work.old }
+    ensures takes { TakesPart (previous_characters count (form_at work.old.forms form.0)) (part_text work.old.neutral default.0 default.1) form.0 work.old result work.new }
+    ensures room { work.new.room ≡ work.old.room }
+    ensures sound { IsSound work.new }
+{
+    let to = work.pointer(form);
+    let from = place_before(work, form, to, count);
+    if from == to {
+        return take_default(work, default);
+    }
+    take_part(work, form, (from, to), from)
+}
+
+/// The place after the next so many characters, or after all of them where there are fewer.
+fn place_after(work: &Work, form: FormId, from: u32, count: u32) -> u32
+    requires known { form.0 < length work.now.forms }
+    requires within { from ≤ length (body_at work.now.forms form.0) }
+    ensures place { let items = drop from (body_at work.now.forms form.0) in result ≡ from + length (first_characters (min count (length (text_of items))) items) }
+    ensures end { result ≤ length (body_at work.now.forms form.0) }
+{
+    prove!(from <= work.body_len(form));
+    let mut place = from;
+    for _taken in 0..count {
+        match work.next_char(form, place) {
+            Some(character) => place = character + 1,
+            None => return place,
+        }
+    }
+    place
+}
+
+/// The place of the first of the last so many characters before a place, or of the first of all of them where there are fewer.
+fn place_before(work: &Work, form: FormId, to: u32, count: u32) -> u32
+    requires known { form.0 < length work.now.forms }
+    requires within { to ≤ length (body_at work.now.forms form.0) }
+    ensures { let items = reverse (take to (body_at work.now.forms form.0)) in result + length (first_characters (min count (length (text_of (take to (body_at work.now.forms form.0))))) items) ≡ to }
+{
+    let mut place = to;
+    for _taken in 0..count {
+        match work.previous_char(form, place) {
+            Some(character) => place = character,
+            None => return place,
+        }
+    }
+    place
+}
+
+/// No part is taken: Z is the value, and goes to the active string whatever the call's mode.
+fn take_default(work: &mut Work, default: (u32, u32)) -> Made
+    requires { IsTextPart work.old.neutral default.0 default.1 }
+    ensures takes { (k : ℕ) → TakesPart None (part_text work.old.neutral default.0 default.1) k work.old result work.new }
+    ensures room { work.new.room ≡ work.old.room }
+    ensures sound { IsSound work.new }
+{
+    if put_part(work, default) {
+        Made::Forced
+    } else {
+        Made::Full
+    }
+}
+
+/// Takes the characters of a part of the body, and moves the pointer.
+fn take_part(work: &mut Work, form: FormId, part: (u32, u32), pointer: u32) -> Made
+    requires known { form.0 < length work.old.forms }
+    requires order { part.0 ≤ part.1 }
+    requires within { part.1 ≤ length (body_at work.old.forms form.0) }
+    requires pointer { pointer ≤ length (body_at work.old.forms form.0) }
+    requires sound { IsSound work.old }
+    ensures takes { (z : Text) → TakesPart (Some (record { text = text_of (slice_range (body_at work.old.forms form.0) part.0 part.1); pointer = pointer })) z form.0 work.old result work.new }
+    ensures room { work.new.room ≡ work.old.room }
+    ensures sound { IsSound work.new }
+{
+    if !copy_characters(work, form, part.0, part.1) {
+        return Made::Full;
+    }
+    work.set_pointer(form, pointer);
+    Made::Value
+}
+
+/// Puts the characters of a part of the body, gaps left out, at the end of the neutral string, if there are cells for them.
+pub(crate) fn copy_characters(work: &mut Work, form: FormId, from: u32, to: u32) -> bool
+    requires known { form.0 < length work.old.forms }
+    requires order { from ≤ to }
+    requires within { to ≤ length (body_at work.old.forms form.0) }
+    requires sound { IsSound work.old }
+    ensures put { IsTrue result ↔ (used work.old + length (text_of (slice_range (body_at work.old.forms form.0) from to)) ≤ work.old.room) }
+    ensures last { OnTrue result (work.new ≡ record work.old { neutral = work.old.neutral ++ flat_text (text_of (slice_range (body_at work.old.forms form.0) from to)) }) }
+    ensures room { work.new.room ≡ work.old.room }
+    ensures sound { IsSound work.new }
+{
+    prove!(to <= work.body_len(form));
+    let mut place = from;
+    while place < to {
+        let start = character_or(work, form, place, to);
+        let end = gap_or(work, form, start, to);
+        if !work.copy_body(form, start, end) {
+            return false;
+        }
+        place = end;
+    }
+    true
+}
+
+/// The place of the first character from one place up to another, or that other place.
+fn character_or(work: &Work, form: FormId, from: u32, to: u32) -> u32
+    requires known { form.0 < length work.now.forms }
+    requires order { from ≤ to }
+    requires within { to ≤ length (body_at work.now.forms form.0) }
+    ensures { IsFirstOr (character_at (body_at work.now.forms form.0)) from to result }
+{
+    match work.next_char(form, from) {
+        Some(place) => place.min(to),
+        None => to,
+    }
+}
+
+/// The place of the first gap from one place up to another, or that other place.
+fn gap_or(work: &Work, form: FormId, from: u32, to: u32) -> u32
+    requires known { form.0 < length work.now.forms }
+    requires order { from ≤ to }
+    requires within { to ≤ length (body_at work.now.forms form.0) }
+    ensures { IsFirstOr (gap_at (body_at work.now.forms form.0)) from to result }
+{
+    match work.next_gap(form, from) {
+        Some(place) => place.min(to),
+        None => to,
+    }
+}
+
+/// `in,N,X,Z`: the characters from the pointer up to the first occurrence of X, which reaches across no gap; the pointer goes
+/// past it (Mooers 1966). Z where there is none, and a null value for a null X (this processor's own choice).
+pub(crate) fn initial_part(work: &mut Work, mut arguments: Arguments) -> Made
+    requires { AreArguments work.old arguments }
+    ensures makes { (name : Text) → Makes InitialPart (name ∷ texts work.old arguments) work.old result work.new }
+    ensures room { work.new.room ≡ work.old.room }
+    ensures sound { IsSound work.new }
+{
+    let name = arguments.next(work);
+    let sought = arguments.next(work);
+    let default = arguments.next(work);
+    match work.find(name.0, name.1) {
+        Some(form) => take_initial(work, form, sought, default),
+        None => Made::Value,
+    }
+}
+
+/// Takes the characters up to the first occurrence of a text.
+fn take_initial(work: &mut Work, form: FormId, sought: (u32, u32), default: (u32, u32)) -> Made
+    requires known { form.0 < length work.old.forms }
+    requires sought { IsTextPart work.old.neutral sought.0 sought.1 }
+    requires part { IsTextPart work.old.neutral default.0 default.1 }
+    requires sound { IsSound work.old }
+    ensures takes { TakesPart (initial_part (part_text work.old.neutral sought.0 sought.1) (form_at work.old.forms form.0)) (part_text work.old.neutral default.0 default.1) form.0 work.old result work.new }
+    ensures room { work.new.room ≡ work.old.room }
+    ensures sound { IsSound work.new }
+{
+    let pointer = work.pointer(form);
+    if sought.0 == sought.1 {
+        return take_part(work, form, (pointer, pointer), pointer);
+    }
+    match work.occurrence(form, pointer, sought) {
+        Some((begin, end)) => take_part(work, form, (pointer, begin), end),
+        None => take_default(work, default),
+    }
+}
+
+/// `cr,N`: the pointer goes back to the start (Mooers 1966).
+pub(crate) fn call_restore(work: &mut Work, mut arguments: Arguments) -> Made
+    requires { AreArguments work.old arguments }
+    ensures makes { (name : Text) → Makes CallRestore (name ∷ texts work.old arguments) work.old result work.new }
+    ensures room { work.new.room ≡ work.old.room }
+    ensures sound { IsSound work.new }
+{
+    let name = arguments.next(work);
+    if let Some(form) = work.find(name.0, name.1) {
+        work.set_pointer(form, 0);
+    }
+    Made::Value
+}
