@@ -21,3 +21,5 @@ pub mod Counted
 pub mod FlatLemmas
 pub mod ArgumentLemmas
 pub mod Making
+pub mod Fronts
+pub mod Ranges

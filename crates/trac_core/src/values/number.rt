@@ -1,5 +1,5 @@
 //! Numbers at the end of texts.
-ghost use Rattle.std.specs.Prelude.{◌≡◌, ◌↔◌, ℕ, ◌+◌, ◌*◌, ◌%◌, ◌<◌, ◌≤◌, ◌^◌, min, IsTrue, length, int_lt, neg_ℤ, pos, unsigned_abs, ◌<ℤ◌};
+ghost use Rattle.std.specs.Prelude.{◌≡◌, ◌↔◌, ℕ, ℤ, ◌+◌, ◌*◌, ◌%◌, ◌<◌, ◌≤◌, ◌^◌, min, IfSome, IsTrue, length, int_lt, neg_ℤ, pos, unsigned_abs, ◌<ℤ◌};
 ghost use Rattle.std.specs.Int.{int_rem_euclid};
 ghost use Rattle.std.specs.Ordering.{nat_cmp};
 ghost use Rattle.std.specs.Str.Parse.{digits_value};
@@ -129,14 +129,14 @@ pub fn tail_number(cells: &[Cell]) -> TailNumber
     }
 }
 
-/// What an operation makes of the numbers of two texts. None where one of them or the result is outside the range of
-/// arithmetic, and for a divisor of 0.
-pub(crate) fn arithmetic(operation: Arith, a: &[Cell], b: &[Cell]) -> Option<i128>
-    requires left { IsText a.now }
-    requires right { IsText b.now }
-    ensures { result ≡ arith operation (number (text_of_cells a.now)) (number (text_of_cells b.now)) }
+/// What an operation makes of two numbers. None where one of them or the result is outside the range of arithmetic, and for a
+/// divisor of 0.
+pub(crate) fn result_of(operation: Arith, a: Option<i128>, b: Option<i128>) -> Option<i128>
+    requires left { IfSome a (λ m. IsTrue (in_range m)) }
+    requires right { IfSome b (λ n. IsTrue (in_range n)) }
+    ensures { (m n : ℤ) → a ≡ if_in_range (Some m) → b ≡ if_in_range (Some n) → result ≡ arith operation m n }
 {
-    operation.apply(tail_number(a).value?, tail_number(b).value?)
+    operation.apply(a?, b?)
 }
 
 /// The digit at a place, counted in a number of so many digits that these are the last of; 0 before the first.
