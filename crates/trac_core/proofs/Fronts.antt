@@ -1,6 +1,6 @@
 -- The front and the back of a part of neutral, and the prefix of a text as its front.
-use Rattle.std.proofs.Common.{◌≡◌, ℕ, ◌+◌, ◌-◌, ◌<◌, ◌≤◌, Bool, true, false, ◌||◌, cond, List, [], ◌++◌, length, take, drop, slice_range, get_or, All, refl, sym, ap, ◌∙◌, subst, arith, append_assoc, eqb}
-use Rattle.std.proofs.lemmas.List.{length-append, length-take, length-drop, append-nil, take-append-drop, take-append-le, take_all, take-take, take-map, drop-map}
+use Rattle.std.proofs.Common.{◌≡◌, ℕ, ◌+◌, ◌-◌, ◌≤◌, Bool, true, false, ◌||◌, cond, List, [], ◌++◌, length, take, drop, slice_range, All, sym, ap, ◌∙◌, subst, arith, append_assoc, eqb}
+use Rattle.std.proofs.lemmas.List.{length-append, append-nil, take-append-drop, take-append-le, take_all, take-take, take-map}
 use Rattle.std.proofs.lemmas.List.Elements.{All-take, All-drop}
 use Rattle.std.specs.List.{suffix_len}
 use Rattle.std.specs.Char.{is_ascii_digit}
@@ -9,7 +9,7 @@ use Rattle.trac_forms.specs.Text.{Text}
 use Rattle.trac_forms.specs.FlatForms.{text_of_cells, character_of}
 use Rattle.trac_forms.specs.Contents.{IsByte, IsTextPart, part_text}
 use Rattle.trac_core.specs.Number.{prefix, digits, before_digits, without_sign, ends_with}
-use Rattle.trac_core.specs.BitString.{octal_prefix, octal_digits, is_octal}
+use Rattle.trac_core.specs.BitString.{octal_prefix, is_octal}
 use Rattle.trac_core.proofs.Texts.{length-text}
 use Rattle.trac_core.proofs.Parts.{length-part, part_of_part}
 
@@ -53,7 +53,7 @@ prefix-front text = go (eqb (length (digits text)) 0)
 pub octal_prefix-front : (text : Text) → IsFront (octal_prefix text) text
 octal_prefix-front text = front-take (length text - suffix_len is_octal text) text
 
-length-part_text : (cells : List Cell) (a b : ℕ) → a ≤ b → b ≤ length cells → length (part_text cells a b) ≡ b - a
+pub length-part_text : (cells : List Cell) (a b : ℕ) → a ≤ b → b ≤ length cells → length (part_text cells a b) ≡ b - a
 length-part_text cells a b order within = omega (arith, length-text (slice_range cells a b), length-part cells a b order within)
 
 -- the front of a part, and what is behind it

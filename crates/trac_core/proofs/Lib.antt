@@ -23,3 +23,5 @@ pub mod ArgumentLemmas
 pub mod Making
 pub mod Fronts
 pub mod Ranges
+pub mod BitResults
+pub mod Behind

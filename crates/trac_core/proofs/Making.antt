@@ -1,12 +1,11 @@
 -- What a function makes of a call, from what the definition says that the call means.
-use Rattle.std.proofs.Common.{◌≡◌, ◌≢◌, ℕ, ◌+◌, Bool, true, false, IsTrue, ◌↔◌, List, [], ◌∷◌, ◌++◌, length, cond, refl, sym, ap, ◌∙◌, Some, arith}
+use Rattle.std.proofs.Common.{◌≡◌, Bool, true, false, IsTrue, ◌↔◌, List, cond, refl, sym, ap, ◌∙◌, Some, arith}
 use Rattle.std.specs.Prelude.{bytes_eq, if◌then◌else◌, ℤ, ◌<ℤ◌, int_lt}
 use Rattle.std.specs.Cmp.Lexicographic.{bytes_decides}
 use Rattle.std.proofs.lemmas.Int.{ints}
 use Rattle.trac_forms.specs.Text.{Text}
 use Rattle.trac_forms.specs.Form.{Form}
 use Rattle.trac_core.specs.declared.function.Function.{Function}
-use Rattle.trac_core.specs.State.{Input}
 use Rattle.trac_core.specs.Meaning.{World, meaning_of, value_length, built}
 use Rattle.trac_core.specs.Calls.{world, Means, Valued}
 

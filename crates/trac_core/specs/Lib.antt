@@ -17,3 +17,4 @@ pub mod Calls
 pub mod Machine
 pub mod Attempts
 pub mod Laws
+pub mod BitResults

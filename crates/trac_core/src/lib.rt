@@ -3,6 +3,7 @@
 
 mod arguments;
 mod arithmetic;
+mod bit_strings;
 mod comparing;
 mod device;
 mod function;

@@ -101,6 +101,16 @@ fn greater_numbers(rt: HostRuntime) -> Result<(), Fail> {
     Ok(())
 }
 
+// The result of the numbers of two texts.
+fn calculated(operation: Arith, a: &[Cell], b: &[Cell]) -> Option<i128>
+    requires left { IsText a.now }
+    requires right { IsText b.now }
+{
+    let left = tail_number(a);
+    let right = tail_number(b);
+    result_of(operation, left.value, right.value)
+}
+
 #[test]
 fn results_of_arithmetic(rt: HostRuntime) -> Result<(), Fail> {
     let rows = [
@@ -186,10 +196,10 @@ fn results_of_arithmetic(rt: HostRuntime) -> Result<(), Fail> {
     ];
     for (operation, a, b, value) in rows {
         assert_eq!(rt;
-            result_of(
+            calculated(
                 operation,
-                tail_number(&cells(&rt, rt.alloc(), a)?).value,
-                tail_number(&cells(&rt, rt.alloc(), b)?).value
+                &cells(&rt, rt.alloc(), a)?,
+                &cells(&rt, rt.alloc(), b)?
             ),
             value,
             "{a} {b}"

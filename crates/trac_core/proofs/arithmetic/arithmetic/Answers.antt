@@ -1,7 +1,5 @@
 use Rattle.std.proofs.Common.{◌≡◌, ◌∷◌, ◌+◌, ◌++◌, false, true, Some, None, sym, ap, ◌∙◌, refl, arith, length}
 use Rattle.std.specs.Fmt.{signed_decimal}
-use Rattle.trac_forms.specs.Text.{Text}
-use Rattle.trac_forms.specs.FlatForms.{text_of_cells}
 use Rattle.trac_forms.specs.Contents.{part_text}
 use Rattle.trac_core.specs.declared.function.Function.TheVariants.{Arithmetic}
 use Rattle.trac_core.specs.Number.{number, prefix, arith as result_of_arith, if_in_range}
