@@ -4,8 +4,9 @@ ghost use Rattle.std.specs.Int.{int_rem_euclid};
 ghost use Rattle.std.specs.Ordering.{nat_cmp};
 ghost use Rattle.std.specs.Str.Parse.{digits_value};
 ghost use Rattle.trac_core.specs.Digits.{IsDecimal};
-ghost use Rattle.trac_core.specs.Number.{arith, before_digits, digits, if_in_range, in_range, number, prefix, value_upto};
+ghost use Rattle.trac_core.specs.Number.{arith, before_digits, digits, exactly, if_in_range, in_range, number, prefix, value_upto};
 ghost use Rattle.trac_core.specs.Cells.{IsText};
+ghost use Rattle.trac_core.specs.declared.values.number.Arith.TheVariants.{Divide};
 ghost use Rattle.trac_forms.specs.FlatForms.{text_of_cells};
 
 use super::text::{character_of, ends_with};
@@ -33,13 +34,27 @@ impl Arith {
             Arith::Add => a.checked_add(b),
             Arith::Subtract => a.checked_sub(b),
             Arith::Multiply => a.checked_mul(b),
-            Arith::Divide => a.checked_div(b),
+            Arith::Divide => quotient(a, b),
         };
         match exact {
             Some(n) => if n == i128::MIN { None } else { Some(n) },
             None => None,
         }
     }
+}
+
+/// The quotient, rounded towards 0; None for a divisor of 0. Numbers that 64 bits hold are divided as such.
+fn quotient(a: i128, b: i128) -> Option<i128>
+    requires left { IsTrue (in_range a) }
+    requires right { IsTrue (in_range b) }
+    ensures { result ≡ exactly Divide a b }
+{
+    if let (Ok(dividend), Ok(divisor)) = (i64::try_from(a), i64::try_from(b)) {
+        if let Some(quotient) = dividend.checked_div(divisor) {
+            return Some(i128::from(quotient));
+        }
+    }
+    a.checked_div(b)
 }
 
 /// The number at the end of a text, as `tail_number` finds it.
@@ -80,8 +95,21 @@ fn split_digits(cells: &[Cell]) -> (&[Cell], &[Cell])
     cells.split_at(digits_start(cells))
 }
 
-/// The number that digits are, None where it is outside the range of arithmetic.
-fn value_of(digits: &[Cell]) -> Option<i128>
+/// The number that at most 19 digits are, which 64 bits hold.
+fn short_value(digits: &[Cell]) -> u64
+    requires digits { IsDecimal digits.now }
+    requires short { length digits.now ≤ 19 }
+    ensures { result ≡ digits_value 10 (text_of_cells digits.now) }
+{
+    let mut value: u64 = 0;
+    for cell in digits {
+        value = value * 10 + u64::from(character_of(cell) - b'0');
+    }
+    value
+}
+
+/// The number that digits are, of any length, None where it is outside the range of arithmetic.
+fn long_value(digits: &[Cell]) -> Option<i128>
     requires { IsDecimal digits.now }
     ensures { result ≡ if_in_range (Some (pos (digits_value 10 (text_of_cells digits.now)))) }
 {
@@ -90,6 +118,18 @@ fn value_of(digits: &[Cell]) -> Option<i128>
         value = with_digit(value, character_of(cell) - b'0');
     }
     value
+}
+
+/// The number that digits are, None where it is outside the range of arithmetic.
+fn value_of(digits: &[Cell]) -> Option<i128>
+    requires { IsDecimal digits.now }
+    ensures { result ≡ if_in_range (Some (pos (digits_value 10 (text_of_cells digits.now)))) }
+{
+    if digits.len() <= 19 {
+        Some(i128::from(short_value(digits)))
+    } else {
+        long_value(digits)
+    }
 }
 
 /// The number turned to the other sign.
