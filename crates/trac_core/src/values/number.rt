@@ -13,7 +13,7 @@ use super::text::{character_of, ends_with};
 use std::cmp::Ordering;
 use trac_forms::Cell;
 
-/// An operation of arithmetic.
+/// An operation of arithmetic: `ad`, `su`, `ml` or `dv`.
 #[derive(Clone, Copy)]
 pub enum Arith {
     Add,
@@ -23,8 +23,9 @@ pub enum Arith {
 }
 
 impl Arith {
-    /// The sum, difference, product or quotient, which is rounded towards 0. None where it is outside the range of
-    /// arithmetic, and for a divisor of 0.
+    /// The sum, difference, product or quotient of two numbers in the range of arithmetic (Mooers 1966). None where it is
+    /// outside that range, from -(2^127 - 1) up to 2^127 - 1, and for a divisor of 0. The range, and that a quotient is rounded
+    /// towards 0, is this processor's own choice.
     pub fn apply(self, a: i128, b: i128) -> Option<i128>
         requires left { IsTrue (in_range a) }
         requires right { IsTrue (in_range b) }
@@ -57,12 +58,12 @@ fn quotient(a: i128, b: i128) -> Option<i128>
     a.checked_div(b)
 }
 
-/// The number at the end of a text, as `tail_number` finds it.
+/// The number at the end of a text, as `tail_number` finds it, and where it begins.
 #[derive(Clone, Copy)]
 pub struct TailNumber {
-    /// The length of the text before the number and its sign.
+    /// The length of the prefix, the text before the number and its sign, in cells.
     pub start: u32,
-    /// The number, or None where it is outside the range of arithmetic.
+    /// The number, or None where it is outside the range of arithmetic, from -(2^127 - 1) up to 2^127 - 1.
     pub value: Option<i128>,
 }
 
@@ -139,7 +140,9 @@ fn negated(value: Option<i128>) -> Option<i128>
     value?.checked_neg()
 }
 
-/// The number at the end of a text, and where its prefix ends.
+/// The number at the end of a text, for arithmetic: the longest suffix of decimal digits, with one `+` or `-` just before it.
+/// Without digits the number is 0 and the whole text is the prefix. That a number stands at the right end behind a prefix is
+/// Mooers' rule of 1966, the rest this processor's own choice.
 pub fn tail_number(cells: &[Cell]) -> TailNumber
     requires { IsText cells.now }
     ensures start { result.start ≡ length (prefix (text_of_cells cells.now)) }
@@ -209,7 +212,8 @@ fn compare_digits(a: &[Cell], b: &[Cell]) -> Ordering
     order
 }
 
-/// Whether the number at the end of a text is greater than that of another, at any length.
+/// Whether the number at the end of a text is greater than that at the end of another: the test of `gr` (Mooers 1966). That
+/// the numbers may have any length is this processor's own choice.
 pub fn greater(a: &[Cell], b: &[Cell]) -> bool
     requires left { IsText a.now }
     requires right { IsText b.now }
