@@ -31,3 +31,7 @@ pub mod Outputs
 pub mod Along
 pub mod Reported
 pub mod Taken
+pub mod Fronts
+pub mod Ranges
+pub mod BitResults
+pub mod Behind

@@ -1,11 +1,11 @@
 -- What a function makes of a call, from what the definition says that the call means.
-use Rattle.std.proofs.Common.{◌≡◌, ◌≢◌, ℕ, ◌+◌, Bool, true, false, IsTrue, ◌↔◌, List, [], ◌∷◌, ◌++◌, length, cond, refl, sym, ap, ◌∙◌, Some}
-use Rattle.std.specs.Prelude.{bytes_eq, if◌then◌else◌}
+use Rattle.std.proofs.Common.{◌≡◌, Bool, true, false, IsTrue, ◌↔◌, List, cond, refl, sym, ap, ◌∙◌, Some, arith}
+use Rattle.std.specs.Prelude.{bytes_eq, if◌then◌else◌, ℤ, ◌<ℤ◌, int_lt}
 use Rattle.std.specs.Cmp.Lexicographic.{bytes_decides}
+use Rattle.std.proofs.lemmas.Int.{ints}
 use Rattle.trac_forms.specs.Text.{Text}
 use Rattle.trac_forms.specs.Form.{Form}
 use Rattle.trac_core.specs.declared.function.Function.{Function}
-use Rattle.trac_core.specs.State.{Input}
 use Rattle.trac_core.specs.Meaning.{World, meaning_of, value_length, built}
 use Rattle.trac_core.specs.Calls.{world, Means, Valued}
 
@@ -27,3 +27,13 @@ same-test false x y tells = go (bytes_eq x y) refl
 pub chosen : (b d : Bool) (u v t : Text) → b ≡ d → (b ≡ true → t ≡ u) → (b ≡ false → t ≡ v) → (if d then u else v) ≡ t
 chosen true d u v t e first second = ap (λ b. cond b u v) (sym e) ∙ sym (first refl)
 chosen false d u v t e first second = ap (λ b. cond b u v) (sym e) ∙ sym (second refl)
+
+-- a test of two numbers is that of the definition
+pub same-order : (b : Bool) (m n : ℤ) → (IsTrue b ↔ (m <ℤ n)) → b ≡ int_lt m n
+same-order b m n tells = go b (int_lt m n) refl tells
+  where
+    go : (b d : Bool) → int_lt m n ≡ d → (IsTrue b ↔ (m <ℤ n)) → b ≡ d
+    go true true e tells = refl
+    go true false e tells = let less : m <ℤ n = tells.0 refl in absurd (omega (arith, ints))
+    go false true e tells = let less : m <ℤ n = omega (arith, ints) in tells.1 less
+    go false false e tells = refl

@@ -20,3 +20,4 @@ pub mod Machine
 pub mod Attempts
 pub mod Taking
 pub mod Laws
+pub mod BitResults

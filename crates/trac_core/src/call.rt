@@ -13,8 +13,11 @@ ghost use Rattle.trac_core.specs.Machine.{input_failures, output_failures};
 ghost use Rattle.trac_core.specs.Attempts.{scene, Tried, TriedCall, IsCall, function_at, delivered, TakesFrom, TakesAtMost};
 
 use crate::arguments::{Arguments, Made, text};
+use crate::arithmetic;
+use crate::bit_strings;
 use crate::comparing;
 use crate::device::{Sink, Source};
+use crate::form_parts;
 use crate::function::{Function, function_named};
 use crate::input_output::{change_meta, halt, print_string, read_character, read_string};
 use crate::machine::Fate;
@@ -196,6 +199,18 @@ fn value_of(work: &mut Work, function: Function, arguments: Arguments) -> Made
 {
     match function {
         Function::Equal => comparing::equal(work, arguments),
+        Function::Greater => comparing::greater(work, arguments),
+        Function::Arithmetic(operation) => arithmetic::arithmetic(work, operation, arguments),
+        Function::Union => bit_strings::union(work, arguments),
+        Function::Intersection => bit_strings::intersection(work, arguments),
+        Function::Complement => bit_strings::complement(work, arguments),
+        Function::Shift => bit_strings::shift(work, arguments),
+        Function::Rotate => bit_strings::rotate(work, arguments),
+        Function::CallSegment => form_parts::call_segment(work, arguments),
+        Function::CallCharacter => form_parts::call_character(work, arguments),
+        Function::CallNumber => form_parts::call_number(work, arguments),
+        Function::InitialPart => form_parts::initial_part(work, arguments),
+        Function::CallRestore => form_parts::call_restore(work, arguments),
         _ => unreachable!(),
     }
 }

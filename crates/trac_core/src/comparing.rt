@@ -1,8 +1,8 @@
-//! The functions that compare: `eq`.
+//! The functions that compare: `eq` and `gr`.
 ghost use Rattle.std.specs.Prelude.{◌≡◌, ◌∷◌};
 ghost use Rattle.trac_forms.specs.Text.{Text};
 ghost use Rattle.trac_forms.specs.Contents.{IsSound};
-ghost use Rattle.trac_core.specs.declared.function.Function.TheVariants.{Equal};
+ghost use Rattle.trac_core.specs.declared.function.Function.TheVariants.{Equal, Greater};
 ghost use Rattle.trac_core.specs.Calls.{AreArguments, texts, Makes};
 
 use crate::arguments::{Arguments, Made, give, text};
@@ -22,6 +22,26 @@ pub(crate) fn equal(work: &mut Work, mut arguments: Arguments) -> Made
     let other = arguments.next(work);
     let value = if values::equal(text(work, first), text(work, second)) {
         same
+    } else {
+        other
+    };
+    give(work, value)
+}
+
+/// `gr,D1,D2,X,Y`: X where the number of D1 is greater than that of D2, else Y (Mooers 1966). That the numbers may have any
+/// length is this processor's own choice.
+pub(crate) fn greater(work: &mut Work, mut arguments: Arguments) -> Made
+    requires { AreArguments work.old arguments }
+    ensures makes { (name : Text) → Makes Greater (name ∷ texts work.old arguments) work.old result work.new }
+    ensures room { work.new.room ≡ work.old.room }
+    ensures sound { IsSound work.new }
+{
+    let first = arguments.next(work);
+    let second = arguments.next(work);
+    let larger = arguments.next(work);
+    let other = arguments.next(work);
+    let value = if values::greater(text(work, first), text(work, second)) {
+        larger
     } else {
         other
     };

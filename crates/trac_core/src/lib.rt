@@ -3,6 +3,8 @@
 
 mod arguments;
 mod call;
+mod arithmetic;
+mod bit_strings;
 mod comparing;
 mod device;
 mod form_parts;
@@ -13,6 +15,7 @@ mod machine;
 mod scan;
 mod transfer;
 pub mod values;
+mod writing;
 
 pub use device::{Next, ReadSource, Sink, SinkFailed, SliceSink, SliceSource, Source, WriteSink};
 pub use machine::{Fate, Machine, Report};

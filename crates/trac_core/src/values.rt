@@ -1,4 +1,8 @@
 //! What the functions of the language make of texts, numbers and bit strings, read from slices of cells.
+//!
+//! Each slice is a text: all of its cells are characters, and it is no longer than a block can be, 16,777,216 cells. A number or
+//! a bit string stands at the right end of its text, behind a prefix. That they do is Mooers' rule of 1966; what exactly counts
+//! as one, and the range of arithmetic, is this processor's own choice.
 
 mod bit_string;
 pub(crate) mod number;
@@ -7,6 +11,10 @@ pub(crate) mod text;
 pub use bit_string::{
     bool_complement, bool_intersection, bool_rotation, bool_shift, bool_union, octal_start,
 };
+pub(crate) use bit_string::{
+    complement_digit, intersection_digit, rotated_digit, shifted_digit, union_digit,
+};
+pub(crate) use number::{Count, result_of, rotation_of, shift_of};
 pub use number::{Arith, TailNumber, greater, tail_number};
 pub use text::equal;
 

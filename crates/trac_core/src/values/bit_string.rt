@@ -37,7 +37,9 @@ pub(crate) fn octal_digits(cells: &[Cell]) -> &[Cell]
     cells.split_at(octal_digits_start(cells)).1
 }
 
-/// Where the bit string at the end of a text begins.
+/// Where the bit string at the end of a text begins, in cells: the length of its prefix. The bit string is the longest suffix of
+/// the digits 0 to 7, of three bits each, the most significant first. That bits are written as octal digits at the right end is
+/// Mooers' rule of 1966, the rest this processor's own choice.
 pub fn octal_start(cells: &[Cell]) -> u32
     requires { IsText cells.now }
     ensures { result ≡ length (octal_prefix (text_of_cells cells.now)) }
@@ -177,7 +179,8 @@ pub(crate) fn rotated_digit(digits: &[Cell], by: u32, k: u32) -> Option<u8>
     Some(octal_digit(first, second, third))
 }
 
-/// The digit at a place of the union of two bit strings.
+/// The union of the bit strings of two texts, for `bu` (Mooers 1966): the character of its octal digit at a place, counted from
+/// 0 at the left, and None past its end. That the shorter is filled with zeros at the left is this processor's own choice.
 pub fn bool_union(a: &[Cell], b: &[Cell], k: u32) -> Option<u8>
     requires left { IsText a.now }
     requires right { IsText b.now }
@@ -186,7 +189,8 @@ pub fn bool_union(a: &[Cell], b: &[Cell], k: u32) -> Option<u8>
     union_digit(octal_digits(a), octal_digits(b), k)
 }
 
-/// The digit at a place of the intersection of two bit strings.
+/// The intersection of the bit strings of two texts, for `bi` (Mooers 1966): the character of its octal digit at a place, counted
+/// from 0 at the left, and None past its end. That the longer is cut at the left is this processor's own choice.
 pub fn bool_intersection(a: &[Cell], b: &[Cell], k: u32) -> Option<u8>
     requires left { IsText a.now }
     requires right { IsText b.now }
@@ -195,7 +199,8 @@ pub fn bool_intersection(a: &[Cell], b: &[Cell], k: u32) -> Option<u8>
     intersection_digit(octal_digits(a), octal_digits(b), k)
 }
 
-/// The digit at a place of the complement of a bit string.
+/// The bit string of a text with each bit turned over, for `bc` (Mooers 1966): the character of its octal digit at a place,
+/// counted from 0 at the left, and None past its end.
 pub fn bool_complement(a: &[Cell], k: u32) -> Option<u8>
     requires { IsText a.now }
     ensures { result ≡ slice_get (octal (complement (bits (text_of_cells a.now)))) k }
@@ -203,7 +208,9 @@ pub fn bool_complement(a: &[Cell], k: u32) -> Option<u8>
     complement_digit(octal_digits(a), k)
 }
 
-/// The digit at a place of a bit string that is shifted by a number of any length, to the left where that is positive.
+/// The bit string of the second text, shifted by as many bits as the number of the first says, to the left where that is positive,
+/// for `bs` (Mooers 1966): the character of its octal digit at a place, counted from 0 at the left, and None past its end. That
+/// zeros come in and the length is kept, and that the number may have any length, is this processor's own choice.
 pub fn bool_shift(d: &[Cell], a: &[Cell], k: u32) -> Option<u8>
     requires distance { IsText d.now }
     requires shifted { IsText a.now }
@@ -212,7 +219,9 @@ pub fn bool_shift(d: &[Cell], a: &[Cell], k: u32) -> Option<u8>
     shifted_digit(octal_digits(a), shift_of(d), k)
 }
 
-/// The digit at a place of a bit string that is rotated by a number of any length, to the left where that is positive.
+/// The bit string of the second text, rotated by as many bits as the number of the first says, to the left where that is positive,
+/// for `br` (Mooers 1966): the character of its octal digit at a place, counted from 0 at the left, and None past its end. That
+/// the length is kept, and that the number may have any length, is this processor's own choice.
 pub fn bool_rotation(d: &[Cell], a: &[Cell], k: u32) -> Option<u8>
     requires distance { IsText d.now }
     requires rotated { IsText a.now }

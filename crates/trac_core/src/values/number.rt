@@ -1,18 +1,19 @@
 //! Numbers at the end of texts.
-ghost use Rattle.std.specs.Prelude.{◌≡◌, ◌↔◌, ℕ, ◌+◌, ◌*◌, ◌%◌, ◌<◌, ◌≤◌, ◌^◌, min, IsTrue, length, int_lt, neg_ℤ, pos, unsigned_abs, ◌<ℤ◌};
+ghost use Rattle.std.specs.Prelude.{◌≡◌, ◌↔◌, ℕ, ℤ, ◌+◌, ◌*◌, ◌%◌, ◌<◌, ◌≤◌, ◌^◌, min, IfSome, IsTrue, length, int_lt, neg_ℤ, pos, unsigned_abs, ◌<ℤ◌};
 ghost use Rattle.std.specs.Int.{int_rem_euclid};
 ghost use Rattle.std.specs.Ordering.{nat_cmp};
 ghost use Rattle.std.specs.Str.Parse.{digits_value};
 ghost use Rattle.trac_core.specs.Digits.{IsDecimal};
-ghost use Rattle.trac_core.specs.Number.{arith, before_digits, digits, if_in_range, in_range, number, prefix, value_upto};
+ghost use Rattle.trac_core.specs.Number.{arith, before_digits, digits, exactly, if_in_range, in_range, number, prefix, value_upto};
 ghost use Rattle.trac_core.specs.Cells.{IsText};
+ghost use Rattle.trac_core.specs.declared.values.number.Arith.TheVariants.{Divide};
 ghost use Rattle.trac_forms.specs.FlatForms.{text_of_cells};
 
 use super::text::{character_of, ends_with};
 use std::cmp::Ordering;
 use trac_forms::Cell;
 
-/// An operation of arithmetic.
+/// An operation of arithmetic: `ad`, `su`, `ml` or `dv`.
 #[derive(Clone, Copy)]
 pub enum Arith {
     Add,
@@ -22,8 +23,9 @@ pub enum Arith {
 }
 
 impl Arith {
-    /// The sum, difference, product or quotient, which is rounded towards 0. None where it is outside the range of
-    /// arithmetic, and for a divisor of 0.
+    /// The sum, difference, product or quotient of two numbers in the range of arithmetic (Mooers 1966). None where it is
+    /// outside that range, from -(2^127 - 1) up to 2^127 - 1, and for a divisor of 0. The range, and that a quotient is rounded
+    /// towards 0, is this processor's own choice.
     pub fn apply(self, a: i128, b: i128) -> Option<i128>
         requires left { IsTrue (in_range a) }
         requires right { IsTrue (in_range b) }
@@ -33,7 +35,7 @@ impl Arith {
             Arith::Add => a.checked_add(b),
             Arith::Subtract => a.checked_sub(b),
             Arith::Multiply => a.checked_mul(b),
-            Arith::Divide => a.checked_div(b),
+            Arith::Divide => quotient(a, b),
         };
         match exact {
             Some(n) => if n == i128::MIN { None } else { Some(n) },
@@ -42,12 +44,26 @@ impl Arith {
     }
 }
 
-/// The number at the end of a text, as `tail_number` finds it.
+/// The quotient, rounded towards 0; None for a divisor of 0. Numbers that 64 bits hold are divided as such.
+fn quotient(a: i128, b: i128) -> Option<i128>
+    requires left { IsTrue (in_range a) }
+    requires right { IsTrue (in_range b) }
+    ensures { result ≡ exactly Divide a b }
+{
+    if let (Ok(dividend), Ok(divisor)) = (i64::try_from(a), i64::try_from(b)) {
+        if let Some(quotient) = dividend.checked_div(divisor) {
+            return Some(i128::from(quotient));
+        }
+    }
+    a.checked_div(b)
+}
+
+/// The number at the end of a text, as `tail_number` finds it, and where it begins.
 #[derive(Clone, Copy)]
 pub struct TailNumber {
-    /// The length of the text before the number and its sign.
+    /// The length of the prefix, the text before the number and its sign, in cells.
     pub start: u32,
-    /// The number, or None where it is outside the range of arithmetic.
+    /// The number, or None where it is outside the range of arithmetic, from -(2^127 - 1) up to 2^127 - 1.
     pub value: Option<i128>,
 }
 
@@ -80,8 +96,21 @@ fn split_digits(cells: &[Cell]) -> (&[Cell], &[Cell])
     cells.split_at(digits_start(cells))
 }
 
-/// The number that digits are, None where it is outside the range of arithmetic.
-fn value_of(digits: &[Cell]) -> Option<i128>
+/// The number that at most 19 digits are, which 64 bits hold.
+fn short_value(digits: &[Cell]) -> u64
+    requires digits { IsDecimal digits.now }
+    requires short { length digits.now ≤ 19 }
+    ensures { result ≡ digits_value 10 (text_of_cells digits.now) }
+{
+    let mut value: u64 = 0;
+    for cell in digits {
+        value = value * 10 + u64::from(character_of(cell) - b'0');
+    }
+    value
+}
+
+/// The number that digits are, of any length, None where it is outside the range of arithmetic.
+fn long_value(digits: &[Cell]) -> Option<i128>
     requires { IsDecimal digits.now }
     ensures { result ≡ if_in_range (Some (pos (digits_value 10 (text_of_cells digits.now)))) }
 {
@@ -92,6 +121,18 @@ fn value_of(digits: &[Cell]) -> Option<i128>
     value
 }
 
+/// The number that digits are, None where it is outside the range of arithmetic.
+fn value_of(digits: &[Cell]) -> Option<i128>
+    requires { IsDecimal digits.now }
+    ensures { result ≡ if_in_range (Some (pos (digits_value 10 (text_of_cells digits.now)))) }
+{
+    if digits.len() <= 19 {
+        Some(i128::from(short_value(digits)))
+    } else {
+        long_value(digits)
+    }
+}
+
 /// The number turned to the other sign.
 fn negated(value: Option<i128>) -> Option<i128>
     ensures { (n : ℕ) → value ≡ if_in_range (Some (pos n)) → result ≡ if_in_range (Some (neg_ℤ (pos n))) }
@@ -99,7 +140,9 @@ fn negated(value: Option<i128>) -> Option<i128>
     value?.checked_neg()
 }
 
-/// The number at the end of a text, and where its prefix ends.
+/// The number at the end of a text, for arithmetic: the longest suffix of decimal digits, with one `+` or `-` just before it.
+/// Without digits the number is 0 and the whole text is the prefix. That a number stands at the right end behind a prefix is
+/// Mooers' rule of 1966, the rest this processor's own choice.
 pub fn tail_number(cells: &[Cell]) -> TailNumber
     requires { IsText cells.now }
     ensures start { result.start ≡ length (prefix (text_of_cells cells.now)) }
@@ -129,14 +172,14 @@ pub fn tail_number(cells: &[Cell]) -> TailNumber
     }
 }
 
-/// What an operation makes of the numbers of two texts. None where one of them or the result is outside the range of
-/// arithmetic, and for a divisor of 0.
-pub(crate) fn arithmetic(operation: Arith, a: &[Cell], b: &[Cell]) -> Option<i128>
-    requires left { IsText a.now }
-    requires right { IsText b.now }
-    ensures { result ≡ arith operation (number (text_of_cells a.now)) (number (text_of_cells b.now)) }
+/// What an operation makes of two numbers. None where one of them or the result is outside the range of arithmetic, and for a
+/// divisor of 0.
+pub(crate) fn result_of(operation: Arith, a: Option<i128>, b: Option<i128>) -> Option<i128>
+    requires left { IfSome a (λ m. IsTrue (in_range m)) }
+    requires right { IfSome b (λ n. IsTrue (in_range n)) }
+    ensures { (m n : ℤ) → a ≡ if_in_range (Some m) → b ≡ if_in_range (Some n) → result ≡ arith operation m n }
 {
-    operation.apply(tail_number(a).value?, tail_number(b).value?)
+    operation.apply(a?, b?)
 }
 
 /// The digit at a place, counted in a number of so many digits that these are the last of; 0 before the first.
@@ -169,7 +212,8 @@ fn compare_digits(a: &[Cell], b: &[Cell]) -> Ordering
     order
 }
 
-/// Whether the number at the end of a text is greater than that of another, at any length.
+/// Whether the number at the end of a text is greater than that at the end of another: the test of `gr` (Mooers 1966). That
+/// the numbers may have any length is this processor's own choice.
 pub fn greater(a: &[Cell], b: &[Cell]) -> bool
     requires left { IsText a.now }
     requires right { IsText b.now }

@@ -1,7 +1,7 @@
 ghost use Rattle.std.specs.Prelude.{◌≡◌, ◌≤◌, IfOk, length};
-ghost use Rattle.trac_forms.specs.FlatForms.{IsText};
+ghost use Rattle.trac_core.specs.Cells.{IsText};
 
-use super::number::{arithmetic, count_of};
+use super::number::{count_of, result_of};
 use super::{
     Arith, bool_complement, bool_intersection, bool_rotation, bool_shift, bool_union, equal,
     greater, octal_start, tail_number,
@@ -101,6 +101,16 @@ fn greater_numbers(rt: HostRuntime) -> Result<(), Fail> {
     Ok(())
 }
 
+// The result of the numbers of two texts.
+fn calculated(operation: Arith, a: &[Cell], b: &[Cell]) -> Option<i128>
+    requires left { IsText a.now }
+    requires right { IsText b.now }
+{
+    let left = tail_number(a);
+    let right = tail_number(b);
+    result_of(operation, left.value, right.value)
+}
+
 #[test]
 fn results_of_arithmetic(rt: HostRuntime) -> Result<(), Fail> {
     let rows = [
@@ -186,7 +196,7 @@ fn results_of_arithmetic(rt: HostRuntime) -> Result<(), Fail> {
     ];
     for (operation, a, b, value) in rows {
         assert_eq!(rt;
-            arithmetic(
+            calculated(
                 operation,
                 &cells(&rt, rt.alloc(), a)?,
                 &cells(&rt, rt.alloc(), b)?
@@ -336,6 +346,49 @@ fn rotations(rt: HostRuntime) -> Result<(), Fail> {
                 "{d} {a} {place}"
             );
         }
+    }
+    Ok(())
+}
+
+// A number of a thousand digits: nines, and a last digit.
+fn thousand(alloc: Global, sign: &str, last: u8) -> Result<String, AllocError> {
+    let mut text = String::new(alloc);
+    text.push_str(sign)?;
+    for _ in 0..999 {
+        text.push('9')?;
+    }
+    text.push(char::from(last))?;
+    Ok(text)
+}
+
+#[test]
+fn greater_numbers_of_a_thousand_digits(rt: HostRuntime) -> Result<(), Fail> {
+    let smaller = cells(&rt, rt.alloc(), &thousand(rt.alloc(), "", b'7')?)?;
+    let larger = cells(&rt, rt.alloc(), &thousand(rt.alloc(), "", b'8')?)?;
+    let negative = cells(&rt, rt.alloc(), &thousand(rt.alloc(), "-", b'8')?)?;
+    assert!(rt; greater(&larger, &smaller));
+    assert!(rt; !greater(&smaller, &larger));
+    assert!(rt; !greater(&larger, &larger));
+    assert!(rt; greater(&smaller, &negative));
+    assert!(rt; !greater(&negative, &negative));
+    Ok(())
+}
+
+#[test]
+fn moved_by_a_hundred_digits(rt: HostRuntime) -> Result<(), Fail> {
+    // 10 to the power 99, which is 1 more than a multiple of 9, and so 1 more than a multiple of 3
+    let mut far = String::new(rt.alloc());
+    far.push('1')?;
+    for _ in 0..99 {
+        far.push('0')?;
+    }
+    let distance = cells(&rt, rt.alloc(), &far)?;
+    let bits = cells(&rt, rt.alloc(), "a421")?;
+    for (place, digit) in [b'0', b'0', b'0'].into_iter().enumerate() {
+        assert_eq!(rt; bool_shift(&distance, &bits, place as u32), Some(digit));
+    }
+    for (place, digit) in [b'0', b'4', b'3'].into_iter().enumerate() {
+        assert_eq!(rt; bool_rotation(&distance, &bits, place as u32), Some(digit));
     }
     Ok(())
 }

@@ -23,7 +23,7 @@ pub(crate) fn ends_with(cells: &[Cell], character: u8) -> bool
     !cells.is_empty() && character_of(&cells[cells.len() - 1]) == character
 }
 
-/// Whether two texts are the same.
+/// Whether two texts are the same, character by character: the test of `eq` (Mooers 1966).
 pub fn equal(a: &[Cell], b: &[Cell]) -> bool
     requires left { IsText a.now }
     requires right { IsText b.now }

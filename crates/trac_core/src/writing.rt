@@ -1,0 +1,18 @@
+//! Characters that are put at the end of the neutral string.
+ghost use Rattle.std.specs.Prelude.{◌≡◌, ◌+◌, ◌≤◌, ◌++◌, length};
+ghost use Rattle.trac_forms.specs.Contents.{used, IsSound};
+ghost use Rattle.trac_forms.specs.FlatForms.{flat_text};
+
+use trac_forms::{Cell, Work};
+
+/// Puts characters at the end of the neutral string, which there are cells for.
+pub(crate) fn put_bytes(work: &mut Work, bytes: &[u8])
+    requires { used work.old + length bytes.now ≤ work.old.room }
+    ensures put { work.new ≡ record work.old { neutral = work.old.neutral ++ flat_text bytes.now } }
+    ensures sound { IsSound work.new }
+{
+    prove!(work.used() <= work.room());
+    for byte in bytes {
+        work.push_neutral(Cell::Byte(*byte));
+    }
+}
