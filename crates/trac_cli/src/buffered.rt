@@ -1,5 +1,6 @@
 //! Buffers of fixed size in front of a reader and behind a writer.
-ghost use Rattle.std.specs.Prelude.{◌≡◌, ◌+◌, ◌≤◌, ◌<◌, [], length, take, true, false, IfOk, OnErr, OnOk};
+ghost use Rattle.std.specs.Prelude.{◌≡◌, ◌+◌, ◌≤◌, ◌<◌, [], length, take, true, false, IfErr, IfOk, OnErr, OnOk};
+ghost use Rattle.std.specs.IoError.{error_kind};
 ghost use Rattle.std.specs.Io.{ReadsAtMost, WritesAtMost};
 ghost use Rattle.std.specs.Io.KnownBytes.{Appends, IsAtEnd, Keeps, ReadConsumes, WriteAppends};
 ghost use Rattle.trac_cli.specs.Buffered.{ahead, behind};
@@ -42,6 +43,7 @@ impl<R: Read> BufferedReader<R> {
         ensures bytes { Keeps (ahead self.old.bytes self.old.start self.old.end (R.remaining self.old.device.reader))
             (ahead self.new.bytes self.new.start self.new.end (R.remaining self.new.device.reader)) }
         ensures failures { Counts self.old.device.failures self.new.device.failures result }
+        ensures kind { IfErr result (λ e. self.new.device.last_failure ≡ Some (error_kind e)) }
         ensures held { self.old.start < self.old.end → (self.new.device ≡ self.old.device) × (self.new.start < self.new.end) }
         ensures end { OnOk result (self.new.start ≡ self.new.end →
             IsAtEnd (R.remaining self.new.device.reader) × (self.new.device.has_ended ≡ true)) }
@@ -65,6 +67,7 @@ impl<R: Read> BufferedReader<R> {
         ensures bytes { ReadConsumes (ahead self.old.bytes self.old.start self.old.end (R.remaining self.old.device.reader))
             (ahead self.new.bytes self.new.start self.new.end (R.remaining self.new.device.reader)) result buf.new }
         ensures failures { Counts self.old.device.failures self.new.device.failures result }
+        ensures kind { IfErr result (λ e. self.new.device.last_failure ≡ Some (error_kind e)) }
         ensures held { self.old.start < self.old.end → self.new.device ≡ self.old.device }
         ensures end { IfOk result (λ n. n ≡ 0 → 0 < length buf.new → self.new.device.has_ended ≡ true) }
     {
@@ -85,6 +88,7 @@ impl<R: Read> Read for BufferedReader<R> {
         ensures bytes { ReadConsumes (ahead self.old.bytes self.old.start self.old.end (R.remaining self.old.device.reader))
             (ahead self.new.bytes self.new.start self.new.end (R.remaining self.new.device.reader)) result buf.new }
         ensures failures { Counts self.old.device.failures self.new.device.failures result }
+        ensures kind { IfErr result (λ e. self.new.device.last_failure ≡ Some (error_kind e)) }
         ensures held { self.old.start < self.old.end → self.new.device ≡ self.old.device }
         ensures end { IfOk result (λ n. n ≡ 0 → 0 < length buf.new → self.new.device.has_ended ≡ true) }
     {
@@ -129,6 +133,7 @@ impl<W: Write> BufferedWriter<W> {
         ensures bytes { Keeps (behind self.old.bytes self.old.start self.old.end (W.contents self.old.device.writer))
             (behind self.new.bytes self.new.start self.new.end (W.contents self.new.device.writer)) }
         ensures failures { Counts self.old.device.failures self.new.device.failures result }
+        ensures kind { IfErr result (λ e. self.new.device.last_failure ≡ Some (error_kind e)) }
         ensures empty { OnOk result ((self.new.start ≡ 0) × (self.new.end ≡ 0)) }
         ensures rest { OnErr result ((self.new.bytes ≡ self.old.bytes) × (self.new.end ≡ self.old.end)
             × (self.old.start ≤ self.new.start) × (self.new.start < self.new.end)) }
@@ -147,6 +152,7 @@ impl<W: Write> BufferedWriter<W> {
         ensures bytes { Keeps (behind self.old.bytes self.old.start self.old.end (W.contents self.old.device.writer))
             (behind self.new.bytes self.new.start self.new.end (W.contents self.new.device.writer)) }
         ensures failures { Counts self.old.device.failures self.new.device.failures result }
+        ensures kind { IfErr result (λ e. self.new.device.last_failure ≡ Some (error_kind e)) }
         ensures same { self.old.end < 8192 → self.new ≡ self.old }
         ensures room { OnOk result (self.new.end < 8192) }
         ensures rest { OnErr result ((self.new.bytes ≡ self.old.bytes) × (self.new.end ≡ self.old.end)
@@ -166,6 +172,7 @@ impl<W: Write> BufferedWriter<W> {
         ensures bytes { WriteAppends (behind self.old.bytes self.old.start self.old.end (W.contents self.old.device.writer))
             (behind self.new.bytes self.new.start self.new.end (W.contents self.new.device.writer)) result buf.now }
         ensures failures { Counts self.old.device.failures self.new.device.failures result }
+        ensures kind { IfErr result (λ e. self.new.device.last_failure ≡ Some (error_kind e)) }
         ensures some { IfOk result (λ n. 0 < length buf.now → 0 < n) }
         ensures room { self.old.end < 8192 → self.new.device ≡ self.old.device }
         ensures rest { OnErr result ((self.new.bytes ≡ self.old.bytes) × (self.new.end ≡ self.old.end)
@@ -186,6 +193,7 @@ fn write_until_failure<W: Write>(bytes: &[u8], to: &mut OutputDevice<W>) -> (usi
     ensures rest { OnErr result.1 (result.0 < length bytes.now) }
     ensures bytes { Appends (W.contents to.old.writer) (W.contents to.new.writer) (take result.0 bytes.now) }
     ensures failures { Counts to.old.failures to.new.failures result.1 }
+    ensures kind { IfErr result.1 (λ e. to.new.last_failure ≡ Some (error_kind e)) }
 {
     let mut written = 0;
     while written < bytes.len() {
@@ -206,6 +214,7 @@ impl<W: Write> Write for BufferedWriter<W> {
         ensures bytes { WriteAppends (behind self.old.bytes self.old.start self.old.end (W.contents self.old.device.writer))
             (behind self.new.bytes self.new.start self.new.end (W.contents self.new.device.writer)) result buf.now }
         ensures failures { Counts self.old.device.failures self.new.device.failures result }
+        ensures kind { IfErr result (λ e. self.new.device.last_failure ≡ Some (error_kind e)) }
         ensures some { IfOk result (λ n. 0 < length buf.now → 0 < n) }
         ensures room { self.old.end < 8192 → self.new.device ≡ self.old.device }
         ensures rest { OnErr result ((self.new.bytes ≡ self.old.bytes) × (self.new.end ≡ self.old.end)
@@ -223,6 +232,7 @@ impl<W: Write> Write for BufferedWriter<W> {
         ensures bytes { Keeps (behind self.old.bytes self.old.start self.old.end (W.contents self.old.device.writer))
             (behind self.new.bytes self.new.start self.new.end (W.contents self.new.device.writer)) }
         ensures failures { Counts self.old.device.failures self.new.device.failures result }
+        ensures kind { IfErr result (λ e. self.new.device.last_failure ≡ Some (error_kind e)) }
         ensures empty { OnOk result ((self.new.start ≡ 0) × (self.new.end ≡ 0)) }
         ensures flushed { OnOk result (self.new.device.is_flushed ≡ true) }
     {

@@ -1,6 +1,7 @@
 //! The devices under the buffers, with the number of their failures. Only what a device answered
 //! raises that number.
-ghost use Rattle.std.specs.Prelude.{◌≡◌, ◌≤◌, ◌<◌, ◌↔◌, length, true, false, IfOk, OnOk};
+ghost use Rattle.std.specs.Prelude.{◌≡◌, ◌≤◌, ◌<◌, ◌↔◌, length, true, false, IfErr, IfOk, OnOk};
+ghost use Rattle.std.specs.IoError.{error_kind};
 ghost use Rattle.std.specs.Io.{ReadsAtMost};
 ghost use Rattle.std.specs.Io.KnownBytes.{Keeps, ReadConsumes, WriteAppends};
 ghost use Rattle.trac_cli.specs.Devices.{Counts};
@@ -8,11 +9,13 @@ ghost use Rattle.trac_cli.specs.Devices.{Counts};
 use std::io;
 use std::io::{Read, Write};
 
-/// A reader, the number of its failed reads, and whether the last read found it ended.
+/// A reader, the number of its failed reads, the kind of the last failure, and whether the last read
+/// found it ended.
 #[derive(Drop)]
 pub struct InputDevice<R> {
     reader: R,
     failures: u64,
+    last_failure: Option<io::ErrorKind>,
     has_ended: bool,
 }
 
@@ -25,6 +28,7 @@ impl<R: Read> InputDevice<R> {
         InputDevice {
             reader,
             failures: 0,
+            last_failure: None,
             has_ended: false,
         }
     }
@@ -35,22 +39,28 @@ impl<R: Read> InputDevice<R> {
         ensures bound { ReadsAtMost result buf.new }
         ensures bytes { ReadConsumes (R.remaining self.old.reader) (R.remaining self.new.reader) result buf.new }
         ensures failures { Counts self.old.failures self.new.failures result }
+        ensures kind { IfErr result (λ e. self.new.last_failure ≡ Some (error_kind e)) }
         ensures end { IfOk result (λ n. (n ≡ 0) ↔ (self.new.has_ended ≡ true)) }
     {
         let answer = self.reader.read(buf);
         match &answer {
             Ok(n) => self.has_ended = *n == 0,
-            Err(_) => self.failures = self.failures.saturating_add(1),
+            Err(error) => {
+                self.failures = self.failures.saturating_add(1);
+                self.last_failure = Some(error.kind());
+            }
         }
         answer
     }
 }
 
-/// A writer, the number of its failed writes and flushes, and whether all that it took is flushed.
+/// A writer, the number of its failed writes and flushes, the kind of the last failure, and whether
+/// all that it took is flushed.
 #[derive(Drop)]
 pub struct OutputDevice<W> {
     writer: W,
     failures: u64,
+    last_failure: Option<io::ErrorKind>,
     is_flushed: bool,
 }
 
@@ -63,6 +73,7 @@ impl<W: Write> OutputDevice<W> {
         OutputDevice {
             writer,
             failures: 0,
+            last_failure: None,
             is_flushed: false,
         }
     }
@@ -73,17 +84,20 @@ impl<W: Write> OutputDevice<W> {
         ensures bound { IfOk result (λ n. (0 < n) × (n ≤ length bytes.now)) }
         ensures bytes { WriteAppends (W.contents self.old.writer) (W.contents self.new.writer) result bytes.now }
         ensures failures { Counts self.old.failures self.new.failures result }
+        ensures kind { IfErr result (λ e. self.new.last_failure ≡ Some (error_kind e)) }
         ensures unflushed { self.new.is_flushed ≡ false }
     {
         self.is_flushed = false;
         match self.writer.write(bytes) {
             Ok(0) => {
                 self.failures = self.failures.saturating_add(1);
+                self.last_failure = Some(io::ErrorKind::WriteZero);
                 Err(io::Error::from(io::ErrorKind::WriteZero))
             }
             Ok(n) => Ok(n),
             Err(error) => {
                 self.failures = self.failures.saturating_add(1);
+                self.last_failure = Some(error.kind());
                 Err(error)
             }
         }
@@ -93,12 +107,16 @@ impl<W: Write> OutputDevice<W> {
     pub fn flush(&mut self) -> io::Result<()>
         ensures bytes { Keeps (W.contents self.old.writer) (W.contents self.new.writer) }
         ensures failures { Counts self.old.failures self.new.failures result }
+        ensures kind { IfErr result (λ e. self.new.last_failure ≡ Some (error_kind e)) }
         ensures flushed { OnOk result (self.new.is_flushed ≡ true) }
     {
         let answer = self.writer.flush();
         match &answer {
             Ok(()) => self.is_flushed = true,
-            Err(_) => self.failures = self.failures.saturating_add(1),
+            Err(error) => {
+                self.failures = self.failures.saturating_add(1);
+                self.last_failure = Some(error.kind());
+            }
         }
         answer
     }
