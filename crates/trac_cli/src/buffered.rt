@@ -1,0 +1,242 @@
+//! Buffers of fixed size in front of a reader and behind a writer.
+ghost use Rattle.std.specs.Prelude.{◌≡◌, ◌+◌, ◌≤◌, ◌<◌, [], length, take, true, false, IfErr, IfOk, OnErr, OnOk};
+ghost use Rattle.std.specs.IoError.{error_kind};
+ghost use Rattle.std.specs.Io.{ReadsAtMost, WritesAtMost};
+ghost use Rattle.std.specs.Io.KnownBytes.{Appends, IsAtEnd, Keeps, ReadConsumes, WriteAppends};
+ghost use Rattle.trac_cli.specs.Buffered.{ahead, behind};
+ghost use Rattle.trac_cli.specs.Devices.{Counts};
+
+use crate::devices::{InputDevice, OutputDevice};
+use std::io;
+use std::io::{Read, Write};
+
+const CAPACITY: usize = 8192;
+
+/// A reader that reads up to 8192 bytes ahead: `bytes[start..end]` is read and not yet given.
+#[derive(Drop)]
+pub struct BufferedReader<R> {
+    device: InputDevice<R>,
+    bytes: [u8; CAPACITY],
+    start: usize,
+    end: usize,
+    ghost ordered: { start ≤ end },
+    ghost in_bounds: { end ≤ 8192 },
+}
+
+impl<R: Read> BufferedReader<R> {
+    /// The reader, with nothing read ahead.
+    pub fn new(reader: R) -> BufferedReader<R>
+        ensures nothing { (result.start ≡ 0) × (result.end ≡ 0) }
+        ensures reader { result.device.reader ≡ reader }
+        ensures fresh { (result.device.failures ≡ 0) × (result.device.has_ended ≡ false) }
+    {
+        BufferedReader {
+            device: InputDevice::new(reader),
+            bytes: [0; CAPACITY],
+            start: 0,
+            end: 0,
+        }
+    }
+
+    // Reads once where nothing is held.
+    fn fill(&mut self) -> io::Result<()>
+        ensures bytes { Keeps (ahead self.old.bytes self.old.start self.old.end (R.remaining self.old.device.reader))
+            (ahead self.new.bytes self.new.start self.new.end (R.remaining self.new.device.reader)) }
+        ensures failures { Counts self.old.device.failures self.new.device.failures result }
+        ensures kind { IfErr result (λ e. self.new.device.last_failure ≡ Some (error_kind e)) }
+        ensures held { self.old.start < self.old.end → (self.new.device ≡ self.old.device) × (self.new.start < self.new.end) }
+        ensures end { OnOk result (self.new.start ≡ self.new.end →
+            IsAtEnd (R.remaining self.new.device.reader) × (self.new.device.has_ended ≡ true)) }
+        ensures err { OnErr result (self.new.start ≡ self.new.end) }
+    {
+        if self.start < self.end {
+            return Ok(());
+        }
+        self.start = 0;
+        self.end = 0;
+        let n = self.device.read(&mut self.bytes)?;
+        self.end = n;
+        Ok(())
+    }
+
+    // Gives some of what is held, after a read where nothing is.
+    #[cold]
+    #[inline(never)]
+    fn read_part(&mut self, buf: &mut [u8]) -> io::Result<usize>
+        ensures bound { ReadsAtMost result buf.new }
+        ensures bytes { ReadConsumes (ahead self.old.bytes self.old.start self.old.end (R.remaining self.old.device.reader))
+            (ahead self.new.bytes self.new.start self.new.end (R.remaining self.new.device.reader)) result buf.new }
+        ensures failures { Counts self.old.device.failures self.new.device.failures result }
+        ensures kind { IfErr result (λ e. self.new.device.last_failure ≡ Some (error_kind e)) }
+        ensures held { self.old.start < self.old.end → self.new.device ≡ self.old.device }
+        ensures end { IfOk result (λ n. n ≡ 0 → 0 < length buf.new → self.new.device.has_ended ≡ true) }
+    {
+        self.fill()?;
+        let n = (self.end - self.start).min(buf.len());
+        buf[..n].copy_from_slice(&self.bytes[self.start..self.start + n]);
+        self.start += n;
+        Ok(n)
+    }
+}
+
+impl<R: Read> Read for BufferedReader<R> {
+    ghost remaining = { λ r. ahead r.bytes r.start r.end (R.remaining r.device.reader) };
+
+    #[inline]
+    fn read(&mut self, buf: &mut [u8]) -> io::Result<usize>
+        ensures bound { ReadsAtMost result buf.new }
+        ensures bytes { ReadConsumes (ahead self.old.bytes self.old.start self.old.end (R.remaining self.old.device.reader))
+            (ahead self.new.bytes self.new.start self.new.end (R.remaining self.new.device.reader)) result buf.new }
+        ensures failures { Counts self.old.device.failures self.new.device.failures result }
+        ensures kind { IfErr result (λ e. self.new.device.last_failure ≡ Some (error_kind e)) }
+        ensures held { self.old.start < self.old.end → self.new.device ≡ self.old.device }
+        ensures end { IfOk result (λ n. n ≡ 0 → 0 < length buf.new → self.new.device.has_ended ≡ true) }
+    {
+        if buf.len() == 1 && self.start < self.end {
+            buf[0] = self.bytes[self.start];
+            self.start += 1;
+            return Ok(1);
+        }
+        self.read_part(buf)
+    }
+}
+
+/// A writer that holds up to 8192 bytes back: `bytes[start..end]` is given and not yet written.
+/// `flush` writes it.
+#[derive(Drop)]
+pub struct BufferedWriter<W> {
+    device: OutputDevice<W>,
+    bytes: [u8; CAPACITY],
+    start: usize,
+    end: usize,
+    ghost ordered: { start ≤ end },
+    ghost in_bounds: { end ≤ 8192 },
+}
+
+impl<W: Write> BufferedWriter<W> {
+    /// The writer, with nothing held back.
+    pub fn new(writer: W) -> BufferedWriter<W>
+        ensures nothing { (result.start ≡ 0) × (result.end ≡ 0) }
+        ensures writer { result.device.writer ≡ writer }
+        ensures fresh { (result.device.failures ≡ 0) × (result.device.is_flushed ≡ false) }
+    {
+        BufferedWriter {
+            device: OutputDevice::new(writer),
+            bytes: [0; CAPACITY],
+            start: 0,
+            end: 0,
+        }
+    }
+
+    // Writes all that waits. After a failure the rest waits on.
+    fn write_out(&mut self) -> io::Result<()>
+        ensures bytes { Keeps (behind self.old.bytes self.old.start self.old.end (W.contents self.old.device.writer))
+            (behind self.new.bytes self.new.start self.new.end (W.contents self.new.device.writer)) }
+        ensures failures { Counts self.old.device.failures self.new.device.failures result }
+        ensures kind { IfErr result (λ e. self.new.device.last_failure ≡ Some (error_kind e)) }
+        ensures empty { OnOk result ((self.new.start ≡ 0) × (self.new.end ≡ 0)) }
+        ensures rest { OnErr result ((self.new.bytes ≡ self.old.bytes) × (self.new.end ≡ self.old.end)
+            × (self.old.start ≤ self.new.start) × (self.new.start < self.new.end)) }
+    {
+        let all = &self.bytes[..];
+        let (written, result) = write_until_failure(&all[self.start..self.end], &mut self.device);
+        self.start += written;
+        result?;
+        self.start = 0;
+        self.end = 0;
+        Ok(())
+    }
+
+    // Writes all that waits, where no byte more can wait.
+    fn make_room(&mut self) -> io::Result<()>
+        ensures bytes { Keeps (behind self.old.bytes self.old.start self.old.end (W.contents self.old.device.writer))
+            (behind self.new.bytes self.new.start self.new.end (W.contents self.new.device.writer)) }
+        ensures failures { Counts self.old.device.failures self.new.device.failures result }
+        ensures kind { IfErr result (λ e. self.new.device.last_failure ≡ Some (error_kind e)) }
+        ensures same { self.old.end < 8192 → self.new ≡ self.old }
+        ensures room { OnOk result (self.new.end < 8192) }
+        ensures rest { OnErr result ((self.new.bytes ≡ self.old.bytes) × (self.new.end ≡ self.old.end)
+            × (self.old.start ≤ self.new.start) × (self.new.start < self.new.end)) }
+    {
+        if self.end < CAPACITY {
+            return Ok(());
+        }
+        self.write_out()
+    }
+
+    // Takes some bytes, once there is room.
+    #[cold]
+    #[inline(never)]
+    fn write_part(&mut self, buf: &[u8]) -> io::Result<usize>
+        ensures bound { WritesAtMost result buf.now }
+        ensures bytes { WriteAppends (behind self.old.bytes self.old.start self.old.end (W.contents self.old.device.writer))
+            (behind self.new.bytes self.new.start self.new.end (W.contents self.new.device.writer)) result buf.now }
+        ensures failures { Counts self.old.device.failures self.new.device.failures result }
+        ensures kind { IfErr result (λ e. self.new.device.last_failure ≡ Some (error_kind e)) }
+        ensures some { IfOk result (λ n. 0 < length buf.now → 0 < n) }
+        ensures room { self.old.end < 8192 → self.new.device ≡ self.old.device }
+        ensures rest { OnErr result ((self.new.bytes ≡ self.old.bytes) × (self.new.end ≡ self.old.end)
+            × (self.old.start ≤ self.new.start) × (self.new.start < self.new.end)) }
+    {
+        self.make_room()?;
+        let n = (CAPACITY - self.end).min(buf.len());
+        self.bytes[self.end..self.end + n].copy_from_slice(&buf[..n]);
+        self.end += n;
+        Ok(n)
+    }
+}
+
+// Writes until all is written or a write fails, and returns how many bytes were written.
+fn write_until_failure<W: Write>(bytes: &[u8], to: &mut OutputDevice<W>) -> (usize, io::Result<()>)
+    ensures bound { result.0 ≤ length bytes.now }
+    ensures all { OnOk result.1 (result.0 ≡ length bytes.now) }
+    ensures rest { OnErr result.1 (result.0 < length bytes.now) }
+    ensures bytes { Appends (W.contents to.old.writer) (W.contents to.new.writer) (take result.0 bytes.now) }
+    ensures failures { Counts to.old.failures to.new.failures result.1 }
+    ensures kind { IfErr result.1 (λ e. to.new.last_failure ≡ Some (error_kind e)) }
+{
+    let mut written = 0;
+    while written < bytes.len() {
+        match to.write(&bytes[written..]) {
+            Ok(n) => written += n,
+            Err(error) => return (written, Err(error)),
+        }
+    }
+    (written, Ok(()))
+}
+
+impl<W: Write> Write for BufferedWriter<W> {
+    ghost contents = { λ w. behind w.bytes w.start w.end (W.contents w.device.writer) };
+
+    #[inline]
+    fn write(&mut self, buf: &[u8]) -> io::Result<usize>
+        ensures bound { WritesAtMost result buf.now }
+        ensures bytes { WriteAppends (behind self.old.bytes self.old.start self.old.end (W.contents self.old.device.writer))
+            (behind self.new.bytes self.new.start self.new.end (W.contents self.new.device.writer)) result buf.now }
+        ensures failures { Counts self.old.device.failures self.new.device.failures result }
+        ensures kind { IfErr result (λ e. self.new.device.last_failure ≡ Some (error_kind e)) }
+        ensures some { IfOk result (λ n. 0 < length buf.now → 0 < n) }
+        ensures room { self.old.end < 8192 → self.new.device ≡ self.old.device }
+        ensures rest { OnErr result ((self.new.bytes ≡ self.old.bytes) × (self.new.end ≡ self.old.end)
+            × (self.old.start ≤ self.new.start) × (self.new.start < self.new.end)) }
+    {
+        if buf.len() == 1 && self.end < CAPACITY {
+            self.bytes[self.end] = buf[0];
+            self.end += 1;
+            return Ok(1);
+        }
+        self.write_part(buf)
+    }
+
+    fn flush(&mut self) -> io::Result<()>
+        ensures bytes { Keeps (behind self.old.bytes self.old.start self.old.end (W.contents self.old.device.writer))
+            (behind self.new.bytes self.new.start self.new.end (W.contents self.new.device.writer)) }
+        ensures failures { Counts self.old.device.failures self.new.device.failures result }
+        ensures kind { IfErr result (λ e. self.new.device.last_failure ≡ Some (error_kind e)) }
+        ensures empty { OnOk result ((self.new.start ≡ 0) × (self.new.end ≡ 0)) }
+        ensures flushed { OnOk result (self.new.device.is_flushed ≡ true) }
+    {
+        self.write_out()?;
+        self.device.flush()
+    }
+}

@@ -1,0 +1,133 @@
+//! The lines on standard error, and the exit status. Both are this processor's own choice.
+ghost use Rattle.std.specs.Prelude.{◌≡◌, ◌+◌, ◌≤◌, ◌++◌, List, ℕ, [], length, take, true, option_map, decimal};
+ghost use Rattle.trac_cli.specs.Lines.{fault_text, is_one_line, memory_text, report_text, status_of};
+
+use crate::settings::Settings;
+use itoa::Buffer;
+use std::marker::Model;
+use trac_core::{Fate, Report};
+
+/// A line of at most 80 bytes, without a line feed.
+#[derive(Drop)]
+pub struct Line {
+    bytes: [u8; 80],
+    len: usize,
+}
+
+impl Model for Line {
+    ghost Value = { List ℕ };
+
+    ghost view = { λ line. take line.len line.bytes };
+
+    ghost invariant = { λ line. (line.len ≤ 80) × (is_one_line (take line.len line.bytes) ≡ true) };
+}
+
+impl Line {
+    fn new() -> Line
+        ensures { result ≡ [] }
+    {
+        Line {
+            bytes: [0; 80],
+            len: 0,
+        }
+    }
+
+    /// The bytes of the line, at most 80, none of them a line feed.
+    pub fn as_bytes(&self) -> &[u8]
+        ensures bytes { result.now ≡ self.now }
+        ensures short { length self.now ≤ 80 }
+        ensures one_line { is_one_line self.now ≡ true }
+    {
+        &self.bytes[..self.len]
+    }
+
+    fn push(&mut self, text: &[u8])
+        requires fits { length self.old + length text.now ≤ 80 }
+        requires one_line { is_one_line text.now ≡ true }
+        ensures bytes { self.new ≡ self.old ++ text.now }
+        ensures long { length self.new ≡ length self.old + length text.now }
+    {
+        let end = self.len + text.len();
+        self.bytes[self.len..end].copy_from_slice(text);
+        self.len = end;
+    }
+
+    fn push_number(&mut self, n: u128)
+        requires small { n ≤ 18446744073709551616 }
+        requires fits { length self.old + 20 ≤ 80 }
+        ensures bytes { self.new ≡ self.old ++ decimal n }
+        ensures long { length self.new ≤ length self.old + 20 }
+    {
+        self.push(Buffer::new().format(n).as_bytes());
+    }
+}
+
+/// The line on a run that did not end well, or `None` where it halted or its input ended. It tells
+/// the cells or the steps of the settings, or the step that was not done: one more than were.
+pub fn fault_line(report: &Report, settings: &Settings) -> Option<Line>
+    ensures { result ≡ fault_text report.now.fate settings.now.cells settings.now.steps report.now.steps }
+{
+    let next = u128::from(report.steps) + 1;
+    let mut line = Line::new();
+    match report.fate {
+        Fate::Halted | Fate::InputEnded => return None,
+        Fate::Workspace => {
+            line.push(b"trac: workspace of ");
+            line.push_number(u128::from(settings.cells));
+            line.push(b" cells full at step ");
+            line.push_number(next);
+        }
+        Fate::Steps => {
+            line.push(b"trac: allowance of ");
+            line.push_number(u128::from(settings.steps));
+            line.push(b" steps used up");
+        }
+        Fate::InputFailed => {
+            line.push(b"trac: input failed at step ");
+            line.push_number(next);
+        }
+        Fate::OutputFailed => {
+            line.push(b"trac: output failed at step ");
+            line.push_number(next);
+        }
+    }
+    Some(line)
+}
+
+/// The line that tells the steps that a run did and its peak in cells, always in the plural.
+pub fn report_line(report: &Report) -> Line
+    ensures { result ≡ report_text report.now.steps report.now.peak }
+{
+    let mut line = Line::new();
+    line.push(b"trac: ");
+    line.push_number(u128::from(report.steps));
+    line.push(b" steps, peak ");
+    line.push_number(u128::from(report.peak));
+    line.push(b" cells");
+    line
+}
+
+/// The line where there is no memory for a workspace of the settings' cells.
+pub fn memory_line(settings: &Settings) -> Line
+    ensures { result ≡ memory_text settings.now.cells }
+{
+    let mut line = Line::new();
+    line.push(b"trac: no memory for ");
+    line.push_number(u128::from(settings.cells));
+    line.push(b" cells");
+    line
+}
+
+/// The exit status of the program after a run: 0 where it halted or its input ended, 1 for a full
+/// workspace, 3 for steps used up, 4 for input and 5 for output that failed.
+pub fn status(report: &Report) -> u8
+    ensures { result ≡ status_of report.now.fate }
+{
+    match report.fate {
+        Fate::Halted | Fate::InputEnded => 0,
+        Fate::Workspace => 1,
+        Fate::Steps => 3,
+        Fate::InputFailed => 4,
+        Fate::OutputFailed => 5,
+    }
+}

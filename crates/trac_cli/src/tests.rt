@@ -1,0 +1,354 @@
+//! What no clause says: the texts, the statuses and the command's answers to words that are written out.
+use crate::buffered::{BufferedReader, BufferedWriter};
+use crate::error_status;
+use crate::lines::{fault_line, memory_line, report_line, status};
+use crate::serve::NoMemory;
+use crate::settings::Settings;
+use crate::words::settings_from;
+use clap::error::ErrorKind;
+use std::alloc::Global;
+use std::io;
+use std::io::{Read, Write};
+use std::process::Abort;
+use std::test::Fail;
+use trac_core::{Fate, Report};
+
+fn words(alloc: Global, texts: &[&str]) -> Result<Vec<String>, Fail> {
+    let mut words = Vec::new(alloc);
+    for text in texts {
+        words.push(String::from_str(alloc, text)?)?;
+    }
+    Ok(words)
+}
+
+#[test]
+fn settings_of_words(rt: HostRuntime) -> Result<(), Fail> {
+    let alloc = rt.alloc();
+    let rows = [
+        (["trac"].as_slice(), 65_536, 1_000_000, false),
+        (["trac", "--cells=18"].as_slice(), 18, 1_000_000, false),
+        (
+            ["trac", "--cells", "18", "--report"].as_slice(),
+            18,
+            1_000_000,
+            true,
+        ),
+        (
+            ["trac", "--steps", "+7", "--cells", "0018"].as_slice(),
+            18,
+            7,
+            false,
+        ),
+        (
+            [
+                "trac",
+                "--cells",
+                "16777216",
+                "--steps",
+                "1000000000000",
+                "--report",
+            ]
+            .as_slice(),
+            16_777_216,
+            1_000_000_000_000,
+            true,
+        ),
+    ];
+    for (texts, cells, steps, report) in rows {
+        let settings = settings_from(alloc, words(alloc, texts)?)?;
+        assert_eq!(rt; settings.cells, cells);
+        assert_eq!(rt; settings.steps, steps);
+        assert_eq!(rt; settings.report, report);
+    }
+    Ok(())
+}
+
+#[test]
+fn refusals_of_words(rt: HostRuntime) -> Result<(), Fail> {
+    let alloc = rt.alloc();
+    let rows = [
+        (
+            ["trac", "--cells", "0"].as_slice(),
+            ErrorKind::ValueValidation,
+            2,
+        ),
+        (
+            ["trac", "--cells", "16777217"].as_slice(),
+            ErrorKind::ValueValidation,
+            2,
+        ),
+        (
+            ["trac", "--steps", "0"].as_slice(),
+            ErrorKind::ValueValidation,
+            2,
+        ),
+        (
+            ["trac", "--steps", "x"].as_slice(),
+            ErrorKind::ValueValidation,
+            2,
+        ),
+        (["trac", "--steps"].as_slice(), ErrorKind::InvalidValue, 2),
+        (["trac", "extra"].as_slice(), ErrorKind::UnknownArgument, 2),
+        (
+            ["trac", "--report", "--report"].as_slice(),
+            ErrorKind::ArgumentConflict,
+            2,
+        ),
+        (["trac", "--help"].as_slice(), ErrorKind::DisplayHelp, 0),
+        (["trac", "-h"].as_slice(), ErrorKind::DisplayHelp, 0),
+    ];
+    for (texts, kind, code) in rows {
+        let error = settings_from(alloc, words(alloc, texts)?)
+            .err()
+            .ok_or("an error")?;
+        assert_eq!(rt; error.kind(), kind);
+        assert_eq!(rt; error_status(error.kind()), code);
+    }
+    Ok(())
+}
+
+#[test]
+fn settings_in_range(rt: HostRuntime) {
+    let none = [(0, 1), (16_777_217, 1), (1, 0), (1, 1_000_000_000_001)];
+    for (cells, steps) in none {
+        assert_eq!(rt; Settings::new(cells, steps, false), None);
+    }
+    for (cells, steps) in [(1, 1), (16_777_216, 1_000_000_000_000)] {
+        assert!(rt; Settings::new(cells, steps, true).is_some());
+    }
+}
+
+#[test]
+fn lines_of_fates(rt: HostRuntime) -> Result<(), Fail> {
+    let settings = Settings::new(18, 19, true).ok_or("settings")?;
+    let rows = [
+        (Fate::Halted, "", 0),
+        (Fate::InputEnded, "", 0),
+        (
+            Fate::Workspace,
+            "trac: workspace of 18 cells full at step 9",
+            1,
+        ),
+        (Fate::Steps, "trac: allowance of 19 steps used up", 3),
+        (Fate::InputFailed, "trac: input failed at step 9", 4),
+        (Fate::OutputFailed, "trac: output failed at step 9", 5),
+    ];
+    for (fate, text, code) in rows {
+        let report = Report {
+            fate,
+            steps: 8,
+            peak: 11,
+        };
+        match fault_line(&report, &settings) {
+            Some(line) => assert!(rt; line.as_bytes() == text.as_bytes(), "at {text}"),
+            None => assert!(rt; text.is_empty()),
+        }
+        assert_eq!(rt; status(&report), code);
+    }
+    Ok(())
+}
+
+#[test]
+fn lines_of_reports(rt: HostRuntime) -> Result<(), Fail> {
+    let settings = Settings::new(65_536, 1, true).ok_or("settings")?;
+    let last = Report {
+        fate: Fate::InputFailed,
+        steps: u64::MAX,
+        peak: 0,
+    };
+    let line = fault_line(&last, &settings).ok_or("a line")?;
+    assert!(rt; line.as_bytes() == b"trac: input failed at step 18446744073709551616".as_slice());
+    assert!(rt; memory_line(&settings).as_bytes() == b"trac: no memory for 65536 cells".as_slice());
+    let short = Report {
+        fate: Fate::InputEnded,
+        steps: 29,
+        peak: 19,
+    };
+    assert!(rt; report_line(&short).as_bytes() == b"trac: 29 steps, peak 19 cells".as_slice());
+    let text = format!(in rt.alloc(); "{NoMemory}")?;
+    assert!(rt; text.as_str() == "no memory for the block");
+    Ok(())
+}
+
+// A reader of a text that gives at most `most` bytes at a read, and fails at the read number
+// `fails_at`.
+#[derive(Drop)]
+struct FakeReader<'a> {
+    rest: &'a [u8],
+    most: usize,
+    reads: u32,
+    fails_at: u32,
+}
+
+impl Read for FakeReader<'_> {
+    fn read(&mut self, buf: &mut [u8]) -> io::Result<usize> {
+        self.reads = self.reads.saturating_add(1);
+        if self.reads == self.fails_at {
+            return Err(io::Error::from(io::ErrorKind::Other));
+        }
+        let n = self.most.min(self.rest.len()).min(buf.len());
+        let (given, rest) = self.rest.split_at(n);
+        buf[..n].copy_from_slice(given);
+        self.rest = rest;
+        Ok(n)
+    }
+}
+
+// The bytes 0, 1, .., 250, 0, 1, ..
+fn pattern(alloc: Global, len: usize) -> Result<Vec<u8>, Fail> {
+    let mut text = Vec::new(alloc);
+    for i in 0..len {
+        text.push((i % 251) as u8)?;
+    }
+    Ok(text)
+}
+
+// A writer that takes at most `most` bytes at a write, and fails at the write number `fails_at`.
+#[derive(Drop)]
+struct FakeWriter<'a> {
+    taken: &'a mut Vec<u8>,
+    most: usize,
+    writes: u32,
+    fails_at: u32,
+}
+
+impl Write for FakeWriter<'_> {
+    fn write(&mut self, buf: &[u8]) -> io::Result<usize> {
+        self.writes = self.writes.saturating_add(1);
+        if self.writes == self.fails_at {
+            return Err(io::Error::from(io::ErrorKind::Other));
+        }
+        let n = self.most.min(buf.len());
+        self.taken.extend_from_slice(&buf[..n])?;
+        Ok(n)
+    }
+
+    fn flush(&mut self) -> io::Result<()> {
+        Ok(())
+    }
+}
+
+// Reads by `size` bytes to the end. A failure must come once, where the reader fails, and lose and
+// double nothing.
+fn reads_all(
+    rt: &impl Abort,
+    alloc: Global,
+    text: &[u8],
+    reader: FakeReader<'_>,
+    size: usize,
+) -> Result<(), Fail> {
+    let fails = u32::from(reader.fails_at > 0);
+    let mut failures = 0u32;
+    let mut buffered = BufferedReader::new(reader);
+    let mut buf = vec![in alloc; 0u8; size]?;
+    let mut seen = Vec::new(alloc);
+    for _ in 0..30_000 {
+        match buffered.read(&mut buf) {
+            Ok(0) => break,
+            Ok(n) => seen.extend_from_slice(&buf[..n])?,
+            Err(_) => failures = failures.saturating_add(1),
+        }
+    }
+    assert!(rt; seen.as_slice() == text);
+    assert_eq!(rt; failures, fails);
+    Ok(())
+}
+
+#[test]
+fn reads_through_the_buffer(rt: HostRuntime) -> Result<(), Fail> {
+    let rows = [
+        (20_000, usize::MAX, 0, 1),
+        (20_000, usize::MAX, 2, 1),
+        (20_000, 5_000, 0, 3_000),
+        (20_000, 8_192, 3, 10_000),
+        (10, 3, 1, 1),
+        (10, 3, 3, 1),
+        (10, 3, 3, 2),
+        (10, 1, 11, 4),
+        (0, 1, 0, 1),
+    ];
+    for (len, most, fails_at, size) in rows {
+        let text = pattern(rt.alloc(), len)?;
+        let reader = FakeReader {
+            rest: &text,
+            most,
+            reads: 0,
+            fails_at,
+        };
+        reads_all(&rt, rt.alloc(), &text, reader, size)?;
+    }
+    Ok(())
+}
+
+// Writes a text by `size` bytes, and flushes. A failure must come once, where the writer fails,
+// and after it all that was given must be written once and in order.
+fn writes_all(
+    rt: &impl Abort,
+    alloc: Global,
+    text: &[u8],
+    size: usize,
+    most: usize,
+    fails_at: u32,
+) -> Result<(), Fail> {
+    let mut taken = Vec::new(alloc);
+    let mut failures = 0u32;
+    let mut buffered = BufferedWriter::new(FakeWriter {
+        taken: &mut taken,
+        most,
+        writes: 0,
+        fails_at,
+    });
+    let mut rest = text;
+    for _ in 0..30_000 {
+        let part = &rest[..size.min(rest.len())];
+        match buffered.write(part) {
+            Ok(n) => rest = &rest[n..],
+            Err(_) => failures = failures.saturating_add(1),
+        }
+    }
+    if buffered.flush().is_err() {
+        failures = failures.saturating_add(1);
+        buffered.flush()?;
+    }
+    assert!(rt; rest.is_empty());
+    assert!(rt; taken.as_slice() == text);
+    assert_eq!(rt; failures, u32::from(fails_at > 0));
+    Ok(())
+}
+
+#[test]
+fn writes_through_the_buffer(rt: HostRuntime) -> Result<(), Fail> {
+    let rows = [
+        (20_000, 1, usize::MAX, 0),
+        (20_000, 1, usize::MAX, 1),
+        (20_000, 1, usize::MAX, 3),
+        (20_000, 1, 5_000, 2),
+        (20_000, 3_000, 5_000, 4),
+        (20_000, 10_000, 8_192, 2),
+        (10, 1, 3, 1),
+        (10, 1, 3, 2),
+        (10, 4, 1, 10),
+        (0, 1, 1, 0),
+    ];
+    for (len, size, most, fails_at) in rows {
+        let text = pattern(rt.alloc(), len)?;
+        writes_all(&rt, rt.alloc(), &text, size, most, fails_at)?;
+    }
+    Ok(())
+}
+
+#[test]
+fn a_write_of_no_byte_is_a_failure(rt: HostRuntime) -> Result<(), Fail> {
+    let mut taken = Vec::new(rt.alloc());
+    let mut buffered = BufferedWriter::new(FakeWriter {
+        taken: &mut taken,
+        most: 0,
+        writes: 0,
+        fails_at: 0,
+    });
+    assert!(rt; buffered.write(b"a").is_ok());
+    assert!(rt; buffered.flush().is_err());
+    assert!(rt; buffered.flush().is_err());
+    assert!(rt; taken.is_empty());
+    Ok(())
+}
