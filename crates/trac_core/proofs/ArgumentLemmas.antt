@@ -296,3 +296,7 @@ pub next-fits : (w : Contents) (a : Arguments) (n : ℕ) → AreArguments w a �
 next-fits w a n are le e =
     let within = are.within in
     omega (arith, e, before_comma-within (slice_range w.neutral a.from a.end), length-range w.neutral a.from a.end are.within)
+
+-- a part has as many characters as cells
+pub part-long : (neutral : List Cell) (a b : ℕ) → IsTextPart neutral a b → length (part_text neutral a b) ≡ b - a
+part-long neutral a b part = length-map (slice_range neutral a b) character_of ∙ length-range neutral a b part.within
