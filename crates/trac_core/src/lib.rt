@@ -5,6 +5,7 @@ mod arguments;
 mod call;
 mod comparing;
 mod device;
+mod form_calls;
 mod function;
 mod input_output;
 pub mod laws;
