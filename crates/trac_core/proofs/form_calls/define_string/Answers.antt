@@ -26,6 +26,6 @@ returns-in-Ok-clause-makes c = λ name.
     (record {
       means = λ meta input. ap (λ forms. silent (world forms meta input)) same;
       builds = λ meta input. cells;
-      fits = let full = c.in-Ok.ensures.full in omega arith;
+      fits = grind (arith, c.in-Ok.ensures.full);
       stands = refl;
     })
