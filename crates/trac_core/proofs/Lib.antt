@@ -22,6 +22,7 @@ pub mod FlatLemmas
 pub mod ArgumentLemmas
 pub mod Making
 pub mod FormLemmas
+pub mod Putting
 pub mod MetaLemmas
 pub mod Scanning
 pub mod Matching

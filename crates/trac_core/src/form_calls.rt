@@ -1,12 +1,16 @@
 //! The functions that make, remove and list forms, and that call a whole form: `ds`, `ss`, `ln`, `dd`, `da`, `cl`.
-ghost use Rattle.std.specs.Prelude.{◌≡◌, List, ◌∷◌};
+ghost use Rattle.std.specs.Prelude.{◌≡◌, ◌↔◌, ◌+◌, ◌<◌, ◌≤◌, List, ◌∷◌, ◌++◌, length, drop, IsTrue, MatchOption};
+ghost use Rattle.std.specs.Bool.{OnTrue};
 ghost use Rattle.trac_forms.specs.Text.{Text};
-ghost use Rattle.trac_forms.specs.Contents.{IsSound};
-ghost use Rattle.trac_core.specs.declared.function.Function.TheVariants.{DefineString, DeleteAll};
+ghost use Rattle.trac_forms.specs.Store.{NoneNamed};
+ghost use Rattle.trac_forms.specs.FlatForms.{flat_text};
+ghost use Rattle.trac_forms.specs.Contents.{used, name_at, part_text, IsTextPart, IsNamedAt, IsSound};
+ghost use Rattle.trac_core.specs.State.{argument};
+ghost use Rattle.trac_core.specs.declared.function.Function.TheVariants.{DefineString, DeleteDefinition, DeleteAll, ListNames};
 ghost use Rattle.trac_core.specs.Calls.{AreArguments, texts, Makes};
 
-use crate::arguments::{Arguments, Made};
-use trac_forms::Work;
+use crate::arguments::{Arguments, Made, put_part};
+use trac_forms::{FormId, Work};
 
 /// `da`: all forms are removed (Mooers 1966).
 pub(crate) fn delete_all(work: &mut Work) -> Made
@@ -34,4 +38,69 @@ pub(crate) fn define_string(work: &mut Work, mut arguments: Arguments) -> Made
         Ok(()) => Made::Defined(cells),
         Err(_) => Made::Full,
     }
+}
+
+/// `ln,X`: for each form, in the order in which they were defined, X and then its name (Mooers 1966; X before each name is
+/// this processor's own choice).
+pub(crate) fn list_names(work: &mut Work, mut arguments: Arguments) -> Made
+    requires { AreArguments work.old arguments }
+    ensures makes { (name : Text) → Makes ListNames (name ∷ texts work.old arguments) work.old result work.new }
+    ensures room { work.new.room ≡ work.old.room }
+    ensures sound { IsSound work.new }
+{
+    let before = arguments.next(work);
+    for k in 0..work.forms() {
+        if let Some(form) = work.form(k) {
+            if !put_name(work, before, form) {
+                return Made::Full;
+            }
+        }
+    }
+    Made::Value
+}
+
+/// Puts a part of the neutral string and then the form's name at its end, if there are cells for both.
+fn put_name(work: &mut Work, before: (u32, u32), form: FormId) -> bool
+    requires part { IsTextPart work.old.neutral before.0 before.1 }
+    requires known { form.0 < length work.old.forms }
+    ensures put { let text = part_text work.old.neutral before.0 before.1 ++ name_at work.old.forms form.0 in
+        IsTrue result ↔ (used work.old + length text ≤ work.old.room) }
+    ensures last { let text = part_text work.old.neutral before.0 before.1 ++ name_at work.old.forms form.0 in
+        OnTrue result (work.new ≡ record work.old { neutral = work.old.neutral ++ flat_text text }) }
+    ensures room { work.new.room ≡ work.old.room }
+    ensures sound { IsSound work.new }
+{
+    if !put_part(work, before) {
+        return false;
+    }
+    work.copy_name(form)
+}
+
+/// `dd,N1,N2,..`: the forms of these names are removed (Mooers 1966). A name that no form has is ignored, and only the
+/// arguments that are written are names (this processor's own choice).
+pub(crate) fn delete_definition(work: &mut Work, mut arguments: Arguments) -> Made
+    requires { AreArguments work.old arguments }
+    ensures makes { (name : Text) → Makes DeleteDefinition (name ∷ texts work.old arguments) work.old result work.new }
+    ensures room { work.new.room ≡ work.old.room }
+    ensures sound { IsSound work.new }
+{
+    while !arguments.is_empty() {
+        if let Some(form) = next_form(work, &mut arguments) {
+            work.delete(form);
+        }
+    }
+    Made::Value
+}
+
+/// The form that the next argument names, None where no form has the name.
+fn next_form(work: &mut Work, arguments: &mut Arguments) -> Option<FormId>
+    requires { AreArguments work.old arguments.old }
+    ensures found { let name = argument (texts work.old arguments.old) 0 in
+        MatchOption result (NoneNamed name work.old.forms) (λ form. IsNamedAt work.old.forms name form.0) }
+    ensures same { work.new ≡ work.old }
+    ensures rest { texts work.old arguments.new ≡ drop 1 (texts work.old arguments.old) }
+    ensures left { AreArguments work.old arguments.new }
+{
+    let name = arguments.next(work);
+    work.find(name.0, name.1)
 }
