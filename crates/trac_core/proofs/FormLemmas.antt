@@ -1,17 +1,24 @@
 -- Lists of forms, and what the functions that change them make of a call.
-use Rattle.std.proofs.Common.{◌≡◌, ◌≢◌, ℕ, zero, suc, ◌+◌, ◌<◌, ◌≤◌, Bool, true, false, List, [], ◌∷◌, ◌++◌, length, slice_range, ◌-◌, refl, sym, ap, ◌∙◌, arith, Some, None}
-use Rattle.std.proofs.lemmas.List.{append-nil, length-map}
+use Rattle.std.proofs.Common.{◌≡◌, ◌≢◌, ℕ, zero, suc, ◌+◌, ◌<◌, ◌≤◌, Bool, true, false, List, [], ◌∷◌, ◌++◌, length, drop, slice_range, subst, ◌-◌, refl, sym, ap, ◌∙◌, arith, Some, None, nat_le}
+use Rattle.std.specs.Prelude.{if◌then◌else◌, flat_map, filter, bytes_eq, not, ◌||◌}
+use Rattle.std.specs.List.{list_any}
+use Rattle.std.proofs.lemmas.List.{append-nil, length-map, drop_more, drop_all}
+use Rattle.std.proofs.lemmas.Slice.Eq.{bytes_eq-Decides}
 use Rattle.std.proofs.lemmas.List.Edits.{length-between}
 use Rattle.trac_space.specs.declared.cell.Cell.{Cell}
+use Rattle.trac_space.specs.declared.cell.Cell.TheVariants.{Byte, Call, Comma, Gap, Head}
 use Rattle.trac_forms.specs.Text.{Text}
 use Rattle.trac_forms.specs.Form.{Form}
-use Rattle.trac_forms.specs.Contents.{Contents, used, IsSound, IsNamedAt, form_at, IsTextPart, part_text}
+use Rattle.trac_forms.specs.Contents.{Contents, used, IsSound, IsNamedAt, form_at, name_at, IsTextPart, part_text}
 use Rattle.trac_forms.specs.FlatForms.{character_of}
-use Rattle.trac_forms.specs.Store.{IsStore, form_named}
-use Rattle.trac_forms.proofs.Stores.{form_named-at}
+use Rattle.trac_forms.specs.Store.{IsStore, NoneNamed, is_named, form_named, without}
+use Rattle.trac_forms.proofs.Stores.{form_named-at, without-none}
 use Rattle.trac_core.specs.declared.function.Function.{Function}
 use Rattle.trac_core.specs.Meaning.{World, meaning_of, built, value_length}
-use Rattle.trac_core.specs.Calls.{Means, IsValue}
+use Rattle.trac_core.specs.State.{argument}
+use Rattle.trac_core.specs.Flat.{texts_of, in_first, with_first}
+use Rattle.trac_core.specs.declared.arguments.Arguments.{Arguments}
+use Rattle.trac_core.specs.Calls.{Means, IsValue, AreArguments, texts, texts_from}
 use Rattle.trac_core.proofs.Making.{valued-of}
 
 -- a null value, of which nothing stands at the end of neutral
@@ -26,3 +33,66 @@ null-value f args old new sound means built_is same =
 -- how many characters a part of neutral has
 pub length-part : (neutral : List Cell) (a b : ℕ) → IsTextPart neutral a b → length (part_text neutral a b) ≡ b - a
 length-part neutral a b part = length-map (slice_range neutral a b) character_of ∙ length-between neutral a b part.within
+
+-- each form's name behind a text
+abbrev pub names : Text → List Form → Text
+names before forms = flat_map (λ form. before ++ form.name) forms
+
+-- the names of the forms from one on begin with its name
+pub names-more : (before : Text) (forms : List Form) (k : ℕ) → k < length forms → names before (drop k forms) ≡ (before ++ name_at forms k) ++ names before (drop (k + 1) forms)
+names-more before forms k within = ap (names before) (drop_more forms k (record { name = []; body = []; pointer = 0 }) within)
+
+pub names-none : (before : Text) (forms : List Form) (k : ℕ) → length forms ≤ k → names before (drop k forms) ≡ []
+names-none before forms k past = ap (names before) (drop_all k forms past)
+
+-- ---- arguments that are left
+
+pub arguments-kept : (w v : Contents) (a : Arguments) → AreArguments w a → IsSound v → v.neutral ≡ w.neutral → AreArguments v a
+arguments-kept w v a are sound same =
+    record { sound = sound; order = are.order; within = rw same are.within; no_call = rw same are.no_call }
+
+texts_from-some : (neutral : List Cell) (from end : ℕ) → from ≤ end → texts_from neutral from end ≡ texts_of (slice_range neutral from end)
+texts_from-some neutral from end le = let yes : nat_le from end ≡ true = grind arith in rw yes refl
+
+texts_of-some : (cells : List Cell) → 0 < length (texts_of cells)
+texts_of-some [] = omega arith
+texts_of-some (cell ∷ cells) = go cell (texts_of cells)
+  where
+    in_first-some : (c : ℕ) (texts : List Text) → 0 < length (in_first c texts)
+    in_first-some c [] = omega arith
+    in_first-some c (text ∷ texts) = omega arith
+
+    go : (cell : Cell) (texts : List Text) → 0 < length (with_first cell texts)
+    go (Byte c) texts = in_first-some c texts
+    go (Call mode k) texts = in_first-some 0 texts
+    go Comma texts = omega arith
+    go (Gap k) texts = in_first-some 0 texts
+    go (Head k) texts = in_first-some 0 texts
+
+first_of_some : (texts : List Text) → 0 < length texts → texts ≡ argument texts 0 ∷ drop 1 texts
+first_of_some [] some = absurd (omega arith)
+first_of_some (text ∷ texts) some = refl
+
+-- an argument that is left is the first of them
+pub some-left : (w : Contents) (a : Arguments) → a.from ≤ a.end → texts w a ≡ argument (texts w a) 0 ∷ drop 1 (texts w a)
+some-left w a le = first_of_some (texts w a) (rw (texts_from-some w.neutral a.from a.end le) (texts_of-some (slice_range w.neutral a.from a.end)))
+
+-- ---- forms without those of some names
+
+abbrev pub unnamed : List Text → List Form → List Form
+unnamed names forms = filter (λ form. not (list_any (bytes_eq form.name) names)) forms
+
+pub unnamed-none : (forms : List Form) → unnamed [] forms ≡ forms
+unnamed-none [] = refl
+unnamed-none (form ∷ forms) = ap (λ fs. form ∷ fs) (unnamed-none forms)
+
+-- that of the first name goes first
+pub unnamed-first : (name : Text) (rest : List Text) (forms : List Form) → IsStore forms → unnamed (name ∷ rest) forms ≡ unnamed rest (without name forms)
+unnamed-first name rest [] h = refl
+unnamed-first name rest (form ∷ forms) h =
+    go (is_named name form) (unnamed-first name rest forms h.2)
+    (λ e. without-none name forms (subst (λ n. NoneNamed n forms) ((bytes_eq-Decides form.name name).0 e) h.1))
+  where
+    go : (b : Bool) → unnamed (name ∷ rest) forms ≡ unnamed rest (without name forms) → (b ≡ true → without name forms ≡ forms) → (if not (b || list_any (bytes_eq form.name) rest) then form ∷ unnamed (name ∷ rest) forms else unnamed (name ∷ rest) forms) ≡ unnamed rest (if b then forms else form ∷ without name forms)
+    go true more alone = more ∙ ap (unnamed rest) (alone refl)
+    go false more alone = ap (λ fs. if not (list_any (bytes_eq form.name) rest) then form ∷ fs else fs) more

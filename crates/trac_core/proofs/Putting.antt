@@ -53,8 +53,14 @@ put-all f args old now whole put valued =
     record {
       valued = rw forms valued;
       fits = omega (arith, used-put old now whole [] put);
-      stands = rw (forms, ← all) put.stands;
+      stands = put.stands ∙ ap (λ text. record old { neutral = old.neutral ++ flat_text text }) all ∙ ap (λ fs. record old { forms = fs; neutral = old.neutral ++ flat_text whole }) (sym forms);
     }
+
+pub forms-kept : (old now : Contents) (whole left : Text) → HasPut old now whole left → now.forms ≡ old.forms
+forms-kept old now whole left put = ap (λ (w : Contents). w.forms) put.stands
+
+pub room-kept : (old now : Contents) (whole left : Text) → HasPut old now whole left → now.room ≡ old.room
+room-kept old now whole left put = ap (λ (w : Contents). w.room) put.stands
 
 -- a part of neutral stays while cells are put behind it
 range-kept : (cells more : List Cell) (a b : ℕ) → a ≤ b → b ≤ length cells → slice_range (cells ++ more) a b ≡ slice_range cells a b
