@@ -73,9 +73,21 @@ first_of_some : (texts : List Text) → 0 < length texts → texts ≡ argument 
 first_of_some [] some = absurd (omega arith)
 first_of_some (text ∷ texts) some = refl
 
--- an argument that is left is the first of them
-pub some-left : (w : Contents) (a : Arguments) → a.from ≤ a.end → texts w a ≡ argument (texts w a) 0 ∷ drop 1 (texts w a)
+some-left : (w : Contents) (a : Arguments) → a.from ≤ a.end → texts w a ≡ argument (texts w a) 0 ∷ drop 1 (texts w a)
 some-left w a le = first_of_some (texts w a) (rw (texts_from-some w.neutral a.from a.end le) (texts_of-some (slice_range w.neutral a.from a.end)))
+
+-- the arguments that are left are the next and those after it
+pub next-left : (w : Contents) (a b : Arguments) → a.from ≤ a.end → texts w b ≡ drop 1 (texts w a) → texts w a ≡ argument (texts w a) 0 ∷ texts w b
+next-left w a b le rest = some-left w a le ∙ ap (λ ts. argument (texts w a) 0 ∷ ts) (sym rest)
+
+pub fewer-left : (w : Contents) (a b : Arguments) → a.from ≤ a.end → texts w b ≡ drop 1 (texts w a) → length (texts w b) < length (texts w a)
+fewer-left w a b le rest = omega (arith, ap length (next-left w a b le rest))
+
+-- ---- contents of which only the forms change
+
+pub only-forms : (old now new : Contents) (forms : List Form) → now ≡ record old { forms = now.forms } → new ≡ record now { forms = forms } → new ≡ record old { forms = new.forms }
+only-forms old now new forms same is =
+    is ∙ ap (λ (w : Contents). record w { forms = forms }) same ∙ ap (λ fs. record old { forms = fs }) (sym (ap (λ (w : Contents). w.forms) is))
 
 -- ---- forms without those of some names
 
