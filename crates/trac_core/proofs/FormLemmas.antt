@@ -1,15 +1,16 @@
 -- Lists of forms, and what the functions that change them make of a call.
-use Rattle.std.proofs.Common.{◌≡◌, ◌≢◌, ℕ, zero, suc, ◌+◌, ◌<◌, ◌≤◌, Bool, true, false, List, [], ◌∷◌, ◌++◌, length, drop, slice_range, subst, ◌-◌, refl, sym, ap, ◌∙◌, arith, Some, None, nat_le}
+use Rattle.std.proofs.Common.{◌≡◌, ◌≢◌, ℕ, zero, suc, ◌+◌, ◌<◌, ◌≤◌, Bool, true, false, List, [], ◌∷◌, ◌++◌, length, drop, set, slice_range, subst, ◌-◌, refl, sym, ap, ◌∙◌, arith, Some, None, nat_le}
 use Rattle.std.specs.Prelude.{if◌then◌else◌, flat_map, filter, bytes_eq, not, ◌||◌}
 use Rattle.std.specs.List.{list_any}
-use Rattle.std.proofs.lemmas.List.{append-nil, length-map, drop_more, drop_all}
+use Rattle.std.proofs.lemmas.List.{append-nil, length-map, drop_more, drop_all, get_or-set_same, set-set, set-get_or}
 use Rattle.std.proofs.lemmas.Slice.Eq.{bytes_eq-Decides}
 use Rattle.std.proofs.lemmas.List.Edits.{length-between}
 use Rattle.trac_space.specs.declared.cell.Cell.{Cell}
 use Rattle.trac_space.specs.declared.cell.Cell.TheVariants.{Byte, Call, Comma, Gap, Head}
 use Rattle.trac_forms.specs.Text.{Text}
 use Rattle.trac_forms.specs.Form.{Form}
-use Rattle.trac_forms.specs.Contents.{Contents, used, IsSound, IsNamedAt, form_at, name_at, IsTextPart, part_text}
+use Rattle.trac_forms.specs.Segment.{segment_by}
+use Rattle.trac_forms.specs.Contents.{Contents, used, IsSound, IsNamedAt, form_at, name_at, body_at, pointer_at, IsTextPart, part_text}
 use Rattle.trac_forms.specs.FlatForms.{character_of}
 use Rattle.trac_forms.specs.Store.{IsStore, NoneNamed, is_named, form_named, without}
 use Rattle.trac_forms.proofs.Stores.{form_named-at, without-none}
@@ -108,3 +109,21 @@ unnamed-first name rest (form ∷ forms) h =
     go : (b : Bool) → unnamed (name ∷ rest) forms ≡ unnamed rest (without name forms) → (b ≡ true → without name forms ≡ forms) → (if not (b || list_any (bytes_eq form.name) rest) then form ∷ unnamed (name ∷ rest) forms else unnamed (name ∷ rest) forms) ≡ unnamed rest (if b then forms else form ∷ without name forms)
     go true more alone = more ∙ ap (unnamed rest) (alone refl)
     go false more alone = ap (λ fs. if not (list_any (bytes_eq form.name) rest) then form ∷ fs else fs) more
+
+-- ---- gaps in a form
+
+-- the forms, the one at a place with gaps for these texts from an ordinal on, and its pointer at the start
+abbrev pub segmented : List Text → ℕ → List Form → ℕ → List Form
+segmented texts ordinal forms k = set forms k (record (form_at forms k) { body = segment_by texts ordinal (body_at forms k); pointer = 0 })
+
+-- the same of a form that was put there
+pub segmented-set : (texts : List Text) (ordinal : ℕ) (forms : List Form) (k : ℕ) (form : Form) → k < length forms → segmented texts ordinal (set forms k form) k ≡ set forms k (record form { body = segment_by texts ordinal form.body; pointer = 0 })
+segmented-set texts ordinal forms k form within =
+    let put : form_at (set forms k form) k ≡ form = get_or-set_same forms k form (record { name = []; body = []; pointer = 0 }) within in
+    ap (λ (f : Form). set (set forms k form) k (record f { body = segment_by texts ordinal f.body; pointer = 0 })) put
+    ∙ set-set forms k form (record form { body = segment_by texts ordinal form.body; pointer = 0 })
+
+-- a form with its pointer at the start has the gaps for no texts
+pub segmented-none : (ordinal : ℕ) (forms : List Form) (k : ℕ) → pointer_at forms k ≡ 0 → segmented [] ordinal forms k ≡ forms
+segmented-none ordinal forms k start =
+    ap (λ p. set forms k (record (form_at forms k) { pointer = p })) (sym start) ∙ set-get_or forms k (record { name = []; body = []; pointer = 0 })

@@ -1,16 +1,18 @@
 //! The functions that make, remove and list forms, and that call a whole form: `ds`, `ss`, `ln`, `dd`, `da`, `cl`.
-ghost use Rattle.std.specs.Prelude.{◌≡◌, ◌↔◌, ◌+◌, ◌<◌, ◌≤◌, List, ◌∷◌, ◌++◌, length, drop, IsTrue, MatchOption};
+ghost use Rattle.std.specs.Prelude.{◌≡◌, ◌↔◌, ◌+◌, ◌<◌, ◌≤◌, List, ◌∷◌, ◌++◌, [], length, drop, true, IsTrue, MatchOption};
 ghost use Rattle.std.specs.Bool.{OnTrue};
 ghost use Rattle.trac_forms.specs.Text.{Text};
+ghost use Rattle.trac_forms.specs.Form.{fill};
+ghost use Rattle.trac_forms.specs.Search.{item_at, gap_at};
 ghost use Rattle.trac_forms.specs.Store.{NoneNamed};
 ghost use Rattle.trac_forms.specs.FlatForms.{flat_text};
-ghost use Rattle.trac_forms.specs.Contents.{used, name_at, part_text, IsTextPart, IsNamedAt, IsSound};
+ghost use Rattle.trac_forms.specs.Contents.{used, name_at, body_at, part_text, IsTextPart, IsNamedAt, IsSound};
 ghost use Rattle.trac_core.specs.State.{argument};
-ghost use Rattle.trac_core.specs.declared.function.Function.TheVariants.{DefineString, DeleteDefinition, DeleteAll, ListNames};
+ghost use Rattle.trac_core.specs.declared.function.Function.TheVariants.{DefineString, SegmentString, DeleteDefinition, DeleteAll, ListNames, CallForm};
 ghost use Rattle.trac_core.specs.Calls.{AreArguments, texts, Makes};
 
 use crate::arguments::{Arguments, Made, put_part};
-use trac_forms::{FormId, Work};
+use trac_forms::{FormId, Item, Work};
 
 /// `da`: all forms are removed (Mooers 1966).
 pub(crate) fn delete_all(work: &mut Work) -> Made
@@ -38,6 +40,28 @@ pub(crate) fn define_string(work: &mut Work, mut arguments: Arguments) -> Made
         Ok(()) => Made::Defined(cells),
         Err(_) => Made::Full,
     }
+}
+
+/// `ss,N,X1,X2,..`: each occurrence of X1 in the form N becomes a gap of ordinal 1, then each occurrence of X2 in what is
+/// left a gap of ordinal 2, and so on (Mooers 1966). The pointer goes to the start, also where no X is given, a null X keeps
+/// its ordinal, and earlier gaps stay (this processor's own choice).
+pub(crate) fn segment_string(work: &mut Work, mut arguments: Arguments) -> Made
+    requires { AreArguments work.old arguments }
+    ensures makes { (name : Text) → Makes SegmentString (name ∷ texts work.old arguments) work.old result work.new }
+    ensures room { work.new.room ≡ work.old.room }
+    ensures sound { IsSound work.new }
+{
+    let Some(form) = next_form(work, &mut arguments) else {
+        return Made::Value;
+    };
+    work.set_pointer(form, 0);
+    let mut ordinal = 0;
+    while !arguments.is_empty() {
+        let part = arguments.next(work);
+        ordinal += 1;
+        work.segment(form, part, ordinal);
+    }
+    Made::Value
 }
 
 /// `ln,X`: for each form, in the order in which they were defined, X and then its name (Mooers 1966; X before each name is
@@ -90,6 +114,70 @@ pub(crate) fn delete_definition(work: &mut Work, mut arguments: Arguments) -> Ma
         }
     }
     Made::Value
+}
+
+/// `cl,N,X1,X2,..`: the form N from its pointer on, each gap of ordinal k replaced by Xk, or by nothing where that is
+/// missing (Mooers 1966). What stands before the pointer is left out, and the pointer stays (this processor's own choice).
+pub(crate) fn call_form(work: &mut Work, mut arguments: Arguments) -> Made
+    requires { AreArguments work.old arguments }
+    ensures makes { (name : Text) → Makes CallForm (name ∷ texts work.old arguments) work.old result work.new }
+    ensures room { work.new.room ≡ work.old.room }
+    ensures sound { IsSound work.new }
+{
+    let Some(form) = next_form(work, &mut arguments) else {
+        return Made::Value;
+    };
+    let mut from = work.pointer(form);
+    while let Some(gap) = work.next_gap(form, from) {
+        if !work.copy_body(form, from, gap) {
+            return Made::Full;
+        }
+        if !fill_gap(work, arguments, form, gap) {
+            return Made::Full;
+        }
+        from = gap + 1;
+    }
+    let end = work.body_len(form);
+    if work.copy_body(form, from, end) {
+        Made::Value
+    } else {
+        Made::Full
+    }
+}
+
+/// Puts the argument of the gap at a place of the form's body at the end of the neutral string, if there are cells for it.
+fn fill_gap(work: &mut Work, arguments: Arguments, form: FormId, gap: u32) -> bool
+    requires arguments { AreArguments work.old arguments }
+    requires known { form.0 < length work.old.forms }
+    requires within { gap < length (body_at work.old.forms form.0) }
+    requires gap { gap_at (body_at work.old.forms form.0) gap ≡ true }
+    ensures put { let text = fill (texts work.old arguments) (item_at (body_at work.old.forms form.0) gap ∷ []) in
+        IsTrue result ↔ (used work.old + length text ≤ work.old.room) }
+    ensures last { let text = fill (texts work.old arguments) (item_at (body_at work.old.forms form.0) gap ∷ []) in
+        OnTrue result (work.new ≡ record work.old { neutral = work.old.neutral ++ flat_text text }) }
+    ensures room { work.new.room ≡ work.old.room }
+    ensures sound { IsSound work.new }
+{
+    match work.item(form, gap) {
+        Item::Gap(ordinal) => {
+            let part = numbered(work, arguments, ordinal);
+            put_part(work, part)
+        }
+        Item::Byte(_) => unreachable!(),
+    }
+}
+
+/// The argument of this number, from 1; a null part where it is missing.
+fn numbered(work: &Work, mut arguments: Arguments, number: u32) -> (u32, u32)
+    requires { AreArguments work.now arguments }
+    ensures part { IsTextPart work.now.neutral result.0 result.1 }
+    ensures text { part_text work.now.neutral result.0 result.1 ≡ argument ([] ∷ texts work.now arguments) number }
+{
+    let mut part = (arguments.end, arguments.end);
+    for _taken in 0..number {
+        part = arguments.next(work);
+    }
+    part
 }
 
 /// The form that the next argument names, None where no form has the name.
