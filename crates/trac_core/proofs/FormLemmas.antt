@@ -1,7 +1,8 @@
 -- Lists of forms, and what the functions that change them make of a call.
-use Rattle.std.proofs.Common.{◌≡◌, ◌≢◌, ℕ, zero, suc, ◌+◌, ◌<◌, ◌≤◌, Bool, true, false, List, [], ◌∷◌, ◌++◌, length, drop, set, slice_range, subst, ◌-◌, refl, sym, ap, ◌∙◌, arith, Some, None, nat_le}
+use Rattle.std.proofs.Common.{◌≡◌, ◌≢◌, ℕ, zero, suc, ◌+◌, ◌<◌, ◌≤◌, Bool, true, false, List, [], ◌∷◌, ◌++◌, length, drop, set, slice_range, subst, ◌-◌, refl, sym, ap, ◌∙◌, arith, Some, None, nat_le, ⊎_elim}
 use Rattle.std.specs.Prelude.{if◌then◌else◌, flat_map, filter, bytes_eq, not, ◌||◌}
 use Rattle.std.specs.List.{list_any}
+use Rattle.std.proofs.lemmas.Bool.{cases_lt}
 use Rattle.std.proofs.lemmas.List.{append-nil, length-map, drop_more, drop_all, get_or-set_same, set-set, set-get_or}
 use Rattle.std.proofs.lemmas.Slice.Eq.{bytes_eq-Decides}
 use Rattle.std.proofs.lemmas.List.Edits.{length-between}
@@ -20,6 +21,7 @@ use Rattle.trac_core.specs.State.{argument}
 use Rattle.trac_core.specs.Flat.{texts_of, in_first, with_first}
 use Rattle.trac_core.specs.declared.arguments.Arguments.{Arguments}
 use Rattle.trac_core.specs.Calls.{Means, IsValue, AreArguments, texts, texts_from}
+use Rattle.trac_core.proofs.ArgumentLemmas.{none-left}
 use Rattle.trac_core.proofs.Making.{valued-of}
 
 -- a null value, of which nothing stands at the end of neutral
@@ -30,6 +32,9 @@ null-value f args old new sound means built_is same =
       fits = let fits = sound.fits in omega arith;
       stands = same ∙ ap (λ cells. record old { forms = new.forms; neutral = cells }) (sym (append-nil old.neutral));
     }
+
+pub unchanged : (f : Function) (args : List Text) (old new : Contents) → IsSound old → Means f args old.forms [] false old.forms → ((w : World) → built (Some f) args w ≡ value_length (meaning_of f args w)) → new ≡ old → IsValue f args old new false []
+unchanged f args old new sound means built_is same = rw same (null-value f args old old sound means built_is refl)
 
 -- how many characters a part of neutral has
 pub length-part : (neutral : List Cell) (a b : ℕ) → IsTextPart neutral a b → length (part_text neutral a b) ≡ b - a
@@ -83,6 +88,33 @@ next-left w a b le rest = some-left w a le ∙ ap (λ ts. argument (texts w a) 0
 
 pub fewer-left : (w : Contents) (a b : Arguments) → a.from ≤ a.end → texts w b ≡ drop 1 (texts w a) → length (texts w b) < length (texts w a)
 fewer-left w a b le rest = omega (arith, ap length (next-left w a b le rest))
+
+-- there are no more arguments than places among the cells
+texts_of-bound : (cells : List Cell) → length (texts_of cells) ≤ suc (length cells)
+texts_of-bound [] = omega arith
+texts_of-bound (cell ∷ cells) = go cell (texts_of cells) (texts_of-bound cells)
+  where
+    in_first-bound : (c : ℕ) (texts : List Text) → length (in_first c texts) ≤ suc (length texts)
+    in_first-bound c [] = omega arith
+    in_first-bound c (text ∷ texts) = omega arith
+
+    go : (cell : Cell) (texts : List Text) → length texts ≤ suc (length cells) → length (with_first cell texts) ≤ suc (suc (length cells))
+    go (Byte c) texts h = omega (arith, in_first-bound c texts)
+    go (Call mode k) texts h = omega (arith, in_first-bound 0 texts)
+    go Comma texts h = omega arith
+    go (Gap k) texts h = omega (arith, in_first-bound 0 texts)
+    go (Head k) texts h = omega (arith, in_first-bound 0 texts)
+
+pub texts-bounded : (w : Contents) (a : Arguments) → AreArguments w a → length (texts w a) ≤ 16777217
+texts-bounded w a are =
+    let fits = are.sound.fits in
+    let bounded = are.sound.bounded in
+    let within = are.within in
+    let cells = slice_range w.neutral a.from a.end in
+    ⊎_elim
+    (λ past. omega (arith, ap length (none-left w a past)))
+    (λ some. omega (arith, ap length (texts_from-some w.neutral a.from a.end some), texts_of-bound cells, length-between w.neutral a.from a.end are.within))
+    (cases_lt a.end a.from)
 
 -- ---- contents of which only the forms change
 

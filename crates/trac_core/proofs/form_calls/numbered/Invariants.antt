@@ -9,7 +9,7 @@ abbrev pub invariant-loop-taken : goal.invariant-loop-taken
 invariant-loop-taken l =
     record {
       left : AreArguments l.work l.arguments;
-      rest : texts l.work l.arguments ≡ drop l.taken (texts l.work l.fn.arguments);
+      rest : texts l.work l.arguments ≡ drop l._taken (texts l.work l.fn.arguments);
       part : IsTextPart l.work.neutral l.part.0 l.part.1;
-      text : part_text l.work.neutral l.part.0 l.part.1 ≡ argument ([] ∷ texts l.work l.fn.arguments) l.taken;
+      text : part_text l.work.neutral l.part.0 l.part.1 ≡ argument ([] ∷ texts l.work l.fn.arguments) l._taken;
     }
