@@ -1,5 +1,6 @@
 -- A value that is put at the end of the neutral string part by part.
-use Rattle.std.proofs.Common.{◌≡◌, ℕ, ◌+◌, ◌-◌, ◌<◌, ◌≤◌, Bool, true, false, List, [], ◌∷◌, ◌++◌, length, take, drop, slice_range, map, refl, sym, ap, ◌∙◌, subst, arith, append_assoc}
+use Rattle.std.proofs.Common.{◌≡◌, ℕ, ◌+◌, ◌-◌, ◌<◌, ◌≤◌, Bool, true, false, List, [], ◌∷◌, ◌++◌, length, take, drop, slice_range, map, refl, sym, ap, ◌∙◌, subst, arith, append_assoc, ⊎_elim}
+use Rattle.std.proofs.lemmas.Bool.{cases_lt}
 use Rattle.std.proofs.lemmas.List.{append-nil, length-map, length-append, map-append, take-append-le, drop-append-le, length-drop}
 use Rattle.trac_space.specs.declared.cell.Cell.{Cell}
 use Rattle.trac_space.specs.declared.cell.Cell.TheVariants.{Byte}
@@ -7,7 +8,8 @@ use Rattle.trac_forms.specs.Text.{Text}
 use Rattle.trac_forms.specs.FlatForms.{flat_text}
 use Rattle.trac_forms.specs.Contents.{Contents, used, IsSound, IsTextPart, part_text}
 use Rattle.trac_core.specs.declared.function.Function.{Function}
-use Rattle.trac_core.specs.Calls.{Valued, IsValue}
+use Rattle.trac_core.specs.declared.arguments.Arguments.{Arguments}
+use Rattle.trac_core.specs.Calls.{Valued, IsValue, AreArguments, texts}
 
 -- of a whole text this much is left, and the rest stands at the end of neutral
 pub record HasPut (old now : Contents) (whole left : Text) : Type 0 where
@@ -63,20 +65,35 @@ pub room-kept : (old now : Contents) (whole left : Text) → HasPut old now whol
 room-kept old now whole left put = ap (λ (w : Contents). w.room) put.stands
 
 -- a part of neutral stays while cells are put behind it
-range-kept : (cells more : List Cell) (a b : ℕ) → a ≤ b → b ≤ length cells → slice_range (cells ++ more) a b ≡ slice_range cells a b
-range-kept cells more a b order within =
+range-kept : (cells more : List Cell) (a b : ℕ) → b ≤ length cells → slice_range (cells ++ more) a b ≡ slice_range cells a b
+range-kept cells more a b within =
+    ⊎_elim
+    (λ past. let none : b - a ≡ 0 = omega arith in rw none refl)
+    (λ order.
     let first : a ≤ length cells = omega arith in
-    ap (take (b - a)) (drop-append-le a cells more first) ∙ take-append-le (b - a) (drop a cells) more (omega (arith, length-drop a cells))
+    ap (take (b - a)) (drop-append-le a cells more first) ∙ take-append-le (b - a) (drop a cells) more (omega (arith, length-drop a cells)))
+    (cases_lt b a)
 
-module _ (old now : Contents) (whole left : Text) (put : HasPut old now whole left) (a b : ℕ) (part : IsTextPart old.neutral a b) where
-  kept : slice_range now.neutral a b ≡ slice_range old.neutral a b
-  kept = ap (λ (w : Contents). slice_range w.neutral a b) put.stands ∙ range-kept old.neutral (flat_text put.done) a b part.order part.within
+module _ (old now : Contents) (whole left : Text) (put : HasPut old now whole left) where
+  kept : (a b : ℕ) → b ≤ length old.neutral → slice_range now.neutral a b ≡ slice_range old.neutral a b
+  kept a b within = ap (λ (w : Contents). slice_range w.neutral a b) put.stands ∙ range-kept old.neutral (flat_text put.done) a b within
 
-  pub part-kept : IsTextPart now.neutral a b
-  part-kept =
-      let long = ap (λ (w : Contents). length w.neutral) put.stands ∙ length-append old.neutral (flat_text put.done) in
+  longer : length old.neutral ≤ length now.neutral
+  longer = omega (arith, ap (λ (w : Contents). length w.neutral) put.stands, length-append old.neutral (flat_text put.done))
+
+  pub part-kept : (a b : ℕ) → IsTextPart old.neutral a b → IsTextPart now.neutral a b
+  part-kept a b part =
       let within = part.within in
-      record { order = part.order; within = omega (arith, long); bytes = rw kept part.bytes }
+      record { order = part.order; within = omega (arith, longer); bytes = rw (kept a b part.within) part.bytes }
 
-  pub text-kept : part_text now.neutral a b ≡ part_text old.neutral a b
-  text-kept = rw kept refl
+  pub text-kept : (a b : ℕ) → IsTextPart old.neutral a b → part_text now.neutral a b ≡ part_text old.neutral a b
+  text-kept a b part = rw (kept a b part.within) refl
+
+  -- and so do the arguments of a call
+  pub arguments-put : (a : Arguments) → AreArguments old a → AreArguments now a
+  arguments-put a are =
+      let within = are.within in
+      record { sound = put.sound; order = are.order; within = omega (arith, longer); no_call = rw (kept a.from a.end are.within) are.no_call }
+
+  pub texts-put : (a : Arguments) → AreArguments old a → texts now a ≡ texts old a
+  texts-put a are = rw (kept a.from a.end are.within) refl
