@@ -1,5 +1,5 @@
 -- Lists of forms, and what the functions that change them make of a call.
-use Rattle.std.proofs.Common.{◌≡◌, ◌≢◌, ℕ, zero, suc, ◌+◌, ◌<◌, ◌≤◌, Bool, true, false, List, [], ◌∷◌, ◌++◌, length, drop, set, slice_range, subst, ◌-◌, refl, sym, ap, ◌∙◌, arith, Some, None, nat_le, ⊎_elim}
+use Rattle.std.proofs.Common.{◌≡◌, ℕ, suc, ◌+◌, ◌<◌, ◌≤◌, Bool, true, false, List, [], ◌∷◌, ◌++◌, length, drop, set, slice_range, subst, ◌-◌, refl, sym, ap, ◌∙◌, arith, Some, nat_le, ⊎_elim}
 use Rattle.std.specs.Prelude.{if◌then◌else◌, flat_map, filter, bytes_eq, not, ◌||◌}
 use Rattle.std.specs.List.{list_any}
 use Rattle.std.proofs.lemmas.Bool.{cases_lt}
@@ -11,10 +11,10 @@ use Rattle.trac_space.specs.declared.cell.Cell.TheVariants.{Byte, Call, Comma, G
 use Rattle.trac_forms.specs.Text.{Text}
 use Rattle.trac_forms.specs.Form.{Form}
 use Rattle.trac_forms.specs.Segment.{segment_by}
-use Rattle.trac_forms.specs.Contents.{Contents, used, IsSound, IsNamedAt, form_at, name_at, body_at, pointer_at, IsTextPart, part_text}
+use Rattle.trac_forms.specs.Contents.{Contents, IsSound, form_at, name_at, body_at, pointer_at, IsTextPart, part_text}
 use Rattle.trac_forms.specs.FlatForms.{character_of}
-use Rattle.trac_forms.specs.Store.{IsStore, NoneNamed, is_named, form_named, without}
-use Rattle.trac_forms.proofs.Stores.{form_named-at, without-none}
+use Rattle.trac_forms.specs.Store.{IsStore, NoneNamed, is_named, without}
+use Rattle.trac_forms.proofs.Stores.{without-none}
 use Rattle.trac_core.specs.declared.function.Function.{Function}
 use Rattle.trac_core.specs.Meaning.{World, meaning_of, built, value_length}
 use Rattle.trac_core.specs.State.{argument}

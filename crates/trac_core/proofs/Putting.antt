@@ -1,5 +1,5 @@
 -- A value that is put at the end of the neutral string part by part.
-use Rattle.std.proofs.Common.{◌≡◌, ℕ, ◌+◌, ◌-◌, ◌<◌, ◌≤◌, Bool, true, false, List, [], ◌∷◌, ◌++◌, length, take, drop, slice_range, map, refl, sym, ap, ◌∙◌, subst, arith, append_assoc, ⊎_elim}
+use Rattle.std.proofs.Common.{◌≡◌, ℕ, ◌+◌, ◌-◌, ◌<◌, ◌≤◌, false, List, [], ◌++◌, length, take, drop, slice_range, refl, sym, ap, ◌∙◌, arith, append_assoc, ⊎_elim}
 use Rattle.std.proofs.lemmas.Bool.{cases_lt}
 use Rattle.std.proofs.lemmas.List.{append-nil, length-map, length-append, map-append, take-append-le, drop-append-le, length-drop}
 use Rattle.trac_space.specs.declared.cell.Cell.{Cell}
@@ -60,9 +60,6 @@ put-all f args old now whole put valued =
 
 pub forms-kept : (old now : Contents) (whole left : Text) → HasPut old now whole left → now.forms ≡ old.forms
 forms-kept old now whole left put = ap (λ (w : Contents). w.forms) put.stands
-
-pub room-kept : (old now : Contents) (whole left : Text) → HasPut old now whole left → now.room ≡ old.room
-room-kept old now whole left put = ap (λ (w : Contents). w.room) put.stands
 
 -- a part of neutral stays while cells are put behind it
 range-kept : (cells more : List Cell) (a b : ℕ) → b ≤ length cells → slice_range (cells ++ more) a b ≡ slice_range cells a b

@@ -42,9 +42,9 @@ pub(crate) fn define_string(work: &mut Work, mut arguments: Arguments) -> Made
     }
 }
 
-/// `ss,N,X1,X2,..`: each occurrence of X1 in the form N becomes a gap of ordinal 1, then each occurrence of X2 in what is
-/// left a gap of ordinal 2, and so on (Mooers 1966). The pointer goes to the start, also where no X is given, a null X keeps
-/// its ordinal, and earlier gaps stay (this processor's own choice).
+/// `ss,N,X1,X2,..`: each occurrence of X1 in the form N, from the left, becomes a gap of ordinal 1, then each occurrence of
+/// X2 in what is left a gap of ordinal 2, and so on (Mooers 1966). The pointer goes to the start, also where no X is given, a
+/// null X keeps its ordinal, and earlier gaps stay (this processor's own choice).
 pub(crate) fn segment_string(work: &mut Work, mut arguments: Arguments) -> Made
     requires { AreArguments work.old arguments }
     ensures makes { (name : Text) → Makes SegmentString (name ∷ texts work.old arguments) work.old result work.new }

@@ -15,7 +15,7 @@ use Rattle.trac_core.specs.Calls.{world, texts, AreArguments, Means}
 use Rattle.trac_core.proofs.Making.{valued-of}
 use Rattle.trac_core.proofs.FormLemmas.{unchanged}
 use Rattle.trac_core.proofs.Filling.{fill-run, length-run, fill-gap, fill-all}
-use Rattle.trac_core.proofs.Putting.{HasPut, put-none, put-more, put-full, put-all, forms-kept, arguments-put, texts-put}
+use Rattle.trac_core.proofs.Putting.{HasPut, put-more, put-full, put-all, forms-kept, arguments-put, texts-put}
 use Rattle.trac_core.proofs.form_calls.call_form.Goals as goal
 
 -- the items from a place on are left

@@ -1,8 +1,7 @@
-use Rattle.std.proofs.Common.{◌≡◌, ◌+◌, ◌-◌, ◌∷◌, length, refl, ap, sym, ◌∙◌, arith}
+use Rattle.std.proofs.Common.{◌≡◌, ◌+◌, ◌-◌, length, refl, ap, ◌∙◌, arith}
 use Rattle.trac_forms.specs.Store.{defined}
 use Rattle.trac_forms.specs.Contents.{part_text}
 use Rattle.trac_core.specs.State.{argument}
-use Rattle.trac_core.specs.declared.function.Function.TheVariants.{DefineString}
 use Rattle.trac_core.specs.Meaning.{meaning_of, silent}
 use Rattle.trac_core.specs.Calls.{world, texts}
 use Rattle.trac_core.proofs.FormLemmas.{length-part}

@@ -1,9 +1,8 @@
-use Rattle.std.proofs.Common.{◌≡◌, ℕ, ◌+◌, ◌<◌, ◌≤◌, ◌∷◌, [], List, length, drop, refl, sym, ap, ◌∙◌, arith}
+use Rattle.std.proofs.Common.{◌≡◌, ℕ, ◌<◌, ◌≤◌, ◌∷◌, [], List, length, drop, refl, sym, ap, ◌∙◌, arith}
 use Rattle.std.specs.List.{remove}
-use Rattle.trac_forms.specs.Text.{Text}
 use Rattle.trac_forms.specs.Form.{Form}
-use Rattle.trac_forms.specs.Store.{IsStore, NoneNamed, without}
-use Rattle.trac_forms.specs.Contents.{Contents, IsNamedAt, IsSound}
+use Rattle.trac_forms.specs.Store.{without}
+use Rattle.trac_forms.specs.Contents.{Contents}
 use Rattle.trac_forms.proofs.Stores.{without-at, without-none}
 use Rattle.trac_core.specs.State.{Input, argument}
 use Rattle.trac_core.specs.declared.arguments.Arguments.{Arguments}

@@ -1,5 +1,4 @@
-use Rattle.std.proofs.Common.{◌≡◌, ℕ, ◌+◌, ◌<◌, ◌++◌, ◌∷◌, [], length, drop, refl, sym, ap, ◌∙◌, arith, rules, false}
-use Rattle.trac_forms.specs.Text.{Text}
+use Rattle.std.proofs.Common.{◌≡◌, ℕ, ◌+◌, ◌<◌, ◌++◌, ◌∷◌, [], length, drop, refl, sym, ap, ◌∙◌, arith, false}
 use Rattle.trac_forms.specs.FlatForms.{flat_text}
 use Rattle.trac_forms.specs.Contents.{Contents, used, name_at, part_text, IsTextPart, IsSound}
 use Rattle.trac_core.specs.declared.function.Function.TheVariants.{ListNames}
@@ -8,7 +7,7 @@ use Rattle.trac_core.specs.Meaning.{meaning_of, valued}
 use Rattle.trac_core.specs.Calls.{world, texts}
 use Rattle.trac_core.proofs.Making.{valued-of}
 use Rattle.trac_core.proofs.FormLemmas.{names, names-more, names-none}
-use Rattle.trac_core.proofs.Putting.{HasPut, put-none, put-more, put-full, put-all, forms-kept, room-kept, part-kept, text-kept}
+use Rattle.trac_core.proofs.Putting.{HasPut, put-none, put-more, put-full, put-all, forms-kept, part-kept, text-kept}
 use Rattle.trac_core.proofs.form_calls.list_names.Goals as goal
 use Rattle.trac_core.proofs.form_calls.list_names.Goals.{in-Some+else-not-put_name, in_default}
 
@@ -44,13 +43,13 @@ loop-k-preserved c =
     let same = ap (λ (v : Contents). length v.forms) c.form.ensures.same in
     elim c.match-form.branch [
       | in-Some+else-not-put_name w ↦
-        let at = w.in-Some.ensures.at in
-        rw w.work-is (next old now a b k w.in-Some.form.0 put c.next-before.ensures.part (omega (arith, at.1, count, same)) at.0 w.put_name.new.work w.if-not-put_name.ensures.last w.put_name.ensures.sound)
+          let at = w.in-Some.ensures.at in
+          rw w.work-is (next old now a b k w.in-Some.form.0 put c.next-before.ensures.part (omega (arith, at.1, count, same)) at.0 w.put_name.new.work w.if-not-put_name.ensures.last w.put_name.ensures.sound)
       | in_default w ↦
-        let past = w.in_default.ensures.at in
-        let test = c.loop-k-test.true in
-        let all = c.forms-k-end.ensures.value in
-        absurd (omega (arith, past, count, same, test, all))
+          let past = w.in_default.ensures.at in
+          let test = c.loop-k-test.true in
+          let all = c.forms-k-end.ensures.value in
+          absurd (omega (arith, past, count, same, test, all))
     ]
 
 pub returns-then-not-put_name-clause-makes : goal.returns-then-not-put_name-clause-makes

@@ -7,7 +7,6 @@ use Rattle.trac_forms.specs.Store.{changed}
 use Rattle.trac_forms.specs.Contents.{Contents, form_at, body_at, pointer_at, part_text}
 use Rattle.trac_forms.proofs.Stores.{form_named-at, form_named-none, changed-at}
 use Rattle.trac_core.specs.State.{argument}
-use Rattle.trac_core.specs.declared.arguments.Arguments.{Arguments}
 use Rattle.trac_core.specs.declared.function.Function.TheVariants.{SegmentString}
 use Rattle.trac_core.specs.Meaning.{meaning_of, silent}
 use Rattle.trac_core.specs.Calls.{world, texts, texts_from}
