@@ -21,6 +21,9 @@ pub mod Counted
 pub mod FlatLemmas
 pub mod ArgumentLemmas
 pub mod Making
+pub mod FormLemmas
+pub mod Putting
+pub mod Filling
 pub mod MetaLemmas
 pub mod Scanning
 pub mod Matching

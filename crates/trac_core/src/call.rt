@@ -17,6 +17,7 @@ use crate::arithmetic;
 use crate::bit_strings;
 use crate::comparing;
 use crate::device::{Sink, Source};
+use crate::form_calls;
 use crate::form_parts;
 use crate::function::{Function, function_named};
 use crate::input_output::{change_meta, halt, print_string, read_character, read_string};
@@ -211,7 +212,18 @@ fn value_of(work: &mut Work, function: Function, arguments: Arguments) -> Made
         Function::CallNumber => form_parts::call_number(work, arguments),
         Function::InitialPart => form_parts::initial_part(work, arguments),
         Function::CallRestore => form_parts::call_restore(work, arguments),
-        _ => unreachable!(),
+        Function::DefineString => form_calls::define_string(work, arguments),
+        Function::SegmentString => form_calls::segment_string(work, arguments),
+        Function::CallForm => form_calls::call_form(work, arguments),
+        Function::DeleteDefinition => form_calls::delete_definition(work, arguments),
+        Function::DeleteAll => form_calls::delete_all(work),
+        Function::ListNames => form_calls::list_names(work, arguments),
+        Function::ReadString
+        | Function::ReadCharacter
+        | Function::PrintString
+        | Function::PrintForm
+        | Function::ChangeMeta
+        | Function::Halt => unreachable!(),
     }
 }
 
