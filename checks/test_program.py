@@ -1,0 +1,126 @@
+"""The program end to end: texts, statuses, devices that fail, and memory that is refused."""
+import os
+import resource
+import subprocess
+import tempfile
+import unittest
+
+from trac import LAUNCHER, PROGRAM, run
+
+HELLO = "#(ps,hello)'"
+LOOP = "#(ds,L,(#(cl,L)))#(cl,L)'"
+DISPLAYED = "#(ds,F,abcab)#(ss,F,b)#(cc,F)#(pf,F)'"
+
+ROWS = [
+    # script, words, output, lines, status
+    ('', '--report', '', 'trac: 9 steps, peak 11 cells\n', 0),
+    ('', '--cells 11 --report', '', 'trac: 9 steps, peak 11 cells\n', 0),
+    ('', '--cells 10', '', 'trac: workspace of 10 cells full at step 1\n', 1),
+    (HELLO, '', 'hello', '', 0),
+    (HELLO, '--report', 'hello', 'trac: 29 steps, peak 19 cells\n', 0),
+    (HELLO + '\n', '--report', 'hello', 'trac: 40 steps, peak 19 cells\n', 0),
+    (HELLO, '--cells 19 --steps 29', 'hello', '', 0),
+    (HELLO, '--cells 18', '', 'trac: workspace of 18 cells full at step 9\n', 1),
+    (HELLO, '--cells=18 --report', '', 'trac: 8 steps, peak 11 cells\ntrac: workspace of 18 cells full at step 9\n', 1),
+    (HELLO, '--steps 18', '', 'trac: allowance of 18 steps used up\n', 3),
+    (HELLO, '--steps 19', 'hello', 'trac: allowance of 19 steps used up\n', 3),
+    (HELLO, '--steps 28', 'hello', 'trac: allowance of 28 steps used up\n', 3),
+    (LOOP, '--steps 1000 --report', '', 'trac: 1000 steps, peak 36 cells\ntrac: allowance of 1000 steps used up\n', 3),
+    ("#(hl)'", '--report', '', 'trac: 13 steps, peak 13 cells\n', 0),
+    ("#(ds,A,b)'", '--report', '', 'trac: 27 steps, peak 17 cells\n', 0),
+    ("#(ds,A,b)'", '--cells 16', '', 'trac: workspace of 16 cells full at step 9\n', 1),
+    ("#(ds,A,b)'" * 3, '--cells 22 --report', '', 'trac: 63 steps, peak 22 cells\n', 0),
+    (b"\xff\x00'", '', b'\xff\x00', '', 0),
+    ('abc', '--report', 'abc', 'trac: 22 steps, peak 11 cells\n', 0),
+]
+
+REFUSED = ['--cells 0', '--cells 16777217', '--cells x', '--steps 0', '--steps x', '--steps 1000000000001',
+           'extra', '--cells', '--unknown', '--cells 1 --cells 2']
+
+
+class Program(unittest.TestCase):
+    def test_rows(self):
+        for script, words, output, lines, status in ROWS:
+            with self.subTest(script=script, words=words):
+                wanted = output if isinstance(output, bytes) else output.encode()
+                self.assertEqual(run(script, *words.split()), (wanted, lines, status))
+
+    def test_the_launcher_passes_words_devices_and_status(self):
+        done = subprocess.run([LAUNCHER, '--cells', '18', '--report'], input=HELLO.encode(), capture_output=True)
+        self.assertEqual(done.stdout, b'')
+        self.assertEqual(done.stderr, b'trac: 8 steps, peak 11 cells\ntrac: workspace of 18 cells full at step 9\n')
+        self.assertEqual(done.returncode, 1)
+
+    def test_words_that_are_refused(self):
+        for words in REFUSED:
+            with self.subTest(words=words):
+                output, lines, status = run(HELLO, *words.split())
+                self.assertEqual((output, status), (b'', 2))
+                self.assertTrue(lines.startswith('error: '), lines)
+
+    def test_words_that_are_not_utf_8(self):
+        output, lines, status = run(HELLO, b'--cells=\xff')
+        self.assertEqual((output, status), (b'', 2))
+        self.assertTrue(lines.startswith('error: '), lines)
+
+    def test_help(self):
+        for word in ['--help', '-h']:
+            output, lines, status = run(HELLO, word)
+            self.assertEqual((lines, status), ('', 0))
+            self.assertIn(b'--cells <N>', output)
+
+
+class Devices(unittest.TestCase):
+    def test_a_full_disk(self):
+        with open('/dev/full', 'wb') as full:
+            done = subprocess.run([PROGRAM], input=HELLO.encode(), stdout=full, stderr=subprocess.PIPE)
+        self.assertEqual(done.stderr, b'trac: output failed at step 19\n')
+        self.assertEqual(done.returncode, 5)
+
+    def test_a_closed_pipe(self):
+        reading, writing = os.pipe()
+        os.close(reading)
+        done = subprocess.run([PROGRAM], input=HELLO.encode(), stdout=writing, stderr=subprocess.PIPE)
+        os.close(writing)
+        self.assertEqual(done.stderr, b'trac: output failed at step 19\n')
+        self.assertEqual(done.returncode, 5)
+
+    def test_a_directory_as_input(self):
+        folder = os.open(tempfile.gettempdir(), os.O_RDONLY)
+        done = subprocess.run([PROGRAM], stdin=folder, capture_output=True)
+        os.close(folder)
+        self.assertEqual((done.stdout, done.stderr), (b'', b'trac: input failed at step 9\n'))
+        self.assertEqual(done.returncode, 4)
+
+    def test_standard_error_that_fails(self):
+        with open('/dev/full', 'wb') as full:
+            done = subprocess.run([PROGRAM, '--report'], input=HELLO.encode(), stdout=subprocess.PIPE, stderr=full)
+        self.assertEqual((done.stdout, done.returncode), (b'hello', 0))
+
+    def test_what_was_printed_is_out_before_the_next_read(self):
+        program = subprocess.Popen([PROGRAM], stdin=subprocess.PIPE, stdout=subprocess.PIPE)
+        for text in [b'one', b'two']:
+            program.stdin.write(b'#(ps,' + text + b")'")
+            program.stdin.flush()
+            self.assertEqual(os.read(program.stdout.fileno(), 100), text)
+        program.stdin.close()
+        self.assertEqual(program.wait(), 0)
+        program.stdout.close()
+
+    def test_output_of_many_buffers(self):
+        text = b'all that is printed, comes. ' * 10000
+        self.assertEqual(run(text + b"'", '--cells', '1000000', '--steps', '10000000'), (text, '', 0))
+
+
+class Memory(unittest.TestCase):
+    def test_a_block_that_is_refused(self):
+        room = 100 * 1024 * 1024
+
+        def limit():
+            resource.setrlimit(resource.RLIMIT_AS, (room, room))
+
+        output, lines, status = run(HELLO, '--cells', '16777216', preexec_fn=limit)
+        self.assertEqual((output, lines, status), (b'', 'trac: no memory for 16777216 cells\n', 6))
+
+    def test_the_greatest_block(self):
+        self.assertEqual(run(HELLO, '--cells', '16777216'), (b'hello', '', 0))

@@ -1,0 +1,22 @@
+"""Runs the built program on a script."""
+import os
+import subprocess
+
+TOP = os.path.dirname(os.path.dirname(os.path.abspath(__file__)))
+LAUNCHER = os.path.join(TOP, 'trac')
+PROGRAM = os.path.join(TOP, 'crates', 'trac_cli', 'out', 'trac_cli')
+
+
+def run(script, *words, **more):
+    """What the program writes, what it says on standard error, and its status."""
+    if isinstance(script, str):
+        script = script.encode()
+    done = subprocess.run([PROGRAM, *words], input=script, capture_output=True, timeout=60, **more)
+    return done.stdout, done.stderr.decode(), done.returncode
+
+
+def report(script, *words):
+    """The output, the steps, the peak and the status of a run."""
+    output, lines, status = run(script, '--report', *words)
+    first = lines.split('\n')[0].split()
+    return output, int(first[1]), int(first[4]), status
