@@ -35,3 +35,4 @@ pub mod Fronts
 pub mod Ranges
 pub mod BitResults
 pub mod Behind
+pub mod Displaying

@@ -2,11 +2,12 @@
 #![tactic(auto)]
 
 mod arguments;
-mod call;
 mod arithmetic;
 mod bit_strings;
+mod call;
 mod comparing;
 mod device;
+mod display;
 mod form_parts;
 mod function;
 mod input_output;
