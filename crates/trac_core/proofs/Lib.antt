@@ -39,3 +39,4 @@ pub mod Ranges
 pub mod BitResults
 pub mod Behind
 pub mod Parting
+pub mod Displaying

@@ -21,3 +21,4 @@ pub mod Attempts
 pub mod Taking
 pub mod Laws
 pub mod BitResults
+pub mod Display

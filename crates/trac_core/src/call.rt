@@ -13,16 +13,13 @@ ghost use Rattle.trac_core.specs.Machine.{input_failures, output_failures};
 ghost use Rattle.trac_core.specs.Attempts.{scene, Tried, TriedCall, IsCall, function_at, delivered, TakesFrom, TakesAtMost};
 
 use crate::arguments::{Arguments, Made, text};
-use crate::arithmetic;
-use crate::bit_strings;
-use crate::comparing;
 use crate::device::{Sink, Source};
-use crate::form_calls;
-use crate::form_parts;
+use crate::display::print_form;
 use crate::function::{Function, function_named};
 use crate::input_output::{change_meta, halt, print_string, read_character, read_string};
 use crate::machine::Fate;
 use crate::scan::{Attempt, is_at, scan};
+use crate::{arithmetic, bit_strings, comparing, form_calls, form_parts};
 use trac_forms::{Cell, Mode, Work};
 
 /// One step, by the rule that fits the beginning of the active string.
@@ -128,6 +125,7 @@ fn perform<I: Source, O: Sink>(
             Function::ReadString => read_string(work, place, *meta, source),
             Function::ReadCharacter => read_character(work, place, source),
             Function::PrintString => print_string(work, place, arguments, sink),
+            Function::PrintForm => print_form(work, place, arguments, sink),
             Function::ChangeMeta => change_meta(work, place, arguments, meta),
             Function::Halt => halt(work, place),
             _ => evaluate(work, place, function, arguments),

@@ -7,6 +7,7 @@ mod bit_strings;
 mod call;
 mod comparing;
 mod device;
+mod display;
 mod form_calls;
 mod form_parts;
 mod function;

@@ -17,7 +17,7 @@ evaluate-requires g c =
         innermost = c.requires.innermost;
         names = sym (c.in-Some.ensures ∙ ap function_named name);
       };
-      plain = plain-rest c.in-Some.function c.in_default.not-ReadString c.in_default.not-ReadCharacter c.in_default.not-ChangeMeta c.in_default.not-PrintString ? c.in_default.not-Halt;
+      plain = plain-rest c.in-Some.function c.in_default.not-ReadString c.in_default.not-ReadCharacter c.in_default.not-ChangeMeta c.in_default.not-PrintString c.in_default.not-PrintForm c.in_default.not-Halt;
       arguments = c.next-name.ensures.left;
       rest = c.next-name.ensures.rest ∙ ap (drop 1) all;
     }

@@ -1,0 +1,150 @@
+-- The display of a form.
+use Rattle.std.proofs.Common.{◌≡◌, ◌≢◌, ℕ, suc, ◌+◌, ◌-◌, ◌<◌, ◌≤◌, false, List, [], ◌∷◌, ◌++◌, length, take, drop, slice_range, get_or, Option, Some, None, refl, sym, ap, ◌∙◌, subst, arith, append_assoc, append-nil}
+use Rattle.std.specs.Prelude.{Result, Ok, Err, IsErr, OnErr, codes, decimal}
+use Rattle.std.proofs.Math.Seq.{take-add, drop-cons}
+use Rattle.std.proofs.lemmas.List.{take-append-drop, drop-drop, take_rest, length-append}
+use Rattle.trac_forms.specs.declared.item.Item.{Item}
+use Rattle.trac_forms.specs.declared.item.Item.TheVariants.{Byte, Gap}
+use Rattle.trac_forms.specs.Text.{Text}
+use Rattle.trac_forms.specs.Form.{Form, before_pointer, after_pointer}
+use Rattle.trac_forms.specs.Search.{item_at}
+use Rattle.trac_forms.specs.Store.{form_named}
+use Rattle.trac_forms.specs.Contents.{Contents, used}
+use Rattle.trac_core.specs.declared.function.Function.TheVariants.{PrintForm}
+use Rattle.trac_core.specs.declared.machine.Fate.TheVariants.{OutputFailed}
+use Rattle.trac_core.specs.Devices.{Stream}
+use Rattle.trac_core.specs.State.{argument}
+use Rattle.trac_core.specs.Meaning.{World, on_form, printing, show, show_form, meaning_of, value_length}
+use Rattle.trac_core.specs.Flat.{mode_at, arguments_at}
+use Rattle.trac_core.specs.Calls.{world}
+use Rattle.trac_core.specs.Machine.{ending}
+use Rattle.trac_core.specs.Attempts.{scene, TriedCall, IsCall}
+use Rattle.trac_core.specs.Display.{Breaks, Prints, display}
+use Rattle.trac_core.proofs.Performing.{closed, delivered-null, tried-answer, tried-broken}
+
+pub show-append : (xs ys : List Item) → show (xs ++ ys) ≡ show xs ++ show ys
+show-append [] ys = refl
+show-append (Byte c ∷ xs) ys = ap (λ t. c ∷ t) (show-append xs ys)
+show-append (Gap k ∷ xs) ys =
+    ap (λ t. codes "<" ++ decimal k ++ codes ">" ++ t) (show-append xs ys)
+    ∙ sym (append_assoc (codes "<" ++ decimal k ++ codes ">") (show xs) (show ys))
+
+-- a text behind a text that was written
+pub breaks-then : (old mid new a b : Text) → mid ≡ old ++ a → Breaks mid b new → Breaks old (a ++ b) new
+breaks-then old mid new a b first p =
+    let text = ap (λ t. a ++ t) p.1.1.0 ∙ sym (append_assoc a p.0 p.1.0) in
+    let stands = p.1.1.1 ∙ ap (λ t. t ++ p.0) first ∙ append_assoc old a p.0 in
+    (a ++ p.0, (p.1.0, (text, stands)))
+
+pub prints-then : {A E : Type 0} (r : Result A E) (old mid new a b : Text) → mid ≡ old ++ a → Prints r mid b new → Prints r old (a ++ b) new
+prints-then (Ok x) old mid new a b first p = p ∙ ap (λ t. t ++ b) first ∙ append_assoc old a b
+prints-then (Err e) old mid new a b first p = breaks-then old mid new a b first p
+
+-- a text that was broken off
+pub prints-err : {A E : Type 0} (r : Result A E) (old new a : Text) → IsErr r → Breaks old a new → Prints r old a new
+prints-err (Ok x) old new a wrong p = absurd cc
+prints-err (Err e) old new a err p = p
+
+-- and more that was to follow
+pub breaks-off : (old new a b : Text) → Breaks old a new → Breaks old (a ++ b) new
+breaks-off old new a b p = (p.0, (p.1.0 ++ b, (ap (λ t. t ++ b) p.1.1.0 ∙ append_assoc p.0 p.1.0 b, p.1.1.1)))
+
+-- nothing more is written
+pub prints-nothing : {A E : Type 0} (r : Result A E) (old new a : Text) → new ≡ old ++ a → Prints r old a new
+prints-nothing (Ok x) old new a first = first
+prints-nothing (Err e) old new a first = (a, ([], (sym (append-nil a), first)))
+
+-- bytes of which the first were written
+pub breaks-bytes : (old mid new bytes : Text) (k : ℕ) → mid ≡ old ++ take k bytes → new ≡ mid → Breaks old bytes new
+breaks-bytes old mid new bytes k first same = (take k bytes, (drop k bytes, (sym (take-append-drop k bytes), same ∙ first)))
+
+-- ---- the items of a form
+
+-- a part is its beginning and what follows
+range-split : (body : List Item) (a b c : ℕ) → a ≤ b → b ≤ c → slice_range body a c ≡ slice_range body a b ++ slice_range body b c
+range-split body a b c ab bc =
+    let e : c - a ≡ (b - a) + (c - b) = omega arith in
+    let d : (b - a) + a ≡ b = omega arith in
+    ap (λ n. take n (drop a body)) e
+    ∙ take-add (b - a) (c - b) (drop a body)
+    ∙ ap (λ t. slice_range body a b ++ take (c - b) t) (drop-drop (b - a) a body ∙ ap (λ n. drop n body) (omega arith))
+
+range-one : (body : List Item) (k : ℕ) → k < length body → slice_range body k (k + 1) ≡ item_at body k ∷ []
+range-one body k lt =
+    let one : (k + 1) - k ≡ 1 = omega arith in
+    ap (λ n. take n (drop k body)) one ∙ ap (take 1) (drop-cons body k (Byte 0) lt)
+
+show-split : (body : List Item) (a b c : ℕ) → a ≤ b → b ≤ c → show (slice_range body a c) ≡ show (slice_range body a b) ++ show (slice_range body b c)
+show-split body a b c ab bc = ap show (range-split body a b c ab bc) ∙ show-append (slice_range body a b) (slice_range body b c)
+
+show-more : (body : List Item) (from place : ℕ) → from ≤ place → place < length body → show (slice_range body from (place + 1)) ≡ show (slice_range body from place) ++ show (item_at body place ∷ [])
+show-more body from place le lt =
+    show-split body from place (place + 1) le (omega arith)
+    ∙ ap (λ items. show (slice_range body from place) ++ show items) (range-one body place lt)
+
+-- one more item was displayed
+pub displays-more : (old mid new : Text) (body : List Item) (from place : ℕ) (item : Item) → from ≤ place → place < length body → item ≡ item_at body place → mid ≡ old ++ show (slice_range body from place) → new ≡ mid ++ show (item ∷ []) → new ≡ old ++ show (slice_range body from (place + 1))
+displays-more old mid new body from place item le lt is first then_ =
+    then_
+    ∙ ap (λ t. t ++ show (item ∷ [])) first
+    ∙ append_assoc old (show (slice_range body from place)) (show (item ∷ []))
+    ∙ ap (λ t. old ++ t) (ap (λ item. show (slice_range body from place) ++ show (item ∷ [])) is ∙ sym (show-more body from place le lt))
+
+-- the display of an item was broken off
+pub displays-broken : (old mid new : Text) (body : List Item) (from place to : ℕ) (item : Item) → from ≤ place → place < to → to ≤ length body → item ≡ item_at body place → mid ≡ old ++ show (slice_range body from place) → Breaks mid (show (item ∷ [])) new → Breaks old (show (slice_range body from to)) new
+displays-broken old mid new body from place to item le lt within is first p =
+    let rest = show (slice_range body (place + 1) to) in
+    let whole : show (slice_range body from to) ≡ show (slice_range body from place) ++ (show (item ∷ []) ++ rest) =
+    show-split body from (place + 1) to (omega arith) (omega arith)
+    ∙ ap (λ t. t ++ rest) (show-more body from place le (omega arith) ∙ ap (λ item. show (slice_range body from place) ++ show (item ∷ [])) (sym is))
+    ∙ append_assoc (show (slice_range body from place)) (show (item ∷ [])) rest in
+    subst (λ t. Breaks old t new) (sym whole)
+    (breaks-then old mid new (show (slice_range body from place)) (show (item ∷ []) ++ rest) first (breaks-off mid new (show (item ∷ [])) rest p))
+
+-- ---- forms
+
+pub display-parts : (form : Form) (pointer end : ℕ) → pointer ≡ form.pointer → end ≡ length form.body → show_form form ≡ show (slice_range form.body 0 pointer) ++ (codes "<^>" ++ show (slice_range form.body pointer end))
+display-parts form pointer end pointer_is end_is =
+    let body = form.body in
+    append_assoc (show (take form.pointer body)) (codes "<^>") (show (drop form.pointer body))
+    ∙ ap (λ p. show (take p body) ++ (codes "<^>" ++ show (drop p body))) (sym pointer_is)
+    ∙ ap (λ items. show (take pointer body) ++ (codes "<^>" ++ show items)) (sym (ap (λ n. take (n - pointer) (drop pointer body)) end_is ∙ take_rest body pointer))
+    ∙ ap (λ n. show (take n body) ++ (codes "<^>" ++ show (slice_range body pointer end))) (let whole : pointer ≡ pointer - 0 = omega arith in whole)
+
+pub display-some : (form : Form) → show_form form ≢ []
+display-some form none =
+    let e = ap length none in
+    let a = length-append (show (before_pointer form) ++ codes "<^>") (show (after_pointer form)) in
+    let b = length-append (show (before_pointer form)) (codes "<^>") in
+    absurd (omega arith)
+
+pub on_err : {A E : Type 0} (r : Result A E) (P : Type 0) → P → OnErr r P
+on_err (Ok x) P p = tt
+on_err (Err e) P p = p
+
+displays : (o : Option Form) (w : World) → on_form o (λ form. printing (show_form form) w) w ≡ printing (display o) w
+displays None w = refl
+displays (Some form) w = refl
+
+module _ (w : Contents) (place needed : ℕ) where
+  pub tried-display : (new : Contents) → IsCall w place (Some PrintForm) → new ≡ closed w place → needed ≡ used w → (meta : ℕ) (source : Stream) (written : Text) → TriedCall place (scene w meta source written) None needed (scene new meta source (written ++ display (form_named (argument (arguments_at w.neutral place) 1) w.forms)))
+  unfolding meaning_of
+  tried-display new call new_is needs meta source written =
+      let fits = call.sound.fits in
+      let means = displays (form_named (argument (arguments_at w.neutral place) 1) w.forms) (world w.forms meta (ending source.bytes)) in
+      tried-answer w new place (Some PrintForm) meta meta source source written (display (form_named (argument (arguments_at w.neutral place) 1) w.forms)) needed [] false w.forms call.names
+      (record {
+        means = means;
+        stands = new_is ∙ sym (delivered-null (mode_at w.neutral place) place w);
+        needs = let none_built = ap value_length means in omega arith;
+        fits = omega arith;
+        stays_ended = λ e. e;
+        read_all = λ e. absurd cc;
+      })
+
+  pub tried-display-broken : IsCall w place (Some PrintForm) → needed ≡ used w → (meta : ℕ) (source : Stream) (written put rest : Text) → display (form_named (argument (arguments_at w.neutral place) 1) w.forms) ≡ put ++ rest → put ++ rest ≢ [] → TriedCall place (scene w meta source written) (Some OutputFailed) needed (scene w meta source (written ++ put))
+  unfolding meaning_of
+  tried-display-broken call needs meta source written put rest parts some =
+      let fits = call.sound.fits in
+      let means = displays (form_named (argument (arguments_at w.neutral place) 1) w.forms) (world w.forms meta (ending source.bytes)) in
+      tried-broken w w place (Some PrintForm) meta source written put rest needed _ call.names means parts some (let none_built = ap value_length means in omega arith) (omega arith)

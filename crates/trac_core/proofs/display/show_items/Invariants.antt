@@ -1,0 +1,15 @@
+use Rattle.std.proofs.Common.{◌≡◌, ◌≤◌, ◌++◌, slice_range}
+use Rattle.trac_forms.specs.Contents.{body_at}
+use Rattle.trac_core.specs.Meaning.{show}
+use Rattle.trac_core.proofs.display.show_items.Given as goal
+
+-- the items up to a place were displayed
+abbrev pub invariant-loop-place : goal.invariant-loop-place
+invariant-loop-place g l =
+    record {
+      above : l.from ≤ l.place;
+      below : l.place ≤ l.to;
+      counts : g.O.Sink.failure_count l.sink ≡ g.O.Sink.failure_count l.initial.sink;
+      told : g.O.Sink.tells l.initial.sink → g.O.Sink.tells l.sink;
+      writes : g.O.Sink.tells l.initial.sink → g.O.Sink.written l.sink ≡ g.O.Sink.written l.initial.sink ++ show (slice_range (body_at l.work.forms l.form.0) l.from l.place);
+    }

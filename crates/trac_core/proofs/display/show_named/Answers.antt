@@ -1,0 +1,31 @@
+use Rattle.std.proofs.Common.{◌≡◌, ◌≢◌, ◌++◌, [], List, ℕ, sym, ap, ◌∙◌, subst, append-nil}
+use Rattle.trac_forms.specs.Text.{Text}
+use Rattle.trac_forms.specs.Contents.{Contents, form_at, part_text}
+use Rattle.trac_forms.proofs.Stores.{form_named-at, form_named-none}
+use Rattle.trac_core.specs.Meaning.{show_form}
+use Rattle.trac_core.specs.Display.{Prints, display}
+use Rattle.trac_core.proofs.Displaying.{display-some, on_err}
+use Rattle.trac_core.proofs.display.show_named.Goals as goal
+
+pub returns-in-Some-clause-prints : goal.returns-in-Some-clause-prints
+returns-in-Some-clause-prints g c = λ told.
+    let w = c.args.work.now in
+    let name = part_text w.neutral c.args.name.0 c.args.name.1 in
+    let k = c.in-Some.form.0 in
+    let shown = ap (λ (w : Contents). show_form (form_at w.forms k)) c.find.ensures.same ∙ sym (ap display (form_named-at name w.forms k c.requires.sound.forms c.in-Some.ensures.found)) in
+    let P : Text → Type 0 = λ t. Prints c.show_form.result (g.O.Sink.written c.args.sink.now) t (g.O.Sink.written c.show_form.new.sink) in
+    subst P shown (c.show_form.ensures.prints told)
+
+pub returns-in-Some-clause-some : goal.returns-in-Some-clause-some
+returns-in-Some-clause-some g c =
+    let w = c.args.work.now in
+    let name = part_text w.neutral c.args.name.0 c.args.name.1 in
+    let k = c.in-Some.form.0 in
+    on_err c.show_form.result _ (λ none. display-some (form_at w.forms k) (sym (ap display (form_named-at name w.forms k c.requires.sound.forms c.in-Some.ensures.found)) ∙ none))
+
+pub returns-in-None-clause-prints : goal.returns-in-None-clause-prints
+returns-in-None-clause-prints g c = λ told.
+    let w = c.args.work.now in
+    let name = part_text w.neutral c.args.name.0 c.args.name.1 in
+    let written = g.O.Sink.written c.args.sink.now in
+    sym (ap (λ o. written ++ display o) (form_named-none name w.forms c.in-None.ensures.found) ∙ append-nil written)

@@ -1,0 +1,149 @@
+//! The function that displays a form: `pf`.
+ghost use Rattle.std.specs.Prelude.{◌≡◌, ◌≢◌, ℕ, ◌+◌, ◌-◌, ◌<◌, ◌≤◌, ◌^◌, [], ◌∷◌, ◌++◌, drop, length, Some, slice_range, OnErr, codes, decimal};
+ghost use Rattle.trac_forms.specs.Store.{form_named};
+ghost use Rattle.trac_forms.specs.Contents.{form_at, body_at, part_text, IsTextPart, IsSound};
+ghost use Rattle.trac_core.specs.Devices.{Stream, failures_of};
+ghost use Rattle.trac_core.specs.Flat.{arguments_at};
+ghost use Rattle.trac_core.specs.Calls.{AreArguments, texts};
+ghost use Rattle.trac_core.specs.Machine.{output_failures};
+ghost use Rattle.trac_core.specs.Attempts.{scene, TriedCall, IsCall};
+ghost use Rattle.trac_core.specs.Meaning.{show, show_form};
+ghost use Rattle.trac_core.specs.Display.{Prints, display};
+
+use crate::arguments::Arguments;
+use crate::device::{Sink, SinkFailed};
+use crate::function::Function;
+use crate::machine::Fate;
+use crate::scan::Attempt;
+use itoa::Buffer;
+use trac_forms::{FormId, Item, Work};
+
+/// `pf,N`: the form N is displayed, and the sink flushed once: its characters as they are, each gap as its ordinal in angle
+/// brackets, and `<^>` at the pointer. A form that isn't defined prints nothing. The display is this processor's own choice.
+pub(crate) fn print_form<O: Sink>(
+    work: &mut Work,
+    place: u32,
+    mut arguments: Arguments,
+    sink: &mut O,
+) -> Attempt
+    requires call { IsCall work.old place (Some Function.PrintForm) }
+    requires arguments { AreArguments work.old arguments }
+    requires rest { texts work.old arguments ≡ drop 1 (arguments_at work.old.neutral place) }
+    requires counts { O.failure_count sink.old < 2 ^ 64 - 1 }
+    ensures tried { O.tells sink.old → (meta : ℕ) (source : Stream) →
+        TriedCall place (scene work.old meta source (O.written sink.old)) result.fate result.need
+        (scene work.new meta source (O.written sink.new)) }
+    ensures fate { (result.fate ≢ Some Fate.InputFailed) × (result.fate ≢ Some Fate.Steps) }
+    ensures output_failed { O.failure_count sink.new ≡ O.failure_count sink.old + output_failures None result.fate }
+    ensures told { O.tells sink.old → O.tells sink.new }
+    ensures fits { result.need ≤ work.old.room }
+    ensures room { work.new.room ≡ work.old.room }
+    ensures sound { IsSound work.new }
+{
+    let need = work.used();
+    let name = arguments.next(work);
+    match show_named(work, name, sink) {
+        Ok(()) => {
+            work.cut_neutral(place);
+            Attempt { fate: None, need }
+        }
+        Err(_) => Attempt {
+            fate: Some(Fate::OutputFailed),
+            need,
+        },
+    }
+}
+
+/// Displays the form whose name is a part of the neutral string, where there is one.
+fn show_named<O: Sink>(work: &mut Work, name: (u32, u32), sink: &mut O) -> Result<(), SinkFailed>
+    requires part { IsTextPart work.old.neutral name.0 name.1 }
+    requires sound { IsSound work.old }
+    requires counts { O.failure_count sink.old < 2 ^ 64 - 1 }
+    ensures prints { O.tells sink.old →
+        Prints result (O.written sink.old) (display (form_named (part_text work.old.neutral name.0 name.1) work.old.forms)) (O.written sink.new) }
+    ensures some { OnErr result (display (form_named (part_text work.old.neutral name.0 name.1) work.old.forms) ≢ []) }
+    ensures same { work.new ≡ work.old }
+    ensures told { O.tells sink.old → O.tells sink.new }
+    ensures counts { O.failure_count sink.new ≡ O.failure_count sink.old + failures_of result }
+{
+    match work.find(name.0, name.1) {
+        Some(form) => show_form(work, form, sink),
+        None => Ok(()),
+    }
+}
+
+/// Puts the display of a form into a sink, and then flushes it.
+fn show_form<O: Sink>(work: &Work, form: FormId, sink: &mut O) -> Result<(), SinkFailed>
+    requires known { form.0 < length work.now.forms }
+    requires counts { O.failure_count sink.old < 2 ^ 64 - 1 }
+    ensures prints { O.tells sink.old → Prints result (O.written sink.old) (show_form (form_at work.now.forms form.0)) (O.written sink.new) }
+    ensures told { O.tells sink.old → O.tells sink.new }
+    ensures counts { O.failure_count sink.new ≡ O.failure_count sink.old + failures_of result }
+{
+    let pointer = work.pointer(form);
+    show_items(work, form, 0, pointer, sink)?;
+    put_all(b"<^>", sink)?;
+    show_items(work, form, pointer, work.body_len(form), sink)?;
+    sink.flush()
+}
+
+/// Puts the display of the items of a form from a place up to another into a sink.
+fn show_items<O: Sink>(
+    work: &Work,
+    form: FormId,
+    from: u32,
+    to: u32,
+    sink: &mut O,
+) -> Result<(), SinkFailed>
+    requires known { form.0 < length work.now.forms }
+    requires order { from ≤ to }
+    requires within { to ≤ length (body_at work.now.forms form.0) }
+    requires counts { O.failure_count sink.old < 2 ^ 64 - 1 }
+    ensures prints { O.tells sink.old → Prints result (O.written sink.old) (show (slice_range (body_at work.now.forms form.0) from to)) (O.written sink.new) }
+    ensures told { O.tells sink.old → O.tells sink.new }
+    ensures counts { O.failure_count sink.new ≡ O.failure_count sink.old + failures_of result }
+{
+    for place in from..to {
+        show_item(work.item(form, place), sink)?;
+    }
+    Ok(())
+}
+
+/// Puts the display of an item into a sink.
+fn show_item<O: Sink>(item: Item, sink: &mut O) -> Result<(), SinkFailed>
+    requires { O.failure_count sink.old < 2 ^ 64 - 1 }
+    ensures prints { O.tells sink.old → Prints result (O.written sink.old) (show (item ∷ [])) (O.written sink.new) }
+    ensures told { O.tells sink.old → O.tells sink.new }
+    ensures counts { O.failure_count sink.new ≡ O.failure_count sink.old + failures_of result }
+{
+    match item {
+        Item::Byte(byte) => put_all(&[byte], sink),
+        Item::Gap(ordinal) => show_gap(ordinal, sink),
+    }
+}
+
+/// Puts an ordinal in angle brackets into a sink.
+fn show_gap<O: Sink>(ordinal: u32, sink: &mut O) -> Result<(), SinkFailed>
+    requires { O.failure_count sink.old < 2 ^ 64 - 1 }
+    ensures prints { O.tells sink.old → Prints result (O.written sink.old) (codes "<" ++ decimal ordinal ++ codes ">") (O.written sink.new) }
+    ensures told { O.tells sink.old → O.tells sink.new }
+    ensures counts { O.failure_count sink.new ≡ O.failure_count sink.old + failures_of result }
+{
+    let mut buffer = Buffer::new();
+    put_all(b"<", sink)?;
+    put_all(buffer.format(ordinal).as_bytes(), sink)?;
+    put_all(b">", sink)
+}
+
+/// Puts bytes into a sink.
+fn put_all<O: Sink>(bytes: &[u8], sink: &mut O) -> Result<(), SinkFailed>
+    requires { O.failure_count sink.old < 2 ^ 64 - 1 }
+    ensures prints { O.tells sink.old → Prints result (O.written sink.old) bytes.now (O.written sink.new) }
+    ensures told { O.tells sink.old → O.tells sink.new }
+    ensures counts { O.failure_count sink.new ≡ O.failure_count sink.old + failures_of result }
+{
+    for byte in bytes {
+        sink.put(*byte)?;
+    }
+    Ok(())
+}
