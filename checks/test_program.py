@@ -108,7 +108,7 @@ class Devices(unittest.TestCase):
         program.stdout.close()
 
     def test_output_of_many_buffers(self):
-        text = b'all that is printed, comes. ' * 10000
+        text = b'all that is printed comes out. ' * 10000
         self.assertEqual(run(text + b"'", '--cells', '1000000', '--steps', '10000000'), (text, '', 0))
 
 

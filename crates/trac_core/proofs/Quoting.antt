@@ -163,37 +163,37 @@ apostrophe_from : (t : Text) → Plain t → drop (position_or_len (λ c. c == 3
 apostrophe_from t p = ap (λ x. drop (position_or_len (λ c. c == 39) x) x) (quoting_is t) ∙ from_apostrophe (script t) [] (script_plain t p)
 
 reads : (t : Text) → Plain t → step (asking (quoting t) []) ≡ Next (has_read t)
-unfolding step rule meaning_of no_input
+unfolding step rule meaning_of
 reads t p =
     ap (λ b. read t b (drop (position_or_len (λ c. c == 39) (quoting t).text) (quoting t).text)) (script_before t p)
     ∙ ap (read t (script t)) (apostrophe_from t p)
     ∙ ap (λ x. Next (at (codes "#(ps,(" ++ x) (calls_ps [] ∷ []) no_input [])) (append_assoc t (codes "))") (codes ")"))
 
 opens_goes : (t : Text) → Goes 4 (has_read t)
-unfolding step rule meaning_of no_input
+unfolding step rule meaning_of
 opens_goes t = tt
 
 opens_after : (t : Text) → after 4 (has_read t) ≡ has_opened t
-unfolding step rule meaning_of no_input
+unfolding step rule meaning_of
 opens_after t = refl
 
 is_found : (t : Text) → IsBalanced t → protected (t ++ codes ")))") ≡ Some (t, codes "))")
 is_found t b = protected_found (t ++ codes ")))") t (codes "))") (record { stands = refl; balanced = b })
 
 quotes : (t : Text) → IsBalanced t → step (has_opened t) ≡ Next (has_quoted t)
-unfolding step rule meaning_of no_input
+unfolding step rule meaning_of
 quotes t b = ap (λ o. follow (parenthesis_rule o) (has_opened t)) (is_found t b)
 
 prints_goes : (t : Text) → Goes 2 (has_quoted t)
-unfolding step rule meaning_of no_input
+unfolding step rule meaning_of
 prints_goes t = tt
 
 prints_after : (t : Text) → after 2 (has_quoted t) ≡ idle no_input (t ++ [])
-unfolding step rule meaning_of no_input
+unfolding step rule meaning_of
 prints_after t = refl
 
 ends : (output : Text) → step (asking no_input output) ≡ Over InputEnded
-unfolding step rule meaning_of no_input
+unfolding step rule meaning_of
 ends output = refl
 
 -- ---- what the steps need
@@ -205,21 +205,21 @@ read_need t p =
     omega arith
 
 opens_peak : (t : Text) → peak_of 4 (has_read t) ≤ 16 + length t
-unfolding step need rule meaning_of no_input
+unfolding step need rule meaning_of
 opens_peak t = omega (arith, length-append t (codes ")))"))
 
 quotes_need : (t : Text) → IsBalanced t → need (has_opened t) ≤ 16 + length t
-unfolding need rule no_input
+unfolding need rule
 quotes_need t b =
     let e : need (has_opened t) ≡ size (has_opened t).memory = ap (λ o. need_by (parenthesis_rule o) (has_opened t)) (is_found t b) in
     omega (arith, e, length-append t (codes ")))"))
 
 prints_peak : (t : Text) → peak_of 2 (has_quoted t) ≤ 16 + length t
-unfolding step need rule meaning_of no_input
+unfolding step need rule meaning_of
 prints_peak t = omega arith
 
 end_need : (output : Text) → need (asking no_input output) ≡ 8
-unfolding need rule no_input
+unfolding need rule
 end_need output = refl
 
 -- ---- from the last step back to the first

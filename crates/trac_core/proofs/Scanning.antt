@@ -70,7 +70,7 @@ rule-layout c rest h = rw h refl
 
 rule-parenthesis : (text : Text) (o : Option (Text × Text)) → protected text ≡ o → rule (40 ∷ text) ≡ parenthesis_rule o
 unfolding rule
-rule-parenthesis text o e = ap parenthesis_rule e
+rule-parenthesis rest o e = ap parenthesis_rule e
 
 rule-nothing : rule [] ≡ LoadIdling
 unfolding rule
