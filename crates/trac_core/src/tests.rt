@@ -1,15 +1,13 @@
 //! What no clause says: the answers to scripts that were worked by hand, and runs in every room, with every allowance and over
 //! devices that fail.
-ghost use Rattle.std.specs.Prelude.{◌≤◌, ⊥, [], false, length};
+ghost use Rattle.std.specs.Prelude.{◌≤◌, length};
 
-use crate::{
-    Cell, Fate, Machine, Next, ReadSource, Report, Sink, SinkFailed, SliceSink, SliceSource,
-    Source, WriteSink,
-};
-use std::io;
-use std::io::{Read, Write};
+mod devices;
+mod rows;
+
+use crate::{Cell, Fate, Machine, Report, SliceSink, SliceSource};
+use rows::{DISPLAYED, FORMS, PARTS, READ, SCANNED, VALUES};
 use std::process::Abort;
-use std::test::Fail;
 
 const AMPLE: usize = 1000;
 
@@ -76,137 +74,6 @@ fn came_to(rt: &impl Abort, got: &Ended, output: &str, fate: Fate, steps: u64, p
     assert!(rt; got.output() == output.as_bytes(), "{output}");
     assert_eq!(rt; got.report, Report { fate, steps, peak });
 }
-
-const SCANNED: [(&str, &str); 16] = [
-    ("", ""),
-    ("#(ps,hello)'", "hello"),
-    ("#(ps,hello)'\n", "hello"),
-    ("a)b'", "a"),
-    ("###(ps,x)y'", "x#y"),
-    ("(unclosed'", ""),
-    ("((a'", ""),
-    ("a\n\tb(\nc)'", "ab\nc"),
-    ("abc", "abc"),
-    ("#(zz,x)#()#(PS,a,b)#(cs,none,z)'", "a"),
-    ("#(eq,a,A,same,other)'", "other"),
-    ("#(eq,,,x,y)'", "x"),
-    ("##(eq,a,a,(#(ps,z)))'", "#(ps,z)"),
-    ("#(ps,(a,#(b)))'", "a,#(b)"),
-    (
-        "#(ds,AA,Cat)#(ds,BB,(#(cl,AA)))#(ps,(#(cl,BB)))-#(ps,##(cl,BB))-#(ps,#(cl,BB))'",
-        "#(cl,BB)#(cl,AA)Cat--",
-    ),
-    ("##(dv,1,0,(#(ps,Z!)))x'", "Z!x"),
-];
-
-const READ: [(&str, &str); 6] = [
-    ("#(cm,!)a'b'!", "ab'"),
-    ("#(rc)'x", "x"),
-    ("##(rc)'(", "("),
-    ("#(rc)'(", ""),
-    ("#(rc)'", ""),
-    ("#(hl)'", ""),
-];
-
-const FORMS: [(&str, &str); 14] = [
-    ("#(ds,A,b)'", ""),
-    ("#(ds,A,b)'#(ds,A,b)'#(ds,A,b)'", ""),
-    (
-        "#(ds,G,(Dear X, hi X))#(ss,G,X)#(ps,##(cl,G,Al))'",
-        "Dear Al, hi Al",
-    ),
-    (
-        "#(ds,G,(Dear X, hi X))#(ss,G,X)#(ps,#(cl,G,Al))'",
-        "Dear Al",
-    ),
-    ("#(ds,,x)#(ln,/)-#(dd)#(ln,/)-#(dd,)#(ln,/)'", "/-/-"),
-    ("#(ds,A,1)#(ds,A,22)#(cl,A)'", "22"),
-    (
-        "#(ds,A,1)#(ds,B,2)#(ds,A,3)#(ln,/)-#(dd,B,C)#(ln,/)-#(da)#(ln,/)'",
-        "/B/A-/A-",
-    ),
-    ("#(ds,F,a-b+c)#(ss,F,-)#(ss,F,+)#(cl,F,/)'", "a/b/c"),
-    ("#(ds,G,xy)#(ss,G,,y)#(cl,G,1,2)'", "x2"),
-    ("#(ds,F,xyx)#(ss,F,y,x)#(cl,F,1,2)'", "212"),
-    ("#(ds,F,aaa)#(ss,F,aa)#(cl,F,-)'", "-a"),
-    ("#(ds,G,abcab)#(ss,G,c,bab)#(cl,G,,!)'", "abab"),
-    (
-        "#(ds,F,xyx)#(ss,F,y,x)#(cl,F,1,2) #(ds,F,aaa)#(ss,F,aa)#(cl,F,-) #(ds,G,abcab)#(ss,G,c,bab)#(cl,G,,!)'",
-        "212 -a abab",
-    ),
-    ("#(ds,F,ab)#(cc,F)#(ss,F,q)#(cc,F)'", "aa"),
-];
-
-const PARTS: [(&str, &str); 5] = [
-    (
-        "#(ds,F,ABCDE)#(cn,F,2)-#(cn,F,-1)-#(cc,F)-#(in,F,E,none)-#(cc,F,end)'",
-        "AB-B-B-CD-end",
-    ),
-    (
-        "#(ds,F,a-b-c)#(ss,F,-)[#(cs,F,z)][#(cs,F,z)][#(cs,F,z)][#(cs,F,z)]#(cr,F)[#(cl,F,+,!)]'",
-        "[a][b][c][z][a+b+c]",
-    ),
-    (
-        "#(ds,F,abcabc)#(ss,F,c)#(in,F,ba,no)-#(cn,F,9)-#(cn,F,-9)-#(cn,F,0,z)-#(in,F,b)-#(cl,F,C)'",
-        "no-abab-abab--a-CabC",
-    ),
-    ("#(ds,F,)##(cs,F,(#(ps,Z!)))x'", "Z!x"),
-    (
-        "#(ds,F,abc)#(cn,F,99999999999999999999)/#(cn,F,-99999999999999999999)/#(cn,F,x1)'",
-        "abc/abc/a",
-    ),
-];
-
-const VALUES: [(&str, &str); 14] = [
-    ("#(ad,Apples5,Oranges7)'", "Apples12"),
-    ("#(ad,9223372036854775807,1,full)'", "9223372036854775808"),
-    ("#(dv,5,0,zero)'", "zero"),
-    (
-        "#(eq,a,A,same,other) #(gr,100000000000000000000,99999999999999999999,yes,no) #(gr,x007,7,yes,no)'",
-        "other yes no",
-    ),
-    (
-        "#(ad,-0,0) #(su,a3,b5) #(ml,-3,+4) #(dv,-7,2) #(ad,x,2) #(ad,9223372036854775808,-1,Z)'",
-        "0 a-2 -12 -3 x2 9223372036854775807",
-    ),
-    (
-        "#(su,-9223372036854775807,1,Z) #(ml,3037000499,3037000499,Z) #(ml,3037000500,3037000500,Z)'",
-        "-9223372036854775808 9223372030926249001 9223372037000250000",
-    ),
-    (
-        "#(ad,170141183460469231731687303715884105726,1,Z)'",
-        "170141183460469231731687303715884105727",
-    ),
-    ("#(ad,170141183460469231731687303715884105727,1,Z)'", "Z"),
-    ("#(ad,-170141183460469231731687303715884105728,0,Z)'", "Z"),
-    (
-        "#(ml,9223372036854775808,18446744073709551615,Z)'",
-        "170141183460469231722463931679029329920",
-    ),
-    ("#(ml,9223372036854775808,18446744073709551616,Z)'", "Z"),
-    (
-        "#(bu,12,4) #(bi,17,5) #(bc,05) #(bs,1,42) #(br,1,42) #(bs,-1,42)'",
-        "16 5 72 04 05 21",
-    ),
-    (
-        "#(bc,x09) #(br,-1,a42) #(br,7,42) #(bs,99999999999999999999,42)'",
-        "x09 a21 05 00",
-    ),
-    (
-        "#(bu,a1,b20)[#(bi,,7)][#(bs,3,)][#(br,-99999999999999999999,7)]'",
-        "a21[][][7]",
-    ),
-];
-
-const DISPLAYED: [(&str, &str); 4] = [
-    (SHOWN, "<^>a<1>b"),
-    ("#(ds,F,a-b)#(ss,F,-)#(cs,F)#(pf,F)'", "a<1><^>ba"),
-    (
-        "#(ds,F,x)#(ss,F,,,,,,,,,,,,x)##(PF,F)#(pf,none)'",
-        "<^><12>",
-    ),
-    ("#(ds,F,)#(pf,F)'", "<^>"),
-];
 
 /// Runs each script in ample room; then in each room up to its peak and past it, and with each allowance up to its steps
 /// and past them.
@@ -411,73 +278,56 @@ fn input_that_stops(rt: HostRuntime) {
 }
 
 #[test]
-fn sources_that_fail(rt: HostRuntime) {
-    for place in 0..12u32 {
-        let fails = Faults {
-            source: Some(u64::from(place)),
-            ..NO_FAULTS
-        };
-        let got = faulty(HELLO.as_bytes(), fails, AMPLE);
-        came_to(&rt, &got, "", Fate::InputFailed, 8, (8 + place).max(11));
-    }
-    let rows = [
-        (HELLO, 12, AMPLE, "hello", Fate::InputFailed, 28, 19),
-        (HELLO, 13, AMPLE, "hello", Fate::InputEnded, 29, 19),
-        ("#(p", 3, AMPLE, "", Fate::InputFailed, 8, 11),
-        ("#(p", 3, 11, "", Fate::InputFailed, 8, 11),
-        ("#(ps", 4, 11, "", Fate::Workspace, 8, 11),
-        ("#(ps", 4, 12, "", Fate::InputFailed, 8, 12),
-    ];
-    for (script, place, cells, output, fate, steps, peak) in rows {
-        let fails = Faults {
-            source: Some(place),
-            ..NO_FAULTS
-        };
-        let got = faulty(script.as_bytes(), fails, cells);
-        came_to(&rt, &got, output, fate, steps, peak);
+fn rooms_of_a_refusal(rt: HostRuntime) {
+    for (script, least) in [(HELLO, 19), ("#(ds,A,b)'", 17)] {
+        for cells in 0..least {
+            let got = outcome(script.as_bytes(), cells, MANY);
+            let (steps, peak) = if cells < 11 { (0, 0) } else { (8, 11) };
+            came_to(&rt, &got, "", Fate::Workspace, steps, peak);
+        }
+        assert_eq!(rt;
+            outcome(script.as_bytes(), least, MANY).report.fate,
+            Fate::InputEnded
+        );
     }
 }
 
 #[test]
-fn sinks_that_fail(rt: HostRuntime) {
-    for (taken, output) in ["", "h", "he", "hel", "hell"].iter().enumerate() {
-        let full = Faults { taken, ..NO_FAULTS };
-        let got = faulty(HELLO.as_bytes(), full, AMPLE);
-        came_to(&rt, &got, output, Fate::OutputFailed, 18, 19);
+fn block_of_other_cells(rt: HostRuntime) {
+    let mut block = [Cell::Gap(7); 19];
+    for _ in 0..2 {
+        let got = run(HELLO.as_bytes(), NO_FAULTS, &mut block, MANY);
+        came_to(&rt, &got, "hello", Fate::InputEnded, 29, 19);
     }
-    let rows = [
-        (HELLO, 5, None, "hello", Fate::InputEnded),
-        (HELLO, 5, Some(0), "hello", Fate::InputEnded),
-        (HELLO, 5, Some(1), "hello", Fate::OutputFailed),
-        (HELLO, 5, Some(2), "hello", Fate::InputEnded),
-        (
-            "#(ps,a)#(ps,b)#(ps,c)'",
-            5,
-            Some(2),
-            "ab",
-            Fate::OutputFailed,
-        ),
-    ];
-    for (script, taken, flush, output, fate) in rows {
-        let faults = Faults {
-            source: None,
-            taken,
-            flush,
-        };
-        let got = faulty(script.as_bytes(), faults, AMPLE);
-        assert!(rt; got.output() == output.as_bytes(), "{script}");
-        assert_eq!(rt; got.report.fate, fate, "{script}");
-    }
-    let flush = Faults {
-        flush: Some(1),
-        ..NO_FAULTS
-    };
-    came_to(
-        &rt,
-        &faulty(HELLO.as_bytes(), flush, AMPLE),
-        "hello",
-        Fate::OutputFailed,
-        18,
-        19,
+}
+
+#[test]
+fn block_after_runs(rt: HostRuntime) {
+    let mut block = [Cell::Byte(0); 17];
+    let defining = b"#(ds,A,b)'".as_slice();
+    let got = run(defining, NO_FAULTS, &mut block, MANY);
+    came_to(&rt, &got, "", Fate::InputEnded, 27, 17);
+    let form = matches!(
+        &block[..5],
+        [
+            Cell::Head(1),
+            Cell::Head(1),
+            Cell::Head(0),
+            Cell::Byte(b'A'),
+            Cell::Byte(b'b')
+        ]
     );
+    assert!(rt; form);
+    // the forms of the run before are gone, however it ended
+    for (script, output) in [
+        ("#(ln,/)'", ""),
+        ("#(cl,A)'", ""),
+        ("(unclosed'", ""),
+        ("a'", "a"),
+    ] {
+        run(defining, NO_FAULTS, &mut block, MANY);
+        let got = run(script.as_bytes(), NO_FAULTS, &mut block, MANY);
+        assert!(rt; got == outcome(script.as_bytes(), 17, MANY), "{script}");
+        assert!(rt; got.output() == output.as_bytes(), "{script}");
+    }
 }
