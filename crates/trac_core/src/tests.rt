@@ -6,7 +6,7 @@ mod devices;
 mod rows;
 
 use crate::{Cell, Fate, Machine, Report, SliceSink, SliceSource};
-use rows::{DISPLAYED, FORMS, PARTS, READ, SCANNED, VALUES};
+use rows::{DISPLAYED, FORMS, PARTS, READ, REPORTS, SCANNED, VALUES};
 use std::process::Abort;
 
 const AMPLE: usize = 1000;
@@ -170,61 +170,7 @@ fn displays(rt: HostRuntime) {
 
 #[test]
 fn reports(rt: HostRuntime) {
-    let rows = [
-        ("", AMPLE, MANY, "", Fate::InputEnded, 9, 11),
-        ("", 11, MANY, "", Fate::InputEnded, 9, 11),
-        ("", 10, MANY, "", Fate::Workspace, 0, 0),
-        ("", 0, MANY, "", Fate::Workspace, 0, 0),
-        ("", 0, 0, "", Fate::Steps, 0, 0),
-        ("", 10, 0, "", Fate::Steps, 0, 0),
-        (HELLO, AMPLE, MANY, "hello", Fate::InputEnded, 29, 19),
-        (
-            "#(ps,hello)'\n",
-            AMPLE,
-            MANY,
-            "hello",
-            Fate::InputEnded,
-            40,
-            19,
-        ),
-        (HELLO, 19, MANY, "hello", Fate::InputEnded, 29, 19),
-        (HELLO, 18, MANY, "", Fate::Workspace, 8, 11),
-        (HELLO, 10, MANY, "", Fate::Workspace, 0, 0),
-        (HELLO, AMPLE, 18, "", Fate::Steps, 18, 19),
-        (HELLO, AMPLE, 19, "hello", Fate::Steps, 19, 19),
-        (HELLO, AMPLE, 28, "hello", Fate::Steps, 28, 19),
-        (HELLO, 19, 29, "hello", Fate::InputEnded, 29, 19),
-        ("#(ps,hello", AMPLE, MANY, "hello", Fate::InputEnded, 28, 18),
-        (
-            "#(ps,(a,#(b)))'",
-            AMPLE,
-            MANY,
-            "a,#(b)",
-            Fate::InputEnded,
-            25,
-            22,
-        ),
-        ("#(ds,A,b)'", AMPLE, MANY, "", Fate::InputEnded, 27, 17),
-        ("#(ds,A,b)'", 16, MANY, "", Fate::Workspace, 8, 11),
-        ("#(ds,A,b)'", 10, MANY, "", Fate::Workspace, 0, 0),
-        (
-            "#(ds,A,b)'#(ds,A,b)'#(ds,A,b)'",
-            22,
-            MANY,
-            "",
-            Fate::InputEnded,
-            63,
-            22,
-        ),
-        ("(unclosed'", AMPLE, MANY, "", Fate::InputEnded, 19, 17),
-        ("#(hl)'", AMPLE, 13, "", Fate::Halted, 13, 13),
-        ("#(hl)'", AMPLE, 12, "", Fate::Steps, 12, 13),
-        ("((a'", AMPLE, MANY, "", Fate::InputEnded, 19, 11),
-        ("abc", AMPLE, MANY, "abc", Fate::InputEnded, 22, 11),
-        ("#(rc)'", AMPLE, MANY, "", Fate::InputEnded, 13, 13),
-        (LOOP, AMPLE, 1000, "", Fate::Steps, 1000, 36),
-    ];
-    for (script, cells, allowance, output, fate, steps, peak) in rows {
+    for (script, cells, allowance, output, fate, steps, peak) in REPORTS {
         let got = outcome(script.as_bytes(), cells, allowance);
         came_to(&rt, &got, output, fate, steps, peak);
     }

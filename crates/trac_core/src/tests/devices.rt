@@ -2,7 +2,7 @@
 ghost use Rattle.std.specs.Prelude.{◌≡◌, ◌+◌, ◌-◌, ◌^◌, ◌<◌, ◌≤◌, [], length, false};
 ghost use Rattle.trac_core.specs.Devices.{Stream, failures_of_next, failures_of, after_put};
 
-use super::{AMPLE, Faults, HELLO, MANY, NO_FAULTS, came_to, faulty};
+use super::{AMPLE, Faults, HELLO, MANY, NO_FAULTS, SHOWN, came_to, faulty};
 use crate::{
     Cell, Fate, Machine, Next, ReadSource, Report, Sink, SinkFailed, SliceSource, Source, WriteSink,
 };
@@ -198,6 +198,10 @@ fn sinks_that_fail(rt: HostRuntime) {
         let got = faulty(HELLO.as_bytes(), full, AMPLE);
         came_to(&rt, &got, output, Fate::OutputFailed, 18, 19);
     }
+}
+
+#[test]
+fn flushes_that_fail(rt: HostRuntime) {
     let rows = [
         (HELLO, 5, None, "hello", Fate::InputEnded),
         (HELLO, 5, Some(0), "hello", Fate::InputEnded),
@@ -235,25 +239,32 @@ fn sinks_that_fail(rt: HostRuntime) {
     );
 }
 
+/// Runs over devices that count, and compares the puts, the flushes and the bytes that were asked for.
+fn calls(rt: &impl Abort, script: &str, puts: u32, flushes: u32, asked: u32) {
+    let mut block = [Cell::Byte(0); AMPLE];
+    let mut source = FakeSource::new(script.as_bytes(), 0, false);
+    let mut sink = FakeSink::new(0, 0);
+    let report = Machine::over(&mut block, MANY).run(&mut source, &mut sink);
+    assert_eq!(rt; report.fate, Fate::InputEnded, "{script}");
+    assert_eq!(rt; (sink.puts, sink.flushes), (puts, flushes), "{script}");
+    assert_eq!(rt; source.calls, asked, "{script}");
+    assert_eq!(rt; (source.failures(), sink.failures()), (0, 0), "{script}");
+}
+
 #[test]
-fn devices_of_the_test(rt: HostRuntime) {
-    let rows = [
-        (HELLO, 5, 1, 13),
-        ("#(ps,hello)'\n", 5, 1, 15),
-        ("#(ps,a)#(ps,b)#(ps,c)'", 3, 3, 23),
-        ("#(ps)#(ds,A,b)'", 0, 0, 16),
-        ("##(eq,,,a)'", 1, 1, 12),
-    ];
-    for (script, puts, flushes, calls) in rows {
-        let mut block = [Cell::Byte(0); AMPLE];
-        let mut source = FakeSource::new(script.as_bytes(), 0, false);
-        let mut sink = FakeSink::new(0, 0);
-        let report = Machine::over(&mut block, MANY).run(&mut source, &mut sink);
-        assert_eq!(rt; report.fate, Fate::InputEnded, "{script}");
-        assert_eq!(rt; (sink.puts, sink.flushes), (puts, flushes), "{script}");
-        assert_eq!(rt; source.calls, calls, "{script}");
-        assert_eq!(rt; (source.failures(), sink.failures()), (0, 0), "{script}");
-    }
+fn calls_of_devices(rt: HostRuntime) {
+    calls(&rt, "", 0, 0, 1);
+    calls(&rt, HELLO, 5, 1, 13);
+    calls(&rt, "#(ps,hello)'\n", 5, 1, 15);
+    calls(&rt, "#(ps,a)#(ps,b)#(ps,c)'", 3, 3, 23);
+    calls(&rt, "#(ps)#(ds,A,b)'", 0, 0, 16);
+    calls(&rt, "##(eq,,,a)'", 1, 1, 12);
+}
+
+#[test]
+fn calls_of_displays(rt: HostRuntime) {
+    calls(&rt, SHOWN, 8, 1, 29);
+    calls(&rt, "#(pf,none)'", 0, 0, 12);
 }
 
 #[test]

@@ -1,4 +1,6 @@
-//! Scripts that were worked by hand, each with its output. They end by themselves in ample room.
+//! Scripts that were worked by hand, each with its output. In ample room they end by themselves.
+use super::{AMPLE, HELLO, LOOP, MANY, SHOWN};
+use crate::Fate;
 
 pub const SCANNED: [(&str, &str); 16] = [
     ("", ""),
@@ -122,11 +124,67 @@ pub const VALUES: [(&str, &str); 14] = [
 ];
 
 pub const DISPLAYED: [(&str, &str); 4] = [
-    (super::SHOWN, "<^>a<1>b"),
+    (SHOWN, "<^>a<1>b"),
     ("#(ds,F,a-b)#(ss,F,-)#(cs,F)#(pf,F)'", "a<1><^>ba"),
     (
         "#(ds,F,x)#(ss,F,,,,,,,,,,,,x)##(PF,F)#(pf,none)'",
         "<^><12>",
     ),
     ("#(ds,F,)#(pf,F)'", "<^>"),
+];
+
+/// Script, cells, allowance; output, fate, steps, peak.
+pub const REPORTS: [(&str, usize, u64, &str, Fate, u64, u32); 28] = [
+    ("", AMPLE, MANY, "", Fate::InputEnded, 9, 11),
+    ("", 11, MANY, "", Fate::InputEnded, 9, 11),
+    ("", 10, MANY, "", Fate::Workspace, 0, 0),
+    ("", 0, MANY, "", Fate::Workspace, 0, 0),
+    ("", 0, 0, "", Fate::Steps, 0, 0),
+    ("", 10, 0, "", Fate::Steps, 0, 0),
+    (HELLO, AMPLE, MANY, "hello", Fate::InputEnded, 29, 19),
+    (
+        "#(ps,hello)'\n",
+        AMPLE,
+        MANY,
+        "hello",
+        Fate::InputEnded,
+        40,
+        19,
+    ),
+    (HELLO, 19, MANY, "hello", Fate::InputEnded, 29, 19),
+    (HELLO, 18, MANY, "", Fate::Workspace, 8, 11),
+    (HELLO, 10, MANY, "", Fate::Workspace, 0, 0),
+    (HELLO, AMPLE, 18, "", Fate::Steps, 18, 19),
+    (HELLO, AMPLE, 19, "hello", Fate::Steps, 19, 19),
+    (HELLO, AMPLE, 28, "hello", Fate::Steps, 28, 19),
+    (HELLO, 19, 29, "hello", Fate::InputEnded, 29, 19),
+    ("#(ps,hello", AMPLE, MANY, "hello", Fate::InputEnded, 28, 18),
+    (
+        "#(ps,(a,#(b)))'",
+        AMPLE,
+        MANY,
+        "a,#(b)",
+        Fate::InputEnded,
+        25,
+        22,
+    ),
+    ("#(ds,A,b)'", AMPLE, MANY, "", Fate::InputEnded, 27, 17),
+    ("#(ds,A,b)'", 16, MANY, "", Fate::Workspace, 8, 11),
+    ("#(ds,A,b)'", 10, MANY, "", Fate::Workspace, 0, 0),
+    (
+        "#(ds,A,b)'#(ds,A,b)'#(ds,A,b)'",
+        22,
+        MANY,
+        "",
+        Fate::InputEnded,
+        63,
+        22,
+    ),
+    ("(unclosed'", AMPLE, MANY, "", Fate::InputEnded, 19, 17),
+    ("#(hl)'", AMPLE, 13, "", Fate::Halted, 13, 13),
+    ("#(hl)'", AMPLE, 12, "", Fate::Steps, 12, 13),
+    ("((a'", AMPLE, MANY, "", Fate::InputEnded, 19, 11),
+    ("abc", AMPLE, MANY, "abc", Fate::InputEnded, 22, 11),
+    ("#(rc)'", AMPLE, MANY, "", Fate::InputEnded, 13, 13),
+    (LOOP, AMPLE, 1000, "", Fate::Steps, 1000, 36),
 ];
