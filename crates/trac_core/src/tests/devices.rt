@@ -318,8 +318,9 @@ fn stays_over(
 
 #[test]
 fn ended_runs_stay_ended(rt: HostRuntime) {
-    for n in 0..=12 {
-        let source = FakeSource::new(&HELLO.as_bytes()[..n], 0, true);
+    let text = HELLO.as_bytes();
+    for n in 0..=text.len() {
+        let source = FakeSource::new(&text[..n], 0, true);
         stays_over(
             &rt,
             source,
@@ -376,14 +377,14 @@ fn piped(rt: &impl Abort, taken: &mut Vec<u8>, bad_read: u32, bad_write: u32) ->
 #[test]
 fn readers_and_writers_that_fail(rt: HostRuntime) -> Result<(), Fail> {
     let rows = [
-        (0, 0, Fate::InputEnded, 5, 29, 19),
-        (13, 0, Fate::InputFailed, 5, 28, 19),
+        (0, Fate::InputEnded, 29, 19),
+        (13, Fate::InputFailed, 28, 19),
     ];
-    for (bad_read, bad_write, fate, written, steps, peak) in rows {
+    for (bad_read, fate, steps, peak) in rows {
         let mut taken = Vec::new(rt.alloc());
-        let report = piped(&rt, &mut taken, bad_read, bad_write);
+        let report = piped(&rt, &mut taken, bad_read, 0);
         assert_eq!(rt; report, Report { fate, steps, peak });
-        assert!(rt; taken.as_slice() == &b"hello"[..written]);
+        assert!(rt; taken.as_slice() == b"hello".as_slice());
     }
     for k in 1..=12u32 {
         let mut taken = Vec::new(rt.alloc());
@@ -407,5 +408,12 @@ fn readers_and_writers_that_fail(rt: HostRuntime) -> Result<(), Fail> {
         assert_eq!(rt; report, want, "{k}");
         assert!(rt; taken.as_slice() == &b"hello"[..(k as usize - 1).min(5)]);
     }
+    Ok(())
+}
+
+#[test]
+fn text_of_a_sink_failed(rt: HostRuntime) -> Result<(), Fail> {
+    let text = format!(in rt.alloc(); "{SinkFailed}")?;
+    assert!(rt; text.as_str() == "sink failed");
     Ok(())
 }

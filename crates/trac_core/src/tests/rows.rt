@@ -24,14 +24,15 @@ pub const SCANNED: [(&str, &str); 16] = [
     ("##(dv,1,0,(#(ps,Z!)))x'", "Z!x"),
 ];
 
-pub const READ: [(&str, &str); 6] = [
+pub const READ: [(&str, &str); 5] = [
     ("#(cm,!)a'b'!", "ab'"),
     ("#(rc)'x", "x"),
     ("##(rc)'(", "("),
     ("#(rc)'(", ""),
     ("#(rc)'", ""),
-    ("#(hl)'", ""),
 ];
+
+pub const HALTING: [(&str, &str); 2] = [("#(hl)'", ""), ("#(ps,a)#(hl)#(ps,b)'", "a")];
 
 pub const FORMS: [(&str, &str); 14] = [
     ("#(ds,A,b)'", ""),
@@ -134,7 +135,7 @@ pub const DISPLAYED: [(&str, &str); 4] = [
 ];
 
 /// Script, cells, allowance; output, fate, steps, peak.
-pub const REPORTS: [(&str, usize, u64, &str, Fate, u64, u32); 28] = [
+pub const REPORTS: [(&str, usize, u64, &str, Fate, u64, u32); 30] = [
     ("", AMPLE, MANY, "", Fate::InputEnded, 9, 11),
     ("", 11, MANY, "", Fate::InputEnded, 9, 11),
     ("", 10, MANY, "", Fate::Workspace, 0, 0),
@@ -160,6 +161,15 @@ pub const REPORTS: [(&str, usize, u64, &str, Fate, u64, u32); 28] = [
     (HELLO, 19, 29, "hello", Fate::InputEnded, 29, 19),
     ("#(ps,hello", AMPLE, MANY, "hello", Fate::InputEnded, 28, 18),
     (
+        "#(ps,hello)",
+        AMPLE,
+        MANY,
+        "hello",
+        Fate::InputEnded,
+        29,
+        19,
+    ),
+    (
         "#(ps,(a,#(b)))'",
         AMPLE,
         MANY,
@@ -171,6 +181,15 @@ pub const REPORTS: [(&str, usize, u64, &str, Fate, u64, u32); 28] = [
     ("#(ds,A,b)'", AMPLE, MANY, "", Fate::InputEnded, 27, 17),
     ("#(ds,A,b)'", 16, MANY, "", Fate::Workspace, 8, 11),
     ("#(ds,A,b)'", 10, MANY, "", Fate::Workspace, 0, 0),
+    (
+        "#(ds,A,b)'#(ds,A,b)'#(ds,A,b)'",
+        AMPLE,
+        MANY,
+        "",
+        Fate::InputEnded,
+        63,
+        22,
+    ),
     (
         "#(ds,A,b)'#(ds,A,b)'#(ds,A,b)'",
         22,
