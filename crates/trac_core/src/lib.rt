@@ -22,3 +22,6 @@ mod writing;
 pub use device::{Next, ReadSource, Sink, SinkFailed, SliceSink, SliceSource, Source, WriteSink};
 pub use machine::{Fate, Machine, Report};
 pub use trac_forms::Cell;
+
+#[cfg(test)]
+mod tests;

@@ -1,0 +1,419 @@
+//! Runs over devices that fail, and over sources, sinks, readers and writers of the tests' own.
+ghost use Rattle.std.specs.Prelude.{◌≡◌, ◌+◌, ◌-◌, ◌^◌, ◌<◌, ◌≤◌, [], length, false};
+ghost use Rattle.trac_core.specs.Devices.{Stream, failures_of_next, failures_of, after_put};
+
+use super::{AMPLE, Faults, HELLO, MANY, NO_FAULTS, SHOWN, came_to, faulty};
+use crate::{
+    Cell, Fate, Machine, Next, ReadSource, Report, Sink, SinkFailed, SliceSource, Source, WriteSink,
+};
+use std::io;
+use std::io::{Read, Write};
+use std::process::Abort;
+use std::test::Fail;
+
+/// A source of a text and then so many letters, after which it fails or ends. It counts its calls.
+#[derive(Drop)]
+struct FakeSource<'a> {
+    text: &'a [u8],
+    letters: u32,
+    fails: bool,
+    calls: u32,
+    failures: u64,
+}
+
+impl<'a> FakeSource<'a> {
+    fn new(text: &'a [u8], letters: u32, fails: bool) -> FakeSource<'a>
+        ensures { result.failures ≡ 0 }
+    {
+        FakeSource {
+            text,
+            letters,
+            fails,
+            calls: 0,
+            failures: 0,
+        }
+    }
+}
+
+impl Source for FakeSource<'_> {
+    ghost tells = { λ _. ⊥ };
+
+    ghost stream = { λ _. record { bytes = []; ended = false } };
+
+    ghost failure_count = { λ s. s.failures };
+
+    fn next(&mut self) -> Next {
+        self.calls = self.calls.saturating_add(1);
+        if let [first, rest @ ..] = self.text {
+            self.text = rest;
+            return Next::Byte(*first);
+        }
+        if self.letters > 0 {
+            self.letters -= 1;
+            return Next::Byte(b'a');
+        }
+        if self.fails {
+            self.failures += 1;
+            return Next::Failed;
+        }
+        Next::End
+    }
+
+    fn failures(&self) -> u64 {
+        self.failures
+    }
+}
+
+/// A sink that fails at the put and at the flush of these numbers, counted from 1. It counts its calls.
+#[derive(Drop)]
+struct FakeSink {
+    bad_put: u32,
+    bad_flush: u32,
+    puts: u32,
+    flushes: u32,
+    failures: u64,
+}
+
+impl FakeSink {
+    fn new(bad_put: u32, bad_flush: u32) -> FakeSink
+        ensures { result.failures ≡ 0 }
+    {
+        FakeSink {
+            bad_put,
+            bad_flush,
+            puts: 0,
+            flushes: 0,
+            failures: 0,
+        }
+    }
+}
+
+impl Sink for FakeSink {
+    ghost tells = { λ _. ⊥ };
+
+    ghost written = { λ _. [] };
+
+    ghost failure_count = { λ s. s.failures };
+
+    fn put(&mut self, _byte: u8) -> Result<(), SinkFailed> {
+        self.puts = self.puts.saturating_add(1);
+        if self.puts == self.bad_put {
+            self.failures += 1;
+            return Err(SinkFailed);
+        }
+        Ok(())
+    }
+
+    fn flush(&mut self) -> Result<(), SinkFailed> {
+        self.flushes = self.flushes.saturating_add(1);
+        if self.flushes == self.bad_flush {
+            self.failures += 1;
+            return Err(SinkFailed);
+        }
+        Ok(())
+    }
+
+    fn failures(&self) -> u64 {
+        self.failures
+    }
+}
+
+/// A reader of a text whose read of this number, counted from 1, fails.
+#[derive(Drop)]
+struct FakeReader<'a> {
+    text: &'a [u8],
+    reads: u32,
+    bad_read: u32,
+}
+
+impl Read for FakeReader<'_> {
+    fn read(&mut self, buf: &mut [u8]) -> io::Result<usize> {
+        self.reads = self.reads.saturating_add(1);
+        if self.reads == self.bad_read {
+            return Err(io::Error::from(io::ErrorKind::Other));
+        }
+        let n = self.text.len().min(buf.len());
+        let (given, rest) = self.text.split_at(n);
+        buf[..n].copy_from_slice(given);
+        self.text = rest;
+        Ok(n)
+    }
+}
+
+/// A writer whose write of this number, counted from 1, fails.
+#[derive(Drop)]
+struct FakeWriter<'a> {
+    taken: &'a mut Vec<u8>,
+    writes: u32,
+    bad_write: u32,
+}
+
+impl Write for FakeWriter<'_> {
+    fn write(&mut self, buf: &[u8]) -> io::Result<usize> {
+        self.writes = self.writes.saturating_add(1);
+        if self.writes == self.bad_write {
+            return Err(io::Error::from(io::ErrorKind::Other));
+        }
+        self.taken.extend_from_slice(buf)?;
+        Ok(buf.len())
+    }
+
+    fn flush(&mut self) -> io::Result<()> {
+        Ok(())
+    }
+}
+
+#[test]
+fn sources_that_fail(rt: HostRuntime) {
+    for place in 0..12u32 {
+        let fails = Faults {
+            source: Some(u64::from(place)),
+            ..NO_FAULTS
+        };
+        let got = faulty(HELLO.as_bytes(), fails, AMPLE);
+        came_to(&rt, &got, "", Fate::InputFailed, 8, (8 + place).max(11));
+    }
+    let rows = [
+        (HELLO, 12, AMPLE, "hello", Fate::InputFailed, 28, 19),
+        (HELLO, 13, AMPLE, "hello", Fate::InputEnded, 29, 19),
+        ("#(p", 3, AMPLE, "", Fate::InputFailed, 8, 11),
+        ("#(p", 3, 11, "", Fate::InputFailed, 8, 11),
+        ("#(ps", 4, 11, "", Fate::Workspace, 8, 11),
+        ("#(ps", 4, 12, "", Fate::InputFailed, 8, 12),
+    ];
+    for (script, place, cells, output, fate, steps, peak) in rows {
+        let fails = Faults {
+            source: Some(place),
+            ..NO_FAULTS
+        };
+        let got = faulty(script.as_bytes(), fails, cells);
+        came_to(&rt, &got, output, fate, steps, peak);
+    }
+}
+
+#[test]
+fn sinks_that_fail(rt: HostRuntime) {
+    for (taken, output) in ["", "h", "he", "hel", "hell"].iter().enumerate() {
+        let full = Faults { taken, ..NO_FAULTS };
+        let got = faulty(HELLO.as_bytes(), full, AMPLE);
+        came_to(&rt, &got, output, Fate::OutputFailed, 18, 19);
+    }
+}
+
+#[test]
+fn flushes_that_fail(rt: HostRuntime) {
+    let rows = [
+        (HELLO, 5, None, "hello", Fate::InputEnded),
+        (HELLO, 5, Some(0), "hello", Fate::InputEnded),
+        (HELLO, 5, Some(1), "hello", Fate::OutputFailed),
+        (HELLO, 5, Some(2), "hello", Fate::InputEnded),
+        (
+            "#(ps,a)#(ps,b)#(ps,c)'",
+            5,
+            Some(2),
+            "ab",
+            Fate::OutputFailed,
+        ),
+    ];
+    for (script, taken, flush, output, fate) in rows {
+        let faults = Faults {
+            source: None,
+            taken,
+            flush,
+        };
+        let got = faulty(script.as_bytes(), faults, AMPLE);
+        assert!(rt; got.output() == output.as_bytes(), "{script}");
+        assert_eq!(rt; got.report.fate, fate, "{script}");
+    }
+    let flush = Faults {
+        flush: Some(1),
+        ..NO_FAULTS
+    };
+    came_to(
+        &rt,
+        &faulty(HELLO.as_bytes(), flush, AMPLE),
+        "hello",
+        Fate::OutputFailed,
+        18,
+        19,
+    );
+}
+
+/// Runs over devices that count, and compares the puts, the flushes and the bytes that were asked for.
+fn calls(rt: &impl Abort, script: &str, puts: u32, flushes: u32, asked: u32) {
+    let mut block = [Cell::Byte(0); AMPLE];
+    let mut source = FakeSource::new(script.as_bytes(), 0, false);
+    let mut sink = FakeSink::new(0, 0);
+    let report = Machine::over(&mut block, MANY).run(&mut source, &mut sink);
+    assert_eq!(rt; report.fate, Fate::InputEnded, "{script}");
+    assert_eq!(rt; (sink.puts, sink.flushes), (puts, flushes), "{script}");
+    assert_eq!(rt; source.calls, asked, "{script}");
+    assert_eq!(rt; (source.failures(), sink.failures()), (0, 0), "{script}");
+}
+
+#[test]
+fn calls_of_devices(rt: HostRuntime) {
+    calls(&rt, "", 0, 0, 1);
+    calls(&rt, HELLO, 5, 1, 13);
+    calls(&rt, "#(ps,hello)'\n", 5, 1, 15);
+    calls(&rt, "#(ps,a)#(ps,b)#(ps,c)'", 3, 3, 23);
+    calls(&rt, "#(ps)#(ds,A,b)'", 0, 0, 16);
+    calls(&rt, "##(eq,,,a)'", 1, 1, 12);
+}
+
+#[test]
+fn calls_of_displays(rt: HostRuntime) {
+    calls(&rt, SHOWN, 8, 1, 29);
+    calls(&rt, "#(pf,none)'", 0, 0, 12);
+}
+
+#[test]
+fn endless_line(rt: HostRuntime) {
+    let mut block = [Cell::Byte(0); 100];
+    let mut source = FakeSource::new(b"", 1_000_000, false);
+    let mut sink = FakeSink::new(0, 0);
+    let report = Machine::over(&mut block, MANY).run(&mut source, &mut sink);
+    let want = Report {
+        fate: Fate::Workspace,
+        steps: 8,
+        peak: 11,
+    };
+    assert_eq!(rt; report, want);
+    assert_eq!(rt; source.calls, 93);
+    assert_eq!(rt; (sink.puts, sink.flushes), (0, 0));
+}
+
+/// Steps a machine to its end and three times more, when it has to answer the same and to call no device.
+fn stays_over(
+    rt: &impl Abort,
+    mut source: FakeSource<'_>,
+    mut sink: FakeSink,
+    cells: usize,
+    steps: u64,
+    fate: Fate,
+)
+    requires source_counts { source.failures ≡ 0 }
+    requires sink_counts { sink.failures ≡ 0 }
+{
+    let mut block = [Cell::Byte(0); AMPLE];
+    let mut machine = Machine::over(&mut block[..cells.min(AMPLE)], steps);
+    let mut ended = None;
+    for _ in 0..100 {
+        assert!(rt; source.failures() == 0 && sink.failures() == 0);
+        ended = machine.step(&mut source, &mut sink);
+        if ended.is_some() {
+            break;
+        }
+    }
+    assert_eq!(rt; ended, Some(fate));
+    let calls = (source.calls, sink.puts, sink.flushes);
+    let counted = (machine.steps(), machine.peak());
+    for _ in 0..3 {
+        assert!(rt; source.failures() <= 1 && sink.failures() <= 1);
+        assert_eq!(rt; machine.step(&mut source, &mut sink), Some(fate));
+        assert_eq!(rt; (source.calls, sink.puts, sink.flushes), calls);
+        assert_eq!(rt; (machine.steps(), machine.peak()), counted);
+    }
+}
+
+#[test]
+fn ended_runs_stay_ended(rt: HostRuntime) {
+    let text = HELLO.as_bytes();
+    for n in 0..=text.len() {
+        let source = FakeSource::new(&text[..n], 0, true);
+        stays_over(
+            &rt,
+            source,
+            FakeSink::new(0, 0),
+            AMPLE,
+            MANY,
+            Fate::InputFailed,
+        );
+    }
+    for (bad_put, bad_flush) in [(1, 0), (2, 0), (3, 0), (4, 0), (5, 0), (0, 1)] {
+        let source = FakeSource::new(HELLO.as_bytes(), 0, false);
+        let sink = FakeSink::new(bad_put, bad_flush);
+        stays_over(&rt, source, sink, AMPLE, MANY, Fate::OutputFailed);
+    }
+    let rows = [
+        (HELLO, AMPLE, MANY, Fate::InputEnded),
+        ("#(hl)'", AMPLE, MANY, Fate::Halted),
+        (HELLO, 18, MANY, Fate::Workspace),
+        (HELLO, 0, MANY, Fate::Workspace),
+        (HELLO, AMPLE, 20, Fate::Steps),
+        (HELLO, 0, 0, Fate::Steps),
+    ];
+    for (script, cells, steps, fate) in rows {
+        let source = FakeSource::new(script.as_bytes(), 0, false);
+        stays_over(&rt, source, FakeSink::new(0, 0), cells, steps, fate);
+    }
+}
+
+/// Runs over a reader and a writer, of which one may fail.
+fn piped(rt: &impl Abort, taken: &mut Vec<u8>, bad_read: u32, bad_write: u32) -> Report {
+    let mut block = [Cell::Byte(0); AMPLE];
+    let mut source = ReadSource::new(FakeReader {
+        text: HELLO.as_bytes(),
+        reads: 0,
+        bad_read,
+    });
+    let mut sink = WriteSink::new(FakeWriter {
+        taken,
+        writes: 0,
+        bad_write,
+    });
+    let report = Machine::over(&mut block, MANY).run(&mut source, &mut sink);
+    assert_eq!(rt;
+        source.failures(),
+        u64::from(report.fate == Fate::InputFailed)
+    );
+    assert_eq!(rt;
+        sink.failures(),
+        u64::from(report.fate == Fate::OutputFailed)
+    );
+    report
+}
+
+#[test]
+fn readers_and_writers_that_fail(rt: HostRuntime) -> Result<(), Fail> {
+    let rows = [
+        (0, Fate::InputEnded, 29, 19),
+        (13, Fate::InputFailed, 28, 19),
+    ];
+    for (bad_read, fate, steps, peak) in rows {
+        let mut taken = Vec::new(rt.alloc());
+        let report = piped(&rt, &mut taken, bad_read, 0);
+        assert_eq!(rt; report, Report { fate, steps, peak });
+        assert!(rt; taken.as_slice() == b"hello".as_slice());
+    }
+    for k in 1..=12u32 {
+        let mut taken = Vec::new(rt.alloc());
+        let report = piped(&rt, &mut taken, k, 0);
+        let want = Report {
+            fate: Fate::InputFailed,
+            steps: 8,
+            peak: (7 + k).max(11),
+        };
+        assert_eq!(rt; report, want, "{k}");
+        assert!(rt; taken.is_empty());
+    }
+    for k in 1..=5u32 {
+        let mut taken = Vec::new(rt.alloc());
+        let report = piped(&rt, &mut taken, 0, k);
+        let want = Report {
+            fate: Fate::OutputFailed,
+            steps: 18,
+            peak: 19,
+        };
+        assert_eq!(rt; report, want, "{k}");
+        assert!(rt; taken.as_slice() == &b"hello"[..(k as usize - 1).min(5)]);
+    }
+    Ok(())
+}
+
+#[test]
+fn text_of_a_sink_failed(rt: HostRuntime) -> Result<(), Fail> {
+    let text = format!(in rt.alloc(); "{SinkFailed}")?;
+    assert!(rt; text.as_str() == "sink failed");
+    Ok(())
+}
