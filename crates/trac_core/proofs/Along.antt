@@ -51,7 +51,7 @@ along-more room bytes before taken old new room_is took along goes_on =
             let before_open = not_ended-before old.source.ended new.source.ended goes_on.stays_ended open_still in
             let more : reads_to_end (state_of old) ≡ false = not_ended-before (reads_to_end (state_of old)) new.source.ended goes_on.read_all open_still in
             let next = anywhere_next room empty before given old.machine.steps old.machine.peak old.machine.memory old.written (a.cut before_open) taken new.source.bytes new.machine.memory new.written
-                (subst (λ s. need s ≤ room) here fits) (sym (ap reads_to_end here) ∙ more) (sym (ap step here) ∙ goes_on.goes) in
+            (subst (λ s. need s ≤ room) here fits) (sym (ap reads_to_end here) ∙ more) (sym (ap step here) ∙ goes_on.goes) in
             subst (λ n. ReachedAnywhere room empty before (given ++ taken) n new.machine.peak new.machine.memory new.written) (sym goes_on.counts.steps)
             (subst (λ p. ReachedAnywhere room empty before (given ++ taken) (old.machine.steps + 1) p new.machine.memory new.written)
             (sym (ap (λ s. max old.machine.peak (need s)) here) ∙ sym goes_on.counts.peak) next);

@@ -45,8 +45,7 @@ module _ (f : Function) (args : List Text) (name : Text) (part : Form → Option
   makes-none old new sound none same =
       let fits = sound.fits in
       let at : Contents → Type 0 = λ w. Makes f args old Value w in
-      subst at (sym same)
-      (
+      subst at (sym same) (
         [],
         record {
           valued = valued-of f args old.forms old.forms [] false
@@ -138,8 +137,7 @@ module _ (f : Function) (args : List Text) (name : Text) (change : Form → Form
   changes-missing old found named sound same none is =
       let fits = sound.fits in
       let at : Contents → Type 0 = λ w. Makes f args old Value w in
-      subst at (sym same)
-      (
+      subst at (sym same) (
         [],
         record {
           valued = valued-of f args old.forms old.forms [] false
@@ -170,8 +168,8 @@ some-part part some = ap (λ b. if b then Some part else None) (lt-ltb 0 (length
 pub next-none : (form : Form) (n from to : ℕ) → from ≡ form.pointer → to ≡ from + length (first_characters (min n (length (text_of (drop from form.body)))) (drop from form.body)) → to ≡ from → next_characters n form ≡ None
 next-none form n from to from_is to_is same =
     let e : first_characters (min n (length (text_of (drop form.pointer form.body)))) (drop form.pointer form.body) ≡ [] =
-        null-first (drop form.pointer form.body) (min n (length (text_of (drop form.pointer form.body))))
-        (sym (ap (λ p. length (first_characters (min n (length (text_of (drop p form.body)))) (drop p form.body))) from_is) ∙ omega arith) in
+    null-first (drop form.pointer form.body) (min n (length (text_of (drop form.pointer form.body))))
+    (sym (ap (λ p. length (first_characters (min n (length (text_of (drop p form.body)))) (drop p form.body))) from_is) ∙ omega arith) in
     ap (forward form) e
 
 -- and else those up to a place
@@ -182,12 +180,12 @@ next-some form n from to from_is within to_is other =
     let part : u ≡ slice_range form.body from to = taken-forward form.body from m within ∙ ap (λ k. slice_range form.body from k) (sym to_is) in
     let long = text_of-first (drop from form.body) m in
     let some : 0 < length (text_of u) = ⊎_elim
-        (λ lt. lt)
-        (λ none. let zero_m : m ≡ 0 = omega arith in let nothing = ap (λ k. length (first_characters k (drop from form.body))) zero_m in absurd (other (let z = first-none (drop from form.body) in omega arith)))
-        (cases_lt 0 (length (text_of u))) in
+    (λ lt. lt)
+    (λ none. let zero_m : m ≡ 0 = omega arith in let nothing = ap (λ k. length (first_characters k (drop from form.body))) zero_m in absurd (other (let z = first-none (drop from form.body) in omega arith)))
+    (cases_lt 0 (length (text_of u))) in
     let here : Part = record { text = text_of u; pointer = from + length u } in
     let same : Some here ≡ Some (record { text = text_of (slice_range form.body from to); pointer = to }) =
-        ap (λ t. let r : Part = record { text = text_of t; pointer = from + length u } in Some r) part ∙ ap (λ k. let r : Part = record { text = text_of (slice_range form.body from to); pointer = k } in Some r) (sym to_is) in
+    ap (λ t. let r : Part = record { text = text_of t; pointer = from + length u } in Some r) part ∙ ap (λ k. let r : Part = record { text = text_of (slice_range form.body from to); pointer = k } in Some r) (sym to_is) in
     sym same ∙ sym (some-part here some)
     ∙ ap (λ p. let r : Part = record { text = text_of (first_characters (min n (length (text_of (drop p form.body)))) (drop p form.body)); pointer = p + length (first_characters (min n (length (text_of (drop p form.body)))) (drop p form.body)) } in unless_null r) from_is
   where
@@ -199,8 +197,8 @@ next-some form n from to from_is within to_is other =
 pub previous-none : (form : Form) (n from to : ℕ) → to ≡ form.pointer → from + length (first_characters (min n (length (text_of (take to form.body)))) (reverse (take to form.body))) ≡ to → from ≡ to → previous_characters n form ≡ None
 previous-none form n from to to_is at same =
     let e : first_characters (min n (length (text_of (take form.pointer form.body)))) (reverse (take form.pointer form.body)) ≡ [] =
-        null-first (reverse (take form.pointer form.body)) (min n (length (text_of (take form.pointer form.body))))
-        (sym (ap (λ p. length (first_characters (min n (length (text_of (take p form.body)))) (reverse (take p form.body)))) to_is) ∙ omega arith) in
+    null-first (reverse (take form.pointer form.body)) (min n (length (text_of (take form.pointer form.body))))
+    (sym (ap (λ p. length (first_characters (min n (length (text_of (take p form.body)))) (reverse (take p form.body)))) to_is) ∙ omega arith) in
     ap (λ u. backward form (reverse u)) e
 
 -- and else those from a place on
@@ -215,13 +213,13 @@ previous-some form n from to to_is within at other =
     let size = length-text_of-reverse (first_characters m (reverse (take to form.body))) in
     let u_long = length-reverse (first_characters m (reverse (take to form.body))) in
     let some : 0 < length (text_of u) = ⊎_elim
-        (λ lt. lt)
-        (λ none. let zero_m : m ≡ 0 = omega arith in let nothing = ap (λ k. length (first_characters k (reverse (take to form.body)))) zero_m in absurd (other (let z = first-none (reverse (take to form.body)) in omega arith)))
-        (cases_lt 0 (length (text_of u))) in
+    (λ lt. lt)
+    (λ none. let zero_m : m ≡ 0 = omega arith in let nothing = ap (λ k. length (first_characters k (reverse (take to form.body)))) zero_m in absurd (other (let z = first-none (reverse (take to form.body)) in omega arith)))
+    (cases_lt 0 (length (text_of u))) in
     let place : to - length u ≡ from = omega arith in
     let here : Part = record { text = text_of u; pointer = to - length u } in
     let same : Some here ≡ Some (record { text = text_of (slice_range form.body from to); pointer = from }) =
-        ap (λ t. let r : Part = record { text = text_of t; pointer = to - length u } in Some r) part ∙ ap (λ k. let r : Part = record { text = text_of (slice_range form.body from to); pointer = k } in Some r) place in
+    ap (λ t. let r : Part = record { text = text_of t; pointer = to - length u } in Some r) part ∙ ap (λ k. let r : Part = record { text = text_of (slice_range form.body from to); pointer = k } in Some r) place in
     sym same ∙ sym (some-part here some)
     ∙ ap (λ p. let r : Part = record { text = text_of (reverse (first_characters (min n (length (text_of (take p form.body)))) (reverse (take p form.body)))); pointer = p - length (reverse (first_characters (min n (length (text_of (take p form.body)))) (reverse (take p form.body)))) } in unless_null r) to_is
   where
@@ -271,8 +269,8 @@ segment-gap form p gap e first =
     let long = length-drop p form.body in
     let here : p + (gap - p) ≡ gap = omega arith in
     let run = prefix-run (drop p form.body) (gap - p) (omega arith)
-        (λ k lt. ap is_gap (get_or-drop p form.body k (Byte 0)) ∙ first.before (p + k) (omega arith) (omega arith))
-        (λ lt. ap is_gap (get_or-drop p form.body (gap - p) (Byte 0)) ∙ ap (gap_at form.body) here ∙ first.passes) in
+    (λ k lt. ap is_gap (get_or-drop p form.body k (Byte 0)) ∙ first.before (p + k) (omega arith) (omega arith))
+    (λ lt. ap is_gap (get_or-drop p form.body (gap - p) (Byte 0)) ∙ ap (gap_at form.body) here ∙ first.passes) in
     let front : length (take (gap - p) (drop p form.body)) ≡ gap - p = length-take (gap - p) (drop p form.body) ∙ omega arith in
     let test : nat_lt (length (take (gap - p) (drop p form.body))) (length (drop p form.body)) ≡ true = lt-ltb _ _ (omega arith) in
     let pointer : p + length (take (gap - p) (drop p form.body)) + 1 ≡ gap + 1 = omega arith in
@@ -284,8 +282,8 @@ pub segment-end : (form : Form) (p end : ℕ) → p ≡ form.pointer → end ≡
 segment-end form p end e end_is le other none =
     let long = length-drop p form.body in
     let run = prefix-run (drop p form.body) (end - p) (omega arith)
-        (λ k lt. ap is_gap (get_or-drop p form.body k (Byte 0)) ∙ none (p + k) (omega arith) (omega arith))
-        (λ lt. absurd (omega arith)) in
+    (λ k lt. ap is_gap (get_or-drop p form.body k (Byte 0)) ∙ none (p + k) (omega arith) (omega arith))
+    (λ lt. absurd (omega arith)) in
     let front : length (take (end - p) (drop p form.body)) ≡ end - p = length-take (end - p) (drop p form.body) ∙ omega arith in
     let test : nat_lt (length (take (end - p) (drop p form.body))) (length (drop p form.body)) ≡ false = le-ltb _ _ (omega arith) in
     let pointer : p + length (take (end - p) (drop p form.body)) ≡ end = omega arith in
@@ -323,9 +321,9 @@ initial-some text form p begin end e some first end_is =
     let long = length-drop p form.body in
     let here : p + (begin - p) ≡ begin = omega arith in
     let place : place_of text (drop p form.body) ≡ Some (begin - p) =
-        place-first text (drop p form.body) (begin - p) (omega arith)
-        (ap (λ items. begins items text) (drop-drop (begin - p) p form.body) ∙ ap (text_at text form.body) here ∙ first.passes)
-        (λ k lt. ap (λ items. begins items text) (drop-drop k p form.body) ∙ first.before (p + k) (omega arith) (omega arith)) in
+    place-first text (drop p form.body) (begin - p) (omega arith)
+    (ap (λ items. begins items text) (drop-drop (begin - p) p form.body) ∙ ap (text_at text form.body) here ∙ first.passes)
+    (λ k lt. ap (λ items. begins items text) (drop-drop k p form.body) ∙ first.before (p + k) (omega arith) (omega arith)) in
     let pointer : p + (begin - p) + length text ≡ end = omega arith in
     sym (some-text text form some
     ∙ sym (ap (λ q. up_to (place_of text (drop q form.body)) text (record form { pointer = q })) e)

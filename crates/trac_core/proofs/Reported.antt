@@ -79,7 +79,7 @@ module _ (room allowance : ℕ) (bytes before : Text) (old new : Moment) (room_i
       let fits = stop.may.fits in
       let counts = stop.counts.steps in
       let whole = sym (run-from room allowance (failing (taken ++ given)) before)
-          ∙ anywhere_failed room empty before taken old.machine.steps old.machine.peak old.machine.memory old.written (along.1.cut stop.not_ended) given allowance (omega arith) (omega arith) stop.ends in (
+      ∙ anywhere_failed room empty before taken old.machine.steps old.machine.peak old.machine.memory old.written (along.1.cut stop.not_ended) given allowance (omega arith) (omega arith) stop.ends in (
         taken ++ given,
         record {
           consumed = along.1.consumed ∙ ap (λ t. taken ++ t) stop.consumed ∙ sym (append_assoc taken given new.source.bytes);

@@ -21,7 +21,12 @@ use trac_forms::{Cell, Work};
 
 /// `rs`: the input up to the meta character, which is consumed (Mooers 1966). A last string that no meta character follows
 /// is a value too, and the end of the input with no byte read ends the run (this processor's own choice).
-pub(crate) fn read_string<I: Source>(work: &mut Work, place: u32, meta: u8, source: &mut I) -> Attempt
+pub(crate) fn read_string<I: Source>(
+    work: &mut Work,
+    place: u32,
+    meta: u8,
+    source: &mut I,
+) -> Attempt
     requires call { IsCall work.old place (Some Function.ReadString) }
     requires counts { I.failure_count source.old < 2 ^ 64 - 1 }
     ensures tried { I.tells source.old → (written : Text) →
@@ -111,7 +116,12 @@ pub(crate) fn read_character<I: Source>(work: &mut Work, place: u32, source: &mu
 }
 
 /// `ps,X`: X is printed, and the sink flushed once where X isn't null (Mooers 1966).
-pub(crate) fn print_string<O: Sink>(work: &mut Work, place: u32, mut arguments: Arguments, sink: &mut O) -> Attempt
+pub(crate) fn print_string<O: Sink>(
+    work: &mut Work,
+    place: u32,
+    mut arguments: Arguments,
+    sink: &mut O,
+) -> Attempt
     requires call { IsCall work.old place (Some Function.PrintString) }
     requires arguments { AreArguments work.old arguments }
     requires rest { texts work.old arguments ≡ drop 1 (arguments_at work.old.neutral place) }
@@ -142,7 +152,12 @@ pub(crate) fn print_string<O: Sink>(work: &mut Work, place: u32, mut arguments: 
 
 /// `cm,X`: the first character of X becomes the meta character (Mooers 1966); a null X changes nothing (this processor's own
 /// choice).
-pub(crate) fn change_meta(work: &mut Work, place: u32, mut arguments: Arguments, meta: &mut u8) -> Attempt
+pub(crate) fn change_meta(
+    work: &mut Work,
+    place: u32,
+    mut arguments: Arguments,
+    meta: &mut u8,
+) -> Attempt
     requires call { IsCall work.old place (Some Function.ChangeMeta) }
     requires arguments { AreArguments work.old arguments }
     requires rest { texts work.old arguments ≡ drop 1 (arguments_at work.old.neutral place) }

@@ -87,34 +87,39 @@ fn answer(rt: &impl Abort, rows: &[(&str, &str)], fate: Fate) {
 }
 
 fn sweep(rt: &impl Abort, script: &str, allowance: u64) {
-    let text = script.as_bytes();
-    let whole = outcome(text, AMPLE, allowance);
-    let (peak, steps) = (whole.report.peak, whole.report.steps);
-    for cells in 0..peak.saturating_add(3) {
-        let got = outcome(text, cells as usize, allowance);
-        if cells < peak {
+    let whole = outcome(script.as_bytes(), AMPLE, allowance);
+    sweep_rooms(rt, script, allowance, &whole);
+    sweep_allowances(rt, script, allowance, &whole);
+}
+
+fn sweep_rooms(rt: &impl Abort, script: &str, allowance: u64, whole: &Ended) {
+    for cells in 0..whole.report.peak.saturating_add(3) {
+        let got = outcome(script.as_bytes(), cells as usize, allowance);
+        if cells < whole.report.peak {
             assert_eq!(rt; got.report.fate, Fate::Workspace, "{script} {cells}");
-            assert!(rt;
-                whole.output().starts_with(got.output()),
-                "{script} {cells}"
-            );
+            assert!(rt; is_begun(whole, &got), "{script} {cells}");
         } else {
-            assert!(rt; got == whole, "{script} {cells}");
+            assert!(rt; got == *whole, "{script} {cells}");
         }
     }
-    for allowed in 0..steps.saturating_add(2) {
-        let got = outcome(text, AMPLE, allowed);
-        if allowed < steps {
-            assert_eq!(rt; got.report.fate, Fate::Steps, "{script} {allowed}");
-            assert_eq!(rt; got.report.steps, allowed, "{script} {allowed}");
-            assert!(rt;
-                whole.output().starts_with(got.output()),
-                "{script} {allowed}"
-            );
+}
+
+fn sweep_allowances(rt: &impl Abort, script: &str, allowance: u64, whole: &Ended) {
+    for allowed in 0..whole.report.steps.saturating_add(2) {
+        let got = outcome(script.as_bytes(), AMPLE, allowed);
+        if allowed < whole.report.steps {
+            let report = (got.report.fate, got.report.steps);
+            assert!(rt; report == (Fate::Steps, allowed), "{script} {allowed}");
+            assert!(rt; is_begun(whole, &got), "{script} {allowed}");
         } else if allowed <= allowance {
-            assert!(rt; got == whole, "{script} {allowed}");
+            assert!(rt; got == *whole, "{script} {allowed}");
         }
     }
+}
+
+/// Whether what a run wrote is a first part of what another did.
+fn is_begun(whole: &Ended, got: &Ended) -> bool {
+    whole.output().starts_with(got.output())
 }
 
 #[test]

@@ -10,6 +10,7 @@ returns-clause-text c = sym (text_of_cells-seen c.neutral_part.result.now) ∙ a
 pub returns-clause-is_text : goal.returns-clause-is_text
 returns-clause-is_text c =
     let e = c.neutral_part.ensures in
-    let sound = c.used.ensures.sound in
-    (bytes-seen c.neutral_part.result.now (subst (All IsByte) (sym e) c.requires.bytes),
-    within-room c.args.work.now c.args.part.0 c.args.part.1 c.neutral_part.result.now sound c.requires e)
+    let sound = c.used.ensures.sound in (
+      bytes-seen c.neutral_part.result.now (subst (All IsByte) (sym e) c.requires.bytes),
+      within-room c.args.work.now c.args.part.0 c.args.part.1 c.neutral_part.result.now sound c.requires e,
+    )

@@ -23,9 +23,9 @@ returns-clause-makes c = λ name.
     let a = text_of_cells c.text.result.now in
     let b = text_of_cells c.text-2.result.now in
     let test = same-test c.equal.result a b c.equal.ensures
-        ∙ ap (λ t. bytes_eq t b) (c.text.ensures.text ∙ first) ∙ ap (λ t. bytes_eq (argument ts 0) t) (c.text-2.ensures.text ∙ second) in
+    ∙ ap (λ t. bytes_eq t b) (c.text.ensures.text ∙ first) ∙ ap (λ t. bytes_eq (argument ts 0) t) (c.text-2.ensures.text ∙ second) in
     let value = chosen c.equal.result (bytes_eq (argument ts 0) (argument ts 1)) (argument ts 2) (argument ts 3) (part_text w.neutral c.if-equal.value.0 c.if-equal.value.1) test
-        (λ is. elim c.if-equal.branch [ then-equal w ↦ rw w.value-is third | else-equal w ↦ absurd cc ])
-        (λ is. elim c.if-equal.branch [ then-equal w ↦ absurd cc | else-equal w ↦ rw w.value-is fourth ]) in
+    (λ is. elim c.if-equal.branch [ then-equal w ↦ rw w.value-is third | else-equal w ↦ absurd cc ])
+    (λ is. elim c.if-equal.branch [ then-equal w ↦ absurd cc | else-equal w ↦ rw w.value-is fourth ]) in
     c.give.ensures.makes Equal (name ∷ ts)
     (valued-of Equal (name ∷ ts) w.forms w.forms _ false (λ meta input. ap (λ t. valued t (world w.forms meta input)) value) (λ _. refl))

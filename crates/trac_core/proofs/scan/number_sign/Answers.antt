@@ -18,8 +18,8 @@ returns-else-is_at-2-clause-scans c =
     let text = text_of_cells c.args.work.now.active in
     let second : slice_get text 1 ≢ Some 40 = λ e. (let t = c.is_at.ensures.1 e in let f = c.if-is_at.false in cc) in
     let third : slice_get text 1 ≡ Some 35 → slice_get text 2 ≢ Some 40 = λ e g.
-        elim c.else-is_at-2.branch [
-          | else-is_at-2-via-then-is_at-2+else-is_at-3 w ↦ (let t = w.is_at-then-is_at-2.ensures.1 g in let f = w.if-is_at-3.false in cc)
-          | else-is_at-2-via-else-is_at-2 w ↦ (let t = c.is_at-else-is_at.ensures.1 e in let f = w.if-is_at-2.false in cc)
-        ] in
+    elim c.else-is_at-2.branch [
+      | else-is_at-2-via-then-is_at-2+else-is_at-3 w ↦ (let t = w.is_at-then-is_at-2.ensures.1 g in let f = w.if-is_at-3.false in cc)
+      | else-is_at-2-via-else-is_at-2 w ↦ (let t = c.is_at-else-is_at.ensures.1 e in let f = w.if-is_at-2.false in cc)
+    ] in
     rw c.put_first.ensures.put (scans-sign c.args.work.now c.requires.first second third)

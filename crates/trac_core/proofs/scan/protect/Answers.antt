@@ -15,8 +15,8 @@ returns-in-Some-clause-scans c =
     let text = sym (text_of_cells-seen part) ∙ text-after old.active (map seen part) (c.active_part.ensures ∙ ap (λ n. slice_range old.active 1 n) c.active_len.ensures.value) in
     let found = subst (λ t. protected t ≡ Some (take len t, drop (len + 1) t)) text c.in-Some.ensures.1 in
     let moved = c.drop_active-in-Some.ensures.rest
-        ∙ ap (λ (w : Contents). record w { active = drop 1 w.active })
-        (c.active_to_neutral.ensures.moved ∙ ap (λ (w : Contents). record w { neutral = w.neutral ++ take len w.active; active = drop len w.active }) c.drop_active.ensures.rest) in
+    ∙ ap (λ (w : Contents). record w { active = drop 1 w.active })
+    (c.active_to_neutral.ensures.moved ∙ ap (λ (w : Contents). record w { neutral = w.neutral ++ take len w.active; active = drop len w.active }) c.drop_active.ensures.rest) in
     rw moved (scans-protected old len c.requires.sound c.requires.first found)
 
 pub returns-in-None-clause-scans : goal.returns-in-None-clause-scans
