@@ -14,7 +14,7 @@ ghost use Rattle.trac_forms.specs.Search.{character_at, gap_at};
 
 use crate::arguments::{Arguments, Made, put_part, text};
 use crate::values::number::{Count, count_of};
-use trac_forms::{FormId, Work};
+use trac_forms::{FormId, Item, Work};
 
 /// `cs,N,Z`: the characters from the pointer up to the next gap, or to the end where no gap follows; the pointer goes past
 /// that gap (Mooers 1966). With the pointer at the end Z is the value, and goes to the active string whatever the call's
@@ -252,10 +252,13 @@ fn gap_or(work: &Work, form: FormId, from: u32, to: u32) -> u32
     requires within { to ≤ length (body_at work.now.forms form.0) }
     ensures { IsFirstOr (gap_at (body_at work.now.forms form.0)) from to result }
 {
-    match work.next_gap(form, from) {
-        Some(place) => place.min(to),
-        None => to,
+    prove!(to <= work.body_len(form));
+    for place in from..to {
+        if let Item::Gap(_) = work.item(form, place) {
+            return place;
+        }
     }
+    to
 }
 
 /// `in,N,X,Z`: the characters from the pointer up to the first occurrence of X, which reaches across no gap; the pointer goes
