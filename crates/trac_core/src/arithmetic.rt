@@ -13,8 +13,8 @@ use crate::writing::put_bytes;
 use itoa::Buffer;
 use trac_forms::Work;
 
-/// `ad,D1,D2,Z`, `su,D1,D2,Z`, `ml,D1,D2,Z` and `dv,D1,D2,Z`: the prefix of D1 and after it the sum, difference, product or
-/// quotient of the numbers of D1 and D2 in decimal (Mooers 1966). Z, which goes to the active string whatever the call's
+/// `ad,N1,N2,Z`, `su,N1,N2,Z`, `ml,N1,N2,Z` and `dv,N1,N2,Z`: the prefix of N1 and after it the sum, difference, product or
+/// quotient of the numbers of N1 and N2 in decimal (Mooers 1966). Z, which goes to the active string whatever the call's
 /// mode, where a number or the result is outside the range of arithmetic or a divisor is 0; the range and that the quotient
 /// is rounded towards 0 are this processor's own choice.
 pub(crate) fn arithmetic(work: &mut Work, operation: Arith, mut arguments: Arguments) -> Made

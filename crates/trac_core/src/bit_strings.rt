@@ -24,8 +24,8 @@ pub(crate) enum BitResult {
     Rotation(u32, (u32, u32)),
 }
 
-/// `bu,O1,O2`: the prefix of O1 and after it the union of the bit strings of O1 and O2 in octal digits (Mooers 1966). That the
-/// shorter is filled with zeros at the left, and that the prefix of O2 is dropped, is this processor's own choice.
+/// `bu,A,B`: the prefix of A and after it the union of the bit strings of A and B in octal digits (Mooers 1966). That the
+/// shorter is filled with zeros at the left, and that the prefix of B is dropped, is this processor's own choice.
 pub(crate) fn union(work: &mut Work, mut arguments: Arguments) -> Made
     requires { AreArguments work.old arguments }
     ensures makes { (name : Text) → Makes Union (name ∷ texts work.old arguments) work.old result work.new }
@@ -39,8 +39,8 @@ pub(crate) fn union(work: &mut Work, mut arguments: Arguments) -> Made
     give_bits(work, (first.0, left.0), BitResult::Union(left, right))
 }
 
-/// `bi,O1,O2`: the prefix of O1 and after it the intersection of the bit strings of O1 and O2 in octal digits (Mooers 1966).
-/// That the longer is cut at the left, and that the prefix of O2 is dropped, is this processor's own choice.
+/// `bi,A,B`: the prefix of A and after it the intersection of the bit strings of A and B in octal digits (Mooers 1966).
+/// That the longer is cut at the left, and that the prefix of B is dropped, is this processor's own choice.
 pub(crate) fn intersection(work: &mut Work, mut arguments: Arguments) -> Made
     requires { AreArguments work.old arguments }
     ensures makes { (name : Text) → Makes Intersection (name ∷ texts work.old arguments) work.old result work.new }

@@ -28,7 +28,7 @@ pub(crate) fn equal(work: &mut Work, mut arguments: Arguments) -> Made
     give(work, value)
 }
 
-/// `gr,D1,D2,X,Y`: X where the number of D1 is greater than that of D2, else Y (Mooers 1966). That the numbers may have any
+/// `gr,N1,N2,X,Y`: X where the number of N1 is greater than that of N2, else Y (Mooers 1966). That the numbers may have any
 /// length is this processor's own choice.
 pub(crate) fn greater(work: &mut Work, mut arguments: Arguments) -> Made
     requires { AreArguments work.old arguments }

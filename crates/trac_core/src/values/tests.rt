@@ -111,90 +111,92 @@ fn calculated(operation: Arith, a: &[Cell], b: &[Cell]) -> Option<i128>
     result_of(operation, left.value, right.value)
 }
 
+/// What the operations make of numbers.
+const RESULTS: [(Arith, &str, &str, Option<i128>); 19] = [
+    (Arith::Add, "Apples5", "Oranges7", Some(12)),
+    (
+        Arith::Add,
+        "9223372036854775807",
+        "1",
+        Some(9_223_372_036_854_775_808),
+    ),
+    (Arith::Divide, "5", "0", None),
+    (Arith::Add, "-0", "0", Some(0)),
+    (Arith::Subtract, "a3", "b5", Some(-2)),
+    (Arith::Multiply, "-3", "+4", Some(-12)),
+    (Arith::Divide, "-7", "2", Some(-3)),
+    (Arith::Add, "x", "2", Some(2)),
+    (
+        Arith::Add,
+        "9223372036854775808",
+        "-1",
+        Some(9_223_372_036_854_775_807),
+    ),
+    (
+        Arith::Subtract,
+        "-9223372036854775807",
+        "1",
+        Some(-9_223_372_036_854_775_808),
+    ),
+    (
+        Arith::Multiply,
+        "3037000499",
+        "3037000499",
+        Some(9_223_372_030_926_249_001),
+    ),
+    (
+        Arith::Multiply,
+        "3037000500",
+        "3037000500",
+        Some(9_223_372_037_000_250_000),
+    ),
+    (
+        Arith::Add,
+        "170141183460469231731687303715884105726",
+        "1",
+        Some(i128::MAX),
+    ),
+    (
+        Arith::Add,
+        "170141183460469231731687303715884105727",
+        "1",
+        None,
+    ),
+    (
+        Arith::Add,
+        "-170141183460469231731687303715884105728",
+        "0",
+        None,
+    ),
+    (
+        Arith::Multiply,
+        "9223372036854775808",
+        "18446744073709551615",
+        Some(170_141_183_460_469_231_722_463_931_679_029_329_920),
+    ),
+    (
+        Arith::Multiply,
+        "9223372036854775808",
+        "18446744073709551616",
+        None,
+    ),
+    (
+        Arith::Subtract,
+        "-170141183460469231731687303715884105727",
+        "1",
+        None,
+    ),
+    (
+        Arith::Divide,
+        "-170141183460469231731687303715884105727",
+        "-1",
+        Some(i128::MAX),
+    ),
+];
+
 #[test]
 fn results_of_arithmetic(rt: HostRuntime) -> Result<(), Fail> {
-    let rows = [
-        (Arith::Add, "Apples5", "Oranges7", Some(12)),
-        (
-            Arith::Add,
-            "9223372036854775807",
-            "1",
-            Some(9_223_372_036_854_775_808),
-        ),
-        (Arith::Divide, "5", "0", None),
-        (Arith::Add, "-0", "0", Some(0)),
-        (Arith::Subtract, "a3", "b5", Some(-2)),
-        (Arith::Multiply, "-3", "+4", Some(-12)),
-        (Arith::Divide, "-7", "2", Some(-3)),
-        (Arith::Add, "x", "2", Some(2)),
-        (
-            Arith::Add,
-            "9223372036854775808",
-            "-1",
-            Some(9_223_372_036_854_775_807),
-        ),
-        (
-            Arith::Subtract,
-            "-9223372036854775807",
-            "1",
-            Some(-9_223_372_036_854_775_808),
-        ),
-        (
-            Arith::Multiply,
-            "3037000499",
-            "3037000499",
-            Some(9_223_372_030_926_249_001),
-        ),
-        (
-            Arith::Multiply,
-            "3037000500",
-            "3037000500",
-            Some(9_223_372_037_000_250_000),
-        ),
-        (
-            Arith::Add,
-            "170141183460469231731687303715884105726",
-            "1",
-            Some(i128::MAX),
-        ),
-        (
-            Arith::Add,
-            "170141183460469231731687303715884105727",
-            "1",
-            None,
-        ),
-        (
-            Arith::Add,
-            "-170141183460469231731687303715884105728",
-            "0",
-            None,
-        ),
-        (
-            Arith::Multiply,
-            "9223372036854775808",
-            "18446744073709551615",
-            Some(170_141_183_460_469_231_722_463_931_679_029_329_920),
-        ),
-        (
-            Arith::Multiply,
-            "9223372036854775808",
-            "18446744073709551616",
-            None,
-        ),
-        (
-            Arith::Subtract,
-            "-170141183460469231731687303715884105727",
-            "1",
-            None,
-        ),
-        (
-            Arith::Divide,
-            "-170141183460469231731687303715884105727",
-            "-1",
-            Some(i128::MAX),
-        ),
-    ];
-    for (operation, a, b, value) in rows {
+    for (operation, a, b, value) in RESULTS {
         assert_eq!(rt;
             calculated(
                 operation,
