@@ -1,11 +1,10 @@
 -- A run of the machine, moment by moment, beside the run of the definition.
-use Rattle.std.proofs.Common.{◌≡◌, ℕ, ◌+◌, ◌<◌, ◌≤◌, max, Bool, true, false, List, [], ◌++◌, refl, sym, ap, ◌∙◌, subst, arith, append_assoc}
+use Rattle.std.proofs.Common.{◌≡◌, ℕ, ◌+◌, ◌≤◌, max, Bool, true, false, [], ◌++◌, refl, sym, ap, ◌∙◌, subst, append_assoc}
 use Rattle.trac_forms.specs.Text.{Text}
 use Rattle.trac_core.specs.Devices.{Stream}
-use Rattle.trac_core.specs.State.{Memory, Input, State, empty}
-use Rattle.trac_core.specs.Step.{Next, step, need, reads_to_end}
-use Rattle.trac_core.specs.Machine.{Moment, MachineState, made, moment, ending, state_with, state_of, GoesOn}
-use Rattle.trac_core.proofs.Anywhere.{standing}
+use Rattle.trac_core.specs.State.{empty}
+use Rattle.trac_core.specs.Step.{step, need, reads_to_end}
+use Rattle.trac_core.specs.Machine.{Moment, made, moment, ending, state_with, state_of, GoesOn}
 use Rattle.trac_core.proofs.Reached.{Reached, reached_start, reached_next}
 use Rattle.trac_core.proofs.ReachedAnywhere.{ReachedAnywhere, anywhere_start, anywhere_next}
 

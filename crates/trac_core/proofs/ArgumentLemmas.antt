@@ -1,8 +1,8 @@
 -- Parts of the neutral string as texts, and arguments cut at comma marks.
-use Rattle.std.proofs.Common.{◌≡◌, ℕ, zero, suc, ◌+◌, ◌-◌, ◌<◌, ◌≤◌, Bool, true, false, List, [], ◌∷◌, ◌++◌, length, take, drop, slice_range, All, map, refl, sym, ap, ◌∙◌, subst, ⊎_elim, arith, get_or, cond, nat_le, append_assoc}
-use Rattle.std.proofs.lemmas.Bool.{cases_Bool, cases_lt, ltb-true, le-ltb, lt-ltb}
-use Rattle.std.proofs.lemmas.List.{length-map, length-take, length-drop, drop_more, get_or-drop, take-take, drop-take, drop-drop}
-use Rattle.std.proofs.lemmas.List.Elements.{All-cons, All-append, All-take, All-drop, All-map}
+use Rattle.std.proofs.Common.{◌≡◌, ℕ, suc, ◌+◌, ◌-◌, ◌<◌, ◌≤◌, Bool, true, false, List, [], ◌∷◌, length, take, drop, slice_range, All, map, refl, sym, ap, ◌∙◌, subst, ⊎_elim, arith, get_or, cond, nat_le}
+use Rattle.std.proofs.lemmas.Bool.{cases_lt}
+use Rattle.std.proofs.lemmas.List.{length-map, length-take, length-drop, get_or-drop, take-take, drop-take, drop-drop}
+use Rattle.std.proofs.lemmas.List.Elements.{All-cons, All-take, All-drop, All-map}
 use Rattle.trac_space.specs.declared.cell.Cell.{Cell}
 use Rattle.trac_space.specs.declared.cell.Cell.TheVariants.{Byte, Call, Comma, Gap, Head}
 use Rattle.trac_space.specs.Cells.{seen, is_call, is_comma, NoCall}
@@ -11,7 +11,7 @@ use Rattle.trac_forms.specs.FlatForms.{flat_text, text_of_cells, character_of}
 use Rattle.trac_forms.specs.Contents.{Contents, IsByte, IsStringCell, IsSound, IsTextPart, part_text}
 use Rattle.trac_core.specs.declared.arguments.Arguments.{Arguments}
 use Rattle.trac_core.specs.State.{argument}
-use Rattle.trac_core.specs.Flat.{in_first, with_first, texts_of}
+use Rattle.trac_core.specs.Flat.{in_first, texts_of}
 use Rattle.trac_core.specs.Calls.{before_comma, texts_from, texts, AreArguments}
 
 -- ---- cells as contracts see them

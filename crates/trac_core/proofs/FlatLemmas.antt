@@ -1,5 +1,5 @@
 -- The memory that cells stand for, cell by cell.
-use Rattle.std.proofs.Common.{◌≡◌, ℕ, zero, suc, ◌+◌, ◌<◌, ◌≤◌, true, false, IsTrue, List, [], ◌∷◌, ◌++◌, length, take, drop, slice_range, sum_by, All, map, refl, sym, ap, ◌∙◌, subst, arith, append_assoc, append-nil, length-append, get_or, cond}
+use Rattle.std.proofs.Common.{◌≡◌, ℕ, suc, ◌+◌, ◌<◌, false, IsTrue, List, [], ◌∷◌, ◌++◌, length, take, drop, sum_by, refl, sym, ap, ◌∙◌, arith, append_assoc, append-nil, length-append, get_or}
 use Rattle.std.proofs.lemmas.List.{take-append-drop, drop_more, length-map}
 use Rattle.std.proofs.lemmas.List.Sums.{sum_by-append, sum_by-cons}
 use Rattle.trac_space.specs.declared.cell.Cell.{Cell}
@@ -11,7 +11,7 @@ use Rattle.trac_forms.specs.Text.{Text}
 use Rattle.trac_forms.specs.Form.{Form}
 use Rattle.trac_forms.specs.FlatForms.{flat_text, text_of_cells, character_of}
 use Rattle.trac_forms.specs.Contents.{Contents, used}
-use Rattle.trac_core.specs.State.{OpenCall, Memory, arguments, call_cells, size, add, add_to, begin_argument, begin_call}
+use Rattle.trac_core.specs.State.{OpenCall, arguments, call_cells, size, add, begin_call}
 use Rattle.trac_core.specs.Flat.{Neutral, no_neutral, with_character, with_comma, with_cell, with_cells, neutral_of, memory_with, memory_of, in_first, with_first, texts_of, mode_of, mode_at, arguments_at}
 
 pub with_cells-append : (n : Neutral) (xs ys : List Cell) → with_cells n (xs ++ ys) ≡ with_cells (with_cells n xs) ys

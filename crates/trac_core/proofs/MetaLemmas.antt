@@ -1,16 +1,15 @@
 -- Texts with and without the meta character, and a text that is read.
-use Rattle.std.proofs.Common.{◌≡◌, ℕ, suc, ◌+◌, ◌≤◌, Bool, true, false, not, ◌||◌, cond, List, [], ◌∷◌, ◌++◌, length, take, drop, refl, sym, ap, ◌∙◌, arith, append_assoc, eqb}
+use Rattle.std.proofs.Common.{◌≡◌, ℕ, suc, ◌+◌, ◌≤◌, Bool, true, false, not, ◌||◌, cond, [], ◌∷◌, ◌++◌, length, take, drop, refl, ap, ◌∙◌, arith, append_assoc, eqb}
 use Rattle.std.specs.Prelude.{◌==◌}
 use Rattle.std.specs.List.{before_first, position_or_len, list_any}
-use Rattle.std.proofs.lemmas.List.{length-append, take_at, drop_at, map-append}
+use Rattle.std.proofs.lemmas.List.{take_at, drop_at, map-append}
 use Rattle.std.proofs.lemmas.List.{length-take-le}
 use Rattle.std.proofs.Math.Seq.{take-length, drop-length}
-use Rattle.trac_space.specs.declared.cell.Cell.{Cell}
 use Rattle.trac_space.specs.declared.cell.Cell.TheVariants.{Byte}
 use Rattle.trac_forms.specs.Text.{Text}
 use Rattle.trac_forms.specs.FlatForms.{flat_text}
 use Rattle.trac_forms.specs.Contents.{Contents}
-use Rattle.trac_core.specs.Transfer.{has_meta, Reads}
+use Rattle.trac_core.specs.Transfer.{Reads}
 
 module _ (p : ℕ → Bool) where
   none-head : (c : ℕ) (text : Text) → list_any p (c ∷ text) ≡ false → p c ≡ false

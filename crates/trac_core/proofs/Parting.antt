@@ -1,20 +1,19 @@
 -- The parts that calls take of a form.
-use Rattle.std.proofs.Common.{◌≡◌, ◌≢◌, ℕ, zero, suc, ◌+◌, ◌-◌, ◌<◌, ◌≤◌, min, Bool, true, false, List, [], ◌∷◌, ◌++◌, length, take, drop, reverse, set, slice_range, get_or, cond, Option, Some, None, refl, sym, ap, ◌∙◌, subst, ⊎_elim, arith, append-nil}
-use Rattle.std.specs.Prelude.{nat_lt, take_while, option_map, if◌then◌else◌, MatchOption}
+use Rattle.std.proofs.Common.{◌≡◌, ◌≢◌, ℕ, zero, suc, ◌+◌, ◌-◌, ◌<◌, ◌≤◌, min, Bool, true, false, List, [], ◌∷◌, ◌++◌, length, take, drop, reverse, set, slice_range, get_or, Option, Some, None, refl, sym, ap, ◌∙◌, subst, ⊎_elim, arith, append-nil}
+use Rattle.std.specs.Prelude.{nat_lt, take_while, option_map, if◌then◌else◌}
 use Rattle.std.specs.List.{prefix_len}
 use Rattle.std.proofs.lemmas.Bool.{cases_lt, lt-ltb, le-ltb}
-use Rattle.std.proofs.lemmas.List.{length-take, length-drop, length-reverse, length-map, get_or-drop, drop-drop}
+use Rattle.std.proofs.lemmas.List.{length-take, length-drop, length-reverse, get_or-drop, drop-drop}
 use Rattle.std.proofs.Math.ListN.{drop_of_length-le}
-use Rattle.trac_space.specs.declared.cell.Cell.{Cell}
 use Rattle.trac_forms.specs.declared.item.Item.{Item}
 use Rattle.trac_forms.specs.declared.item.Item.TheVariants.{Byte, Gap}
 use Rattle.trac_forms.specs.Text.{Text}
 use Rattle.trac_forms.specs.Form.{Form, is_character, text_of, after_pointer, before_pointer}
-use Rattle.trac_forms.specs.FlatForms.{flat_text, character_of}
+use Rattle.trac_forms.specs.FlatForms.{flat_text}
 use Rattle.trac_forms.specs.Segment.{begins, place_of}
-use Rattle.trac_forms.specs.Store.{form_named, changed, cells, form_cells, IsStore, NoneNamed}
-use Rattle.trac_forms.specs.Search.{is_gap, item_at, character_at, gap_at, text_at, NonePasses, IsFirst}
-use Rattle.trac_forms.specs.Contents.{Contents, used, form_at, IsNamedAt, IsSound, IsTextPart, part_text}
+use Rattle.trac_forms.specs.Store.{form_named, changed, cells, form_cells, NoneNamed}
+use Rattle.trac_forms.specs.Search.{is_gap, gap_at, text_at, NonePasses, IsFirst}
+use Rattle.trac_forms.specs.Contents.{Contents, form_at, IsNamedAt, IsSound, part_text}
 use Rattle.trac_forms.proofs.Stores.{form_named-at, form_named-none, changed-at}
 use Rattle.trac_core.specs.declared.arguments.Made.{Made}
 use Rattle.trac_core.specs.declared.arguments.Made.TheVariants.{Full, Value, Forced, Defined}
@@ -22,9 +21,9 @@ use Rattle.trac_core.specs.declared.function.Function.{Function}
 use Rattle.trac_core.specs.State.{Input}
 use Rattle.trac_core.specs.Digits.{signed}
 use Rattle.trac_core.specs.Part.{Part, characters, first_characters, segment_from, next_segment, unless_null, forward, backward, next_characters, previous_characters, up_to, initial_part}
-use Rattle.trac_core.specs.Meaning.{World, Meaning, on_form, silent, with_form, take_part, meaning_of, value_length, built}
+use Rattle.trac_core.specs.Meaning.{World, on_form, silent, with_form, take_part, meaning_of, value_length, built}
 use Rattle.trac_core.specs.Calls.{world, Valued, Makes}
-use Rattle.trac_core.specs.Taking.{part_value, moved, Puts, TakesPart}
+use Rattle.trac_core.specs.Taking.{part_value, moved, TakesPart}
 use Rattle.std.specs.Prelude.{int_lt, unsigned_abs, pos}
 use Rattle.std.proofs.lemmas.List.Sums.{sum_by-cons}
 use Rattle.trac_core.specs.Number.{number}

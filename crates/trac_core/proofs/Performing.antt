@@ -1,8 +1,8 @@
 -- A call that is performed, over the contents of a workspace.
-use Rattle.std.proofs.Common.{◌≡◌, ◌≢◌, ℕ, suc, ◌+◌, ◌-◌, ◌<◌, ◌≤◌, max, Bool, true, false, not, ◌&&◌, ◌||◌, List, [], ◌∷◌, ◌++◌, length, take, drop, All, Option, Some, None, refl, sym, ap, ◌∙◌, subst, arith, append_assoc, append-nil, length-append}
+use Rattle.std.proofs.Common.{◌≡◌, ◌≢◌, ℕ, ◌+◌, ◌-◌, ◌<◌, ◌≤◌, max, Bool, true, false, not, ◌&&◌, ◌||◌, List, [], ◌∷◌, ◌++◌, length, take, drop, All, Option, Some, None, refl, sym, ap, ◌∙◌, subst, arith, append-nil, length-append}
 use Rattle.std.specs.Prelude.{◌==◌, slice_get, unwrap_or, nat_le}
 use Rattle.std.proofs.lemmas.Option.{unwrap_or-slice_get}
-use Rattle.std.specs.List.{before_first, position_or_len, list_any}
+use Rattle.std.specs.List.{list_any}
 use Rattle.std.proofs.lemmas.List.{length-map, length-drop, get_or_append_left}
 use Rattle.std.proofs.Math.Seq.{drop-append_seam, take-append_seam, take-length}
 use Rattle.trac_space.specs.declared.cell.Cell.{Cell}
@@ -20,15 +20,15 @@ use Rattle.trac_core.specs.declared.machine.Fate.{Fate}
 use Rattle.trac_core.specs.declared.machine.Fate.TheVariants.{Halted, InputEnded, Workspace, Steps, InputFailed, OutputFailed}
 use Rattle.trac_core.specs.Devices.{Stream}
 use Rattle.trac_core.specs.Function.{function_named, is_plain, is_read_string}
-use Rattle.trac_core.specs.State.{OpenCall, Memory, Input, State, arguments, argument, size, add}
-use Rattle.trac_core.specs.Meaning.{World, Answer, Meaning, Gives, Ends, meaning_of, meaning, built}
+use Rattle.trac_core.specs.State.{Input, State, arguments, argument, size}
+use Rattle.trac_core.specs.Meaning.{Answer, Gives, Ends, meaning_of, meaning, built}
 use Rattle.trac_core.specs.Rule.{EndCall, rule}
-use Rattle.trac_core.specs.Step.{Outcome, Next, Over, function_of, world_of, deliver, perform, end_call, with_active, follow, end_need, need_by, step, need, reads_last, end_reads_last, reads_last_by, reads_to_end}
+use Rattle.trac_core.specs.Step.{Next, function_of, deliver, perform, end_call, follow, end_need, need_by, step, need, reads_last, end_reads_last, reads_last_by, reads_to_end}
 use Rattle.trac_core.specs.Performed.{performed_by, performs}
-use Rattle.trac_core.specs.Flat.{texts_of, Neutral, no_neutral, with_cells, neutral_of, memory_with, memory_of, mode_of, mode_at, is_active_mode, arguments_at}
+use Rattle.trac_core.specs.Flat.{texts_of, Neutral, no_neutral, neutral_of, memory_with, memory_of, mode_of, mode_at, is_active_mode, arguments_at}
 use Rattle.trac_core.specs.declared.arguments.Made.TheVariants.{Full}
 use Rattle.trac_core.specs.Calls.{texts_from, world, IsValue, IsDefined, Makes}
-use Rattle.trac_core.specs.Machine.{MachineState, Moment, moment, ending, failing, state_with, state_of, failing_state_of, MayStep, EndsRun}
+use Rattle.trac_core.specs.Machine.{MachineState, moment, ending, failing, state_with, state_of, failing_state_of, EndsRun}
 use Rattle.trac_core.specs.Attempts.{scene, Tried, TriedCall, Performs, Scanned, function_at, delivered}
 use Rattle.trac_core.proofs.FlatLemmas.{with_cells-append, with_cells-text, text_of-flat, text_of_cells-append, neutral_of-innermost, call_at, opened, texts_of-some, grown-mode, arguments-call_at, size-used}
 use Rattle.trac_core.proofs.Rules.{rule_end}

@@ -1,5 +1,5 @@
 -- The calls that print, change the meta character and stop.
-use Rattle.std.proofs.Common.{◌≡◌, ◌≢◌, ℕ, ◌+◌, ◌≤◌, false, List, [], ◌∷◌, ◌++◌, length, drop, Option, Some, None, refl, sym, ap, ◌∙◌, arith, slice_get}
+use Rattle.std.proofs.Common.{◌≡◌, ◌≢◌, ℕ, false, List, [], ◌∷◌, ◌++◌, drop, Some, None, refl, sym, ap, ◌∙◌, arith, slice_get}
 use Rattle.std.proofs.lemmas.List.{get_or-drop}
 use Rattle.trac_forms.specs.Text.{Text}
 use Rattle.trac_forms.specs.Contents.{Contents, used}
@@ -7,7 +7,7 @@ use Rattle.trac_core.specs.declared.function.Function.TheVariants.{PrintString, 
 use Rattle.trac_core.specs.declared.machine.Fate.TheVariants.{Halted, OutputFailed}
 use Rattle.trac_core.specs.Devices.{Stream}
 use Rattle.trac_core.specs.State.{argument}
-use Rattle.trac_core.specs.Meaning.{World, change_meta, silent, meaning_of, value_length, built}
+use Rattle.trac_core.specs.Meaning.{World, change_meta, silent, meaning_of, value_length}
 use Rattle.trac_core.specs.Flat.{mode_at, arguments_at}
 use Rattle.trac_core.specs.Calls.{world}
 use Rattle.trac_core.specs.Machine.{ending}

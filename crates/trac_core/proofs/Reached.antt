@@ -1,8 +1,7 @@
 -- What a loop over steps keeps: the run from the start is the run from here, after the steps done.
-use Rattle.std.proofs.Common.{◌≡◌, ℕ, Some, suc, ◌+◌, ◌-◌, ◌<◌, ◌≤◌, max, sym, ap, subst, ◌∙◌, arith}
+use Rattle.std.proofs.Common.{◌≡◌, ℕ, suc, ◌+◌, ◌-◌, ◌<◌, ◌≤◌, max, ap, ◌∙◌, arith}
 use Rattle.trac_core.specs.declared.machine.Fate.{Fate}
-use Rattle.trac_core.specs.declared.machine.Fate.TheVariants.{Halted, InputEnded, Workspace, Steps, InputFailed, OutputFailed}
-use Rattle.trac_forms.specs.Text.{Text}
+use Rattle.trac_core.specs.declared.machine.Fate.TheVariants.{Workspace, Steps}
 use Rattle.trac_core.specs.State.{State}
 use Rattle.trac_core.specs.Step.{Next, Over, step, need}
 use Rattle.trac_core.specs.Run.{Run, counted, stopped, run}

@@ -1,25 +1,19 @@
 -- The calls that read.
-use Rattle.std.proofs.Common.{◌≡◌, ◌≢◌, ℕ, suc, ◌+◌, ◌-◌, ◌<◌, ◌≤◌, Bool, true, false, not, ◌&&◌, ◌||◌, List, [], ◌∷◌, ◌++◌, length, take, drop, Option, Some, None, refl, sym, ap, ◌∙◌, subst, arith, append_assoc, append-nil, length-append, eqb, All, ⊎_elim}
+use Rattle.std.proofs.Common.{◌≡◌, ℕ, ◌+◌, ◌<◌, ◌≤◌, Bool, true, false, not, ◌||◌, List, [], ◌∷◌, ◌++◌, length, take, drop, Some, None, refl, sym, ap, ◌∙◌, subst, arith, append_assoc, length-append, All, ⊎_elim}
 use Rattle.std.specs.Prelude.{◌==◌}
 use Rattle.std.specs.List.{before_first, position_or_len, list_any}
 use Rattle.std.proofs.Common.{eq-eqb}
 use Rattle.std.proofs.lemmas.List.{length-map}
 use Rattle.std.proofs.lemmas.Bool.{cases_lt}
 use Rattle.std.proofs.Math.Seq.{drop-append_seam}
-use Rattle.trac_space.specs.declared.cell.Cell.{Cell}
 use Rattle.trac_space.specs.declared.cell.Cell.TheVariants.{Byte}
-use Rattle.trac_space.specs.Calls.{IsLastCall}
 use Rattle.trac_forms.specs.Text.{Text}
 use Rattle.trac_forms.specs.FlatForms.{flat_text, text_of_cells}
 use Rattle.trac_forms.specs.Contents.{Contents, used, IsByte, IsSound}
-use Rattle.trac_core.specs.declared.function.Function.{Function}
 use Rattle.trac_core.specs.declared.function.Function.TheVariants.{ReadString, ReadCharacter}
 use Rattle.trac_core.specs.declared.machine.Fate.TheVariants.{InputEnded, Workspace, InputFailed}
 use Rattle.trac_core.specs.Devices.{Stream}
-use Rattle.trac_core.specs.Function.{function_named}
-use Rattle.trac_core.specs.State.{argument}
-use Rattle.trac_core.specs.Meaning.{World, Gives, Ends, meaning_of, meaning, built, before_meta, from_meta, read_string, read_all, valued, with_input}
-use Rattle.trac_core.specs.Step.{reads_last}
+use Rattle.trac_core.specs.Meaning.{World, meaning_of, built, before_meta, from_meta, read_string, read_all, valued, with_input}
 use Rattle.trac_core.specs.Transfer.{has_meta, Reads}
 use Rattle.trac_core.specs.Flat.{mode_at, arguments_at}
 use Rattle.trac_core.specs.Calls.{world}

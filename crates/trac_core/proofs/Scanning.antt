@@ -1,10 +1,9 @@
 -- The rules that perform no call, over the contents of a workspace.
-use Rattle.std.proofs.Common.{◌≡◌, ◌≢◌, ℕ, zero, suc, ◌+◌, ◌-◌, ◌<◌, ◌≤◌, Bool, true, false, List, [], ◌∷◌, ◌++◌, length, take, drop, map, All, Option, Some, None, IsTrue, ◌↔◌, cond, refl, sym, ap, ◌∙◌, subst, ⊎_elim, arith, slice_get}
-use Rattle.std.specs.Prelude.{◌==◌}
+use Rattle.std.proofs.Common.{◌≡◌, ◌≢◌, ℕ, ◌+◌, ◌-◌, ◌<◌, ◌≤◌, Bool, true, false, List, [], ◌∷◌, ◌++◌, length, take, drop, map, All, Option, Some, None, IsTrue, ◌↔◌, refl, sym, ap, ◌∙◌, subst, ⊎_elim, arith, slice_get}
 use Rattle.std.specs.Bool.{OnTrue}
 use Rattle.std.specs.Prelude.{MatchOption, is_some, slice_range}
-use Rattle.std.proofs.lemmas.Bool.{ne_eqb, cases_lt, cases_eq}
-use Rattle.std.proofs.lemmas.List.{drop-map, take-map, length-map, length-drop, drop-drop}
+use Rattle.std.proofs.lemmas.Bool.{cases_eq}
+use Rattle.std.proofs.lemmas.List.{drop-map, take-map, length-drop, drop-drop}
 use Rattle.std.proofs.lemmas.List.Elements.{All-take, All-drop}
 use Rattle.std.proofs.Math.Seq.{take-length}
 use Rattle.trac_space.specs.declared.cell.Cell.{Cell}
@@ -19,10 +18,10 @@ use Rattle.trac_forms.specs.Store.{cells}
 use Rattle.trac_forms.specs.FlatForms.{flat_text, text_of_cells, character_of}
 use Rattle.trac_forms.specs.Contents.{Contents, used, IsByte, IsSound}
 use Rattle.trac_core.specs.Protected.{protected}
-use Rattle.trac_core.specs.State.{Memory, Input, State, OpenCall, size, add, begin_argument, begin_call}
+use Rattle.trac_core.specs.State.{Input, OpenCall, add, begin_argument, begin_call}
 use Rattle.trac_core.specs.Rule.{Rule, LoadIdling, DeleteLayout, AddProtected, ClearActive, BeginArgument, BeginCall, EndCall, AddCharacter, parenthesis_rule, is_layout, rule}
-use Rattle.trac_core.specs.Step.{Outcome, Next, Over, idling, end_call, with_active, follow, end_need, need_by, step, need, world_of, end_reads_last, reads_last_by, reads_to_end}
-use Rattle.trac_core.specs.Flat.{Neutral, with_cell, with_cells, neutral_of, memory_with, memory_of}
+use Rattle.trac_core.specs.Step.{Next, idling, end_call, with_active, follow, end_need, need_by, step, need, world_of, end_reads_last, reads_last_by}
+use Rattle.trac_core.specs.Flat.{Neutral, with_cell, neutral_of, memory_with, memory_of}
 use Rattle.trac_core.specs.Machine.{state_with}
 use Rattle.trac_core.specs.Attempts.{Scans, ClosesNone}
 use Rattle.trac_core.proofs.FlatLemmas.{with_cells-append, neutral_of-push, neutral_of-innermost, size-used, with_cells-text, calls-none}

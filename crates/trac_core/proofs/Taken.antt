@@ -1,5 +1,5 @@
 -- Characters and gaps among the items of a form.
-use Rattle.std.proofs.Common.{◌≡◌, ◌≢◌, ℕ, zero, suc, ◌+◌, ◌-◌, ◌<◌, ◌≤◌, min, Bool, true, false, List, [], ◌∷◌, ◌++◌, length, take, drop, reverse, All, slice_range, get_or, refl, sym, ap, ◌∙◌, subst, ⊎_elim, arith, append_assoc, append-nil, length-append}
+use Rattle.std.proofs.Common.{◌≡◌, ℕ, zero, suc, ◌+◌, ◌-◌, ◌<◌, ◌≤◌, min, Bool, true, false, List, [], ◌∷◌, ◌++◌, length, take, drop, reverse, All, slice_range, get_or, refl, sym, ap, ◌∙◌, ⊎_elim, arith, append_assoc, append-nil, length-append}
 use Rattle.std.proofs.lemmas.Bool.{cases_lt}
 use Rattle.std.proofs.lemmas.List.{length-take, length-drop, length-reverse, get_or-drop, get_or-reverse, get_or-take, drop-drop, drop-take, take-append-drop, reverse-append, reverse-reverse, take-take}
 use Rattle.std.proofs.Math.Seq.{take-append_seam, take-add}
@@ -7,14 +7,14 @@ use Rattle.std.proofs.Math.Seq.{drop-append_seam}
 use Rattle.trac_forms.specs.declared.item.Item.{Item}
 use Rattle.trac_forms.specs.declared.item.Item.TheVariants.{Byte, Gap}
 use Rattle.trac_forms.specs.Text.{Text}
-use Rattle.trac_forms.specs.Form.{Form, is_character, text_of}
+use Rattle.trac_forms.specs.Form.{is_character, text_of}
 use Rattle.trac_space.specs.declared.cell.Cell.TheVariants.{Byte as ByteCell}
 use Rattle.trac_forms.specs.FlatForms.{flat_text}
 use Rattle.trac_forms.specs.Contents.{Contents, used}
 use Rattle.trac_forms.proofs.Copies.{characters-between}
 use Rattle.std.proofs.lemmas.List.{map-append, length-map}
 use Rattle.trac_forms.specs.Search.{is_gap, item_at, character_at, gap_at, NonePasses, IsFirst, IsLast}
-use Rattle.trac_core.specs.Part.{first_characters, last_characters}
+use Rattle.trac_core.specs.Part.{first_characters}
 use Rattle.trac_core.specs.Taking.{IsFirstOr}
 
 first_characters-none : (items : List Item) → first_characters 0 items ≡ []

@@ -11,7 +11,7 @@ use Rattle.trac_core.specs.declared.arguments.Made.{Made}
 use Rattle.trac_core.specs.declared.arguments.Made.TheVariants.{Full, Value, Forced, Defined}
 use Rattle.trac_core.specs.declared.function.Function.{Function}
 use Rattle.trac_core.specs.State.{Input}
-use Rattle.trac_core.specs.Meaning.{World, Answer, Gives, meaning_of, built}
+use Rattle.trac_core.specs.Meaning.{World, Gives, meaning_of, built}
 use Rattle.trac_core.specs.Flat.{texts_of}
 
 -- how many cells stand before the first comma mark

@@ -1,5 +1,5 @@
 -- Cells that all are characters.
-use Rattle.std.specs.Prelude.{ℕ, ◌≤◌, List, length, All}
+use Rattle.std.specs.Prelude.{◌≤◌, List, length, All}
 use Rattle.trac_space.specs.declared.cell.Cell.{Cell}
 use Rattle.trac_forms.specs.Contents.{IsByte}
 

@@ -1,5 +1,5 @@
 -- What contracts say of the display of a form.
-use Rattle.std.specs.Prelude.{◌≡◌, List, [], ◌++◌, Result, Ok, Err, Option, Some, None}
+use Rattle.std.specs.Prelude.{◌≡◌, [], ◌++◌, Result, Ok, Err, Option, Some, None}
 use Rattle.trac_forms.specs.Text.{Text}
 use Rattle.trac_forms.specs.Form.{Form}
 use Rattle.trac_core.specs.Meaning.{show_form}

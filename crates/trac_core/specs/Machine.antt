@@ -1,5 +1,5 @@
 -- What contracts see of a machine, what a step of it answers, and what a run of it reports.
-use Rattle.std.specs.Prelude.{◌≡◌, ◌≢◌, ℕ, ◌+◌, ◌<◌, ◌≤◌, max, Bool, true, false, List, [], ◌++◌, length, Option, Some, None}
+use Rattle.std.specs.Prelude.{◌≡◌, ◌≢◌, ℕ, ◌+◌, ◌<◌, ◌≤◌, max, Bool, true, false, [], ◌++◌, length, Option, Some, None}
 use Rattle.trac_forms.specs.Text.{Text}
 use Rattle.trac_core.specs.declared.machine.Fate.{Fate}
 use Rattle.trac_core.specs.declared.machine.Fate.TheVariants.{Halted, InputEnded, Workspace, Steps, InputFailed, OutputFailed}

@@ -1,7 +1,7 @@
 -- What is taken of a form by a call.
-use Rattle.std.specs.Prelude.{◌≡◌, ℕ, Bool, true, ◌+◌, ◌<◌, ◌≤◌, List, ◌++◌, length, set, slice_range, Option, Some, None}
+use Rattle.std.specs.Prelude.{◌≡◌, ℕ, Bool, true, ◌+◌, ◌<◌, ◌≤◌, List, ◌++◌, length, set, Option, Some, None}
 use Rattle.trac_forms.specs.Text.{Text}
-use Rattle.trac_forms.specs.Form.{Form, text_of}
+use Rattle.trac_forms.specs.Form.{Form}
 use Rattle.trac_forms.specs.FlatForms.{flat_text}
 use Rattle.trac_forms.specs.Contents.{Contents, used, form_at}
 use Rattle.trac_forms.specs.Search.{NonePasses}

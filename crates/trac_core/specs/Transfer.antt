@@ -1,5 +1,5 @@
 -- What is said of a text that is read into the neutral string.
-use Rattle.std.specs.Prelude.{◌≡◌, ℕ, Bool, true, false, List, [], ◌∷◌, ◌++◌, ◌==◌}
+use Rattle.std.specs.Prelude.{◌≡◌, ℕ, Bool, true, false, [], ◌∷◌, ◌++◌, ◌==◌}
 use Rattle.std.specs.List.{list_any}
 use Rattle.trac_forms.specs.Text.{Text}
 use Rattle.trac_forms.specs.FlatForms.{flat_text}

@@ -1,4 +1,3 @@
-use Rattle.std.proofs.Common.{sym, ap, ◌∙◌, ◌++◌}
 use Rattle.trac_core.proofs.ArgumentLemmas.{flat-bytes}
 use Rattle.trac_core.proofs.arguments.put_part.Goals as goal
 

@@ -1,4 +1,4 @@
-use Rattle.std.proofs.Common.{sym, ap, ◌∙◌, subst, All, arith}
+use Rattle.std.proofs.Common.{sym, ap, ◌∙◌, subst, All}
 use Rattle.trac_forms.specs.FlatForms.{text_of_cells}
 use Rattle.trac_forms.specs.Contents.{IsByte}
 use Rattle.trac_core.proofs.ArgumentLemmas.{text_of_cells-seen, bytes-seen, within-room}

@@ -1,4 +1,4 @@
-use Rattle.std.proofs.Common.{◌≡◌, sym, ap, ◌∙◌}
+use Rattle.std.proofs.Common.{sym, ap, ◌∙◌}
 use Rattle.trac_core.specs.Performed.{reads_input, prints_output}
 use Rattle.trac_core.proofs.Performing.{performs-closed, function-performs}
 use Rattle.trac_core.proofs.call.close.Goals as goal

@@ -1,4 +1,4 @@
-use Rattle.std.proofs.Common.{◌≡◌, ◌++◌, take, drop, sym, ap, ◌∙◌, true, false, arith, length}
+use Rattle.std.proofs.Common.{◌++◌, take, drop, sym, ap, ◌∙◌, arith}
 use Rattle.trac_forms.specs.FlatForms.{flat_text, text_of_cells}
 use Rattle.trac_forms.specs.Contents.{Contents}
 use Rattle.std.proofs.lemmas.List.{take-take}

@@ -1,6 +1,4 @@
-use Rattle.std.proofs.Common.{◌≡◌, ◌≤◌, ◌<◌, ◌+◌, ◌-◌, ◌++◌, ◌∷◌, length, drop, All, Some, true, false, sym, ap, ◌∙◌, subst, arith}
-use Rattle.trac_forms.specs.FlatForms.{flat_text}
-use Rattle.trac_forms.specs.Contents.{Contents, IsByte}
+use Rattle.std.proofs.Common.{◌+◌, true, false, ap, arith}
 use Rattle.trac_core.specs.State.{argument}
 use Rattle.trac_core.specs.Flat.{arguments_at}
 use Rattle.trac_core.specs.Calls.{texts}

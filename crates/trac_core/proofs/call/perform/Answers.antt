@@ -1,4 +1,4 @@
-use Rattle.std.proofs.Common.{◌≡◌, ◌+◌, Some, drop, sym, ap, ◌∙◌}
+use Rattle.std.proofs.Common.{◌+◌, drop, sym, ap, ◌∙◌}
 use Rattle.trac_core.specs.State.{argument}
 use Rattle.trac_core.specs.Function.{function_named}
 use Rattle.trac_core.specs.Calls.{texts_from}

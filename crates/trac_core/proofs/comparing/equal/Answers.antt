@@ -1,6 +1,5 @@
-use Rattle.std.proofs.Common.{◌≡◌, ◌∷◌, ◌+◌, true, false, sym, ap, ◌∙◌, refl, cond}
+use Rattle.std.proofs.Common.{◌∷◌, false, ap, ◌∙◌, refl}
 use Rattle.std.specs.Prelude.{bytes_eq}
-use Rattle.trac_forms.specs.Text.{Text}
 use Rattle.trac_forms.specs.FlatForms.{text_of_cells}
 use Rattle.trac_forms.specs.Contents.{part_text}
 use Rattle.trac_core.specs.declared.function.Function.TheVariants.{Equal}

@@ -1,4 +1,4 @@
-use Rattle.std.proofs.Common.{◌≡◌, ◌++◌, take, sym, ap, ◌∙◌, subst}
+use Rattle.std.proofs.Common.{sym, ap, ◌∙◌}
 use Rattle.trac_forms.specs.Store.{form_named}
 use Rattle.trac_forms.specs.Contents.{Contents}
 use Rattle.trac_core.specs.Flat.{arguments_at}

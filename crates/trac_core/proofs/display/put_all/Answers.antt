@@ -1,5 +1,3 @@
-use Rattle.std.proofs.Common.{◌≡◌, ◌++◌, ◌∷◌, [], arith, sym, ap, ◌∙◌, append_assoc, get_or, take}
-use Rattle.std.proofs.lemmas.List.{take_more}
 use Rattle.trac_core.proofs.Displaying.{breaks-bytes, prints-err}
 use Rattle.trac_core.proofs.display.put_all.Goals as goal
 

@@ -1,8 +1,7 @@
-use Rattle.std.proofs.Common.{◌≡◌, ◌++◌, List, ℕ, sym, ap, ◌∙◌, subst, slice_range, length, refl}
+use Rattle.std.proofs.Common.{◌++◌, ◌∙◌, slice_range, length, refl}
 use Rattle.std.specs.Prelude.{codes}
-use Rattle.trac_forms.specs.Contents.{form_at, body_at}
-use Rattle.trac_core.specs.Meaning.{show, show_form}
-use Rattle.trac_core.specs.Display.{Prints}
+use Rattle.trac_forms.specs.Contents.{form_at}
+use Rattle.trac_core.specs.Meaning.{show}
 use Rattle.trac_core.proofs.Displaying.{breaks-off, breaks-then, prints-err, prints-then, prints-nothing, display-parts}
 use Rattle.trac_core.proofs.display.show_form.Goals as goal
 

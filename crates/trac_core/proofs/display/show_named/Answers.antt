@@ -1,4 +1,4 @@
-use Rattle.std.proofs.Common.{◌≡◌, ◌≢◌, ◌++◌, [], List, ℕ, sym, ap, ◌∙◌, subst, append-nil}
+use Rattle.std.proofs.Common.{◌++◌, sym, ap, ◌∙◌, subst, append-nil}
 use Rattle.trac_forms.specs.Text.{Text}
 use Rattle.trac_forms.specs.Contents.{Contents, form_at, part_text}
 use Rattle.trac_forms.proofs.Stores.{form_named-at, form_named-none}

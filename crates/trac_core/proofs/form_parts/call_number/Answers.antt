@@ -1,4 +1,4 @@
-use Rattle.std.proofs.Common.{◌≡◌, ◌∷◌, ◌+◌, sym, ap, ◌∙◌, refl, subst, arith, length, Option}
+use Rattle.std.proofs.Common.{◌∷◌, sym, ap, ◌∙◌, refl, subst, arith, length, Option}
 use Rattle.trac_forms.specs.Contents.{Contents, part_text, form_at, IsSound}
 use Rattle.trac_forms.specs.FlatForms.{text_of_cells}
 use Rattle.trac_core.specs.declared.function.Function.TheVariants.{CallNumber}
@@ -6,7 +6,7 @@ use Rattle.trac_core.specs.State.{argument}
 use Rattle.trac_core.specs.Meaning.{meaning_of}
 use Rattle.trac_core.specs.Calls.{texts}
 use Rattle.trac_core.specs.Part.{Part, characters}
-use Rattle.trac_core.proofs.Parting.{TakesBy, makes-found, makes-missing, characters-counted}
+use Rattle.trac_core.proofs.Parting.{makes-found, makes-missing, characters-counted}
 use Rattle.trac_core.specs.Number.{number}
 use Rattle.trac_core.specs.Taking.{TakesPart}
 use Rattle.trac_core.proofs.form_parts.call_number.Goals as goal

@@ -1,10 +1,9 @@
-use Rattle.std.proofs.Common.{◌≡◌, ◌∷◌, ◌+◌, sym, ap, ◌∙◌, refl, subst}
-use Rattle.trac_forms.specs.Form.{Form}
+use Rattle.std.proofs.Common.{◌∷◌, refl}
 use Rattle.trac_core.specs.declared.function.Function.TheVariants.{CallRestore}
 use Rattle.trac_core.specs.State.{argument}
 use Rattle.trac_core.specs.Meaning.{meaning_of}
 use Rattle.trac_core.specs.Calls.{texts}
-use Rattle.trac_core.proofs.Parting.{ChangesBy, changes-found, changes-missing}
+use Rattle.trac_core.proofs.Parting.{changes-found, changes-missing}
 use Rattle.trac_core.proofs.form_parts.call_restore.Goals as goal
 
 pub returns-in-Some-clause-makes : goal.returns-in-Some-clause-makes

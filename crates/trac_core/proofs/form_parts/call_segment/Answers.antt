@@ -1,11 +1,10 @@
-use Rattle.std.proofs.Common.{◌≡◌, ◌∷◌, ◌+◌, sym, ap, ◌∙◌, refl, subst}
-use Rattle.trac_forms.specs.Contents.{Contents, part_text, form_at}
+use Rattle.std.proofs.Common.{◌∷◌, ◌∙◌, refl}
 use Rattle.trac_core.specs.declared.function.Function.TheVariants.{CallSegment}
 use Rattle.trac_core.specs.State.{argument}
 use Rattle.trac_core.specs.Meaning.{meaning_of}
 use Rattle.trac_core.specs.Calls.{texts}
 use Rattle.trac_core.specs.Part.{next_segment}
-use Rattle.trac_core.proofs.Parting.{TakesBy, makes-found, makes-missing}
+use Rattle.trac_core.proofs.Parting.{makes-found, makes-missing}
 use Rattle.trac_core.proofs.form_parts.call_segment.Goals as goal
 
 pub returns-in-Some-clause-makes : goal.returns-in-Some-clause-makes

@@ -1,6 +1,5 @@
 use Rattle.trac_forms.specs.Contents.{body_at}
 use Rattle.trac_forms.specs.Search.{character_at}
-use Rattle.std.proofs.Common.{length}
 use Rattle.trac_core.proofs.Taken.{first-or-some, first-or-none}
 use Rattle.trac_core.proofs.form_parts.character_or.Goals as goal
 

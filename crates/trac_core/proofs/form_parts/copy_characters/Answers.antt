@@ -1,4 +1,4 @@
-use Rattle.std.proofs.Common.{◌≡◌, ◌≤◌, ◌++◌, ◌-◌, List, length, slice_range, sym, ap, ◌∙◌, subst, arith}
+use Rattle.std.proofs.Common.{◌++◌, List, slice_range, ap, ◌∙◌, subst, arith}
 use Rattle.trac_forms.specs.declared.item.Item.{Item}
 use Rattle.trac_forms.specs.Form.{text_of}
 use Rattle.trac_forms.specs.FlatForms.{flat_text}

@@ -1,4 +1,4 @@
-use Rattle.std.proofs.Common.{◌≡◌, sym, ap, ◌∙◌, arith}
+use Rattle.std.proofs.Common.{sym, ap, ◌∙◌, arith}
 use Rattle.trac_forms.specs.Contents.{body_at}
 use Rattle.trac_forms.specs.Search.{gap_at, is_gap}
 use Rattle.trac_forms.proofs.Searches.{NonePasses-more}

@@ -1,11 +1,11 @@
-use Rattle.std.proofs.Common.{◌≡◌, ◌∷◌, ◌+◌, sym, ap, ◌∙◌, refl, subst}
+use Rattle.std.proofs.Common.{◌∷◌, ap, ◌∙◌, refl, subst}
 use Rattle.trac_forms.specs.Contents.{Contents, part_text, form_at}
 use Rattle.trac_core.specs.declared.function.Function.TheVariants.{InitialPart}
 use Rattle.trac_core.specs.State.{argument}
 use Rattle.trac_core.specs.Meaning.{meaning_of}
 use Rattle.trac_core.specs.Calls.{texts}
 use Rattle.trac_core.specs.Part.{initial_part}
-use Rattle.trac_core.proofs.Parting.{TakesBy, makes-found, makes-missing}
+use Rattle.trac_core.proofs.Parting.{makes-found, makes-missing}
 use Rattle.trac_core.specs.Taking.{TakesPart}
 use Rattle.trac_core.proofs.form_parts.initial_part.Goals as goal
 

@@ -1,9 +1,7 @@
-use Rattle.std.proofs.Common.{Bool, true, false, ◌≡◌, ◌≢◌, ◌+◌, ◌-◌, ◌∷◌, ◌<◌, ◌≤◌, length, Some, None, Option, sym, ap, ◌∙◌, subst, refl, arith}
-use Rattle.trac_forms.specs.Contents.{Contents, form_at, part_text}
+use Rattle.std.proofs.Common.{Option, sym, ◌∙◌, subst}
+use Rattle.trac_forms.specs.Contents.{form_at, part_text}
 use Rattle.trac_core.specs.Part.{Part}
 use Rattle.trac_core.specs.Taking.{TakesPart}
-use Rattle.trac_core.specs.Digits.{signed}
-use Rattle.trac_core.specs.Part.{characters}
 use Rattle.trac_core.proofs.Parting.{part-null, characters-zero}
 use Rattle.trac_core.proofs.form_parts.take_characters.Goals as goal
 

@@ -1,5 +1,5 @@
-use Rattle.std.proofs.Common.{◌≡◌, ◌≢◌, ◌+◌, ◌-◌, ◌∷◌, ◌<◌, ◌≤◌, length, Some, None, Option, sym, ap, ◌∙◌, subst, refl, arith}
-use Rattle.trac_forms.specs.Contents.{Contents, form_at, part_text}
+use Rattle.std.proofs.Common.{Option, sym, ◌∙◌, subst, arith}
+use Rattle.trac_forms.specs.Contents.{form_at, part_text}
 use Rattle.trac_core.specs.Part.{Part}
 use Rattle.trac_core.specs.Taking.{TakesPart}
 use Rattle.trac_core.proofs.ArgumentLemmas.{part-long}

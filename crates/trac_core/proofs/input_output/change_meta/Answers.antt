@@ -1,5 +1,4 @@
-use Rattle.std.proofs.Common.{◌≡◌, ◌+◌, ap, sym, ◌∙◌, Some, None, slice_get}
-use Rattle.trac_core.specs.State.{argument}
+use Rattle.std.proofs.Common.{ap, sym, ◌∙◌, slice_get}
 use Rattle.trac_core.specs.Flat.{arguments_at}
 use Rattle.trac_core.specs.Calls.{texts}
 use Rattle.trac_core.proofs.Printing.{tried-meta, argument-one, some-same}

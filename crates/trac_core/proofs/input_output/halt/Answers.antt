@@ -1,7 +1,3 @@
-use Rattle.std.proofs.Common.{refl, arith, ◌∙◌}
-use Rattle.trac_core.specs.declared.function.Function.TheVariants.{Halt}
-use Rattle.trac_core.specs.declared.machine.Fate.TheVariants.{Halted}
-use Rattle.trac_core.specs.Meaning.{meaning_of}
 use Rattle.trac_core.proofs.Printing.{tried-halt}
 use Rattle.trac_core.proofs.input_output.halt.Goals as goal
 

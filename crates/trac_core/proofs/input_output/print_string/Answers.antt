@@ -1,5 +1,4 @@
-use Rattle.std.proofs.Common.{◌≡◌, ◌++◌, ◌+◌, ap, sym, ◌∙◌}
-use Rattle.trac_core.specs.State.{argument}
+use Rattle.std.proofs.Common.{sym, ◌∙◌}
 use Rattle.trac_core.specs.Flat.{arguments_at}
 use Rattle.trac_core.specs.Calls.{texts}
 use Rattle.trac_core.proofs.Printing.{tried-print, tried-print-broken, argument-one}

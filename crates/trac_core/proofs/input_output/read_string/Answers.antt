@@ -1,6 +1,4 @@
-use Rattle.std.proofs.Common.{◌≡◌, ◌++◌, ◌∷◌, [], ◌+◌, ◌<◌, ◌≤◌, length, drop, All, ap, sym, ◌∙◌, subst, arith, append_assoc, append-nil, refl}
-use Rattle.trac_forms.specs.FlatForms.{flat_text}
-use Rattle.trac_forms.specs.Contents.{Contents, used, IsByte}
+use Rattle.std.proofs.Common.{◌≡◌, ◌++◌, ◌∷◌, [], ◌<◌, length, arith, refl}
 use Rattle.trac_core.proofs.Reading.{read-to-meta, read-some, read-none, read-failed, read-full, reads-take, reads-bytes, neutral-reads}
 use Rattle.trac_core.proofs.input_output.read_string.Goals as goal
 

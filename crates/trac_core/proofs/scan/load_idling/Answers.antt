@@ -1,4 +1,4 @@
-use Rattle.std.proofs.Common.{◌≡◌, ◌+◌, ◌≤◌, ◌<◌, [], ⊎_elim, map, ap, ◌∙◌, arith, true, false, length}
+use Rattle.std.proofs.Common.{◌≡◌, ◌+◌, [], ⊎_elim, map, ap, ◌∙◌, arith, length}
 use Rattle.std.proofs.lemmas.Bool.{cases_lt}
 use Rattle.trac_space.specs.declared.cell.Cell.TheVariants.{Byte}
 use Rattle.trac_forms.specs.Contents.{Contents, used}

@@ -1,8 +1,8 @@
-use Rattle.std.proofs.Common.{◌≡◌, ◌≢◌, ◌<◌, ◌≤◌, ◌+◌, ◌-◌, length, get_or, sym, ap, ◌∙◌, arith, subst}
+use Rattle.std.proofs.Common.{◌≡◌, ◌<◌, length, get_or, sym, ◌∙◌, arith}
 use Rattle.std.proofs.lemmas.List.{length-map, get_or-map}
 use Rattle.trac_space.specs.declared.cell.Cell.TheVariants.{Byte}
 use Rattle.trac_forms.specs.FlatForms.{text_of_cells, character_of}
-use Rattle.trac_core.proofs.Matching.{IsAt, matched, passes-left, passes-right, passes-other, unmatched}
+use Rattle.trac_core.proofs.Matching.{matched, passes-left, passes-right, passes-other, unmatched}
 use Rattle.trac_core.proofs.scan.matching.Goals as goal
 use Rattle.trac_core.proofs.scan.matching.Goals.{in-40, in-41+else-depth-eq0, in_default}
 

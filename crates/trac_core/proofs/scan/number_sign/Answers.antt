@@ -1,4 +1,4 @@
-use Rattle.std.proofs.Common.{◌≡◌, ◌≢◌, true, false, Some, slice_get}
+use Rattle.std.proofs.Common.{◌≡◌, ◌≢◌, Some, slice_get}
 use Rattle.trac_forms.specs.FlatForms.{text_of_cells}
 use Rattle.trac_core.proofs.Scanning.{scans-active, scans-neutral, scans-sign}
 use Rattle.trac_core.proofs.scan.number_sign.Goals as goal

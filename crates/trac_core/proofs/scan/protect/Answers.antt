@@ -1,6 +1,5 @@
-use Rattle.std.proofs.Common.{◌≡◌, ◌+◌, ◌++◌, take, drop, length, slice_range, map, Some, None, sym, ap, ◌∙◌, subst}
+use Rattle.std.proofs.Common.{◌≡◌, ◌+◌, ◌++◌, take, drop, slice_range, map, Some, None, sym, ap, ◌∙◌, subst}
 use Rattle.trac_space.specs.Cells.{seen}
-use Rattle.trac_forms.specs.FlatForms.{text_of_cells}
 use Rattle.trac_forms.specs.Contents.{Contents}
 use Rattle.trac_core.specs.Protected.{protected}
 use Rattle.trac_core.proofs.ArgumentLemmas.{text_of_cells-seen}

@@ -1,6 +1,4 @@
-use Rattle.std.proofs.Common.{◌≡◌, ◌+◌, ◌≤◌, sym, ap, ◌∙◌, refl, arith, subst, slice_range}
-use Rattle.trac_forms.specs.Contents.{IsTextPart, part_text}
-use Rattle.trac_core.specs.Calls.{before_comma, texts_from}
+use Rattle.std.proofs.Common.{refl, arith}
 use Rattle.trac_core.proofs.ArgumentLemmas.{found-comma, next-fits, taken-part, taken-text, taken-rest, taken-left, argument-later}
 use Rattle.trac_core.proofs.arguments.Arguments.next.Goals as goal
 

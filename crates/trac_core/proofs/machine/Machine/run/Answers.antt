@@ -1,5 +1,5 @@
-use Rattle.std.proofs.Common.{◌≡◌, ◌≤◌, ◌∙◌, arith, sym, ap, subst, refl}
-use Rattle.trac_core.specs.Machine.{MachineState, KeepsLimits, moment, made}
+use Rattle.std.proofs.Common.{◌∙◌, arith, sym, ap, subst, refl}
+use Rattle.trac_core.specs.Machine.{MachineState, KeepsLimits, moment}
 use Rattle.trac_core.proofs.Along.{SomeAlong, along-none, along-more}
 use Rattle.trac_core.proofs.Reported.{reported}
 use Rattle.trac_core.proofs.machine.Machine.run.Goals as goal

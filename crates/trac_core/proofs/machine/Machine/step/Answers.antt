@@ -1,4 +1,4 @@
-use Rattle.std.proofs.Common.{◌≡◌, ◌<◌, [], refl, arith, sym, ◌∙◌, ap}
+use Rattle.std.proofs.Common.{◌<◌, [], refl, arith, sym, ◌∙◌}
 use Rattle.trac_core.specs.Flat.{memory_of}
 use Rattle.trac_core.specs.Machine.{MachineState}
 use Rattle.trac_core.proofs.FlatLemmas.{size-used}
