@@ -117,7 +117,7 @@ fn show_item<O: Sink>(item: Item, sink: &mut O) -> Result<(), SinkFailed>
     ensures counts { O.failure_count sink.new ≡ O.failure_count sink.old + failures_of result }
 {
     match item {
-        Item::Byte(byte) => put_all(&[byte], sink),
+        Item::Byte(byte) => sink.put(byte),
         Item::Gap(ordinal) => show_gap(ordinal, sink),
     }
 }
