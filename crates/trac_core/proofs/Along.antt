@@ -1,10 +1,11 @@
 -- A run of the machine, moment by moment, beside the run of the definition.
-use Rattle.std.proofs.Common.{◌≡◌, ℕ, ◌+◌, ◌≤◌, max, Bool, true, false, [], ◌++◌, refl, sym, ap, ◌∙◌, subst, append_assoc}
+use Rattle.std.proofs.Common.{◌≡◌, ℕ, zero, suc, ◌+◌, ◌<◌, ◌≤◌, max, Bool, true, false, [], ◌++◌, refl, sym, ap, ◌∙◌, subst, append_assoc, arith}
 use Rattle.trac_forms.specs.Text.{Text}
 use Rattle.trac_core.specs.Devices.{Stream}
-use Rattle.trac_core.specs.State.{empty}
+use Rattle.trac_core.specs.State.{Memory, empty, size}
 use Rattle.trac_core.specs.Step.{step, need, reads_to_end}
-use Rattle.trac_core.specs.Machine.{Moment, made, moment, ending, state_with, state_of, GoesOn}
+use Rattle.trac_core.specs.Machine.{MachineState, Moment, made, moment, ending, state_with, state_of, GoesOn}
+use Rattle.trac_core.specs.Together.{Passes, PassesTimes, peak_after, passed}
 use Rattle.trac_core.proofs.Reached.{Reached, reached_start, reached_next}
 use Rattle.trac_core.proofs.ReachedAnywhere.{ReachedAnywhere, anywhere_start, anywhere_next}
 
@@ -56,3 +57,39 @@ along-more room bytes before taken old new room_is took along goes_on =
             (sym (ap (λ s. max old.machine.peak (need s)) here) ∙ sym goes_on.counts.peak) next);
       },
     )
+
+-- the machine after one step that passes
+abbrev one_passed : Memory → MachineState → MachineState
+one_passed memory m = record m { memory = memory; steps = m.steps + 1; peak = max m.peak (size m.memory) }
+
+goes_on-passes : (m : MachineState) (middle : Memory) (source : Stream) (written : Text) → m.steps < m.allowance → size m.memory ≤ m.room → Passes m.memory middle → GoesOn (moment m source written) (moment (one_passed middle m) source written)
+goes_on-passes m middle source written allowed fits pass =
+    let needed = pass.needs (ending source.bytes) written in
+    record {
+      may = record { allowed = allowed; fits = subst (λ n. n ≤ m.room) (sym needed) fits };
+      goes = pass.goes (ending source.bytes) written;
+      counts = record { steps = refl; peak = ap (max m.peak) (sym needed) };
+      stays_ended = λ ended. ended;
+      read_all = λ reads. absurd (let none = pass.reads (ending source.bytes) written in cc);
+    }
+
+peak_after-same : (n cells same peak : ℕ) → same ≡ cells → peak_after n same (max peak cells) ≡ peak_after (suc n) cells peak
+peak_after-same zero cells same peak e = refl
+peak_after-same (suc n) cells same peak e = omega arith
+
+pub along-passes : (n room : ℕ) (bytes before : Text) (m : MachineState) (target : Memory) (source : Stream) (written : Text) → m.room ≡ room → size m.memory ≤ m.room → m.steps + n ≤ m.allowance → PassesTimes n m.memory target → SomeAlong room bytes before (moment m source written) → SomeAlong room bytes before (moment (passed n target m) source written)
+along-passes zero room bytes before m target source written room_is fits allowed same along =
+    let steps : m.steps ≡ m.steps + 0 = omega arith in
+    subst (λ n. SomeAlong room bytes before (moment (record m { memory = target; steps = n }) source written)) steps
+    (subst (λ memory. SomeAlong room bytes before (moment (record m { memory = memory }) source written)) same along)
+along-passes (suc n) room bytes before m target source written room_is fits allowed passes along =
+    let middle = passes.0 in
+    let pass = passes.1.0 in
+    let next = one_passed middle m in
+    let size_is = pass.keeps_size in
+    let here = along-more room bytes before [] (moment m source written) (moment next source written) room_is refl along (goes_on-passes m middle source written (omega arith) fits pass) in
+    let later = along-passes n room bytes before next target source written room_is (omega arith) (omega arith) passes.1.1 here in
+    let steps : m.steps + 1 + n ≡ m.steps + suc n = omega arith in
+    let peak = peak_after-same n (size m.memory) (size middle) m.peak size_is in
+    subst (λ p. SomeAlong room bytes before (moment (record m { memory = target; steps = m.steps + suc n; peak = p }) source written)) peak
+    (subst (λ k. SomeAlong room bytes before (moment (record m { memory = target; steps = k; peak = peak_after n (size middle) (max m.peak (size m.memory)) }) source written)) steps later)

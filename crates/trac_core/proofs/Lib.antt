@@ -26,6 +26,7 @@ pub mod Putting
 pub mod Filling
 pub mod MetaLemmas
 pub mod Scanning
+pub mod Together
 pub mod Matching
 pub mod Performing
 pub mod Reading

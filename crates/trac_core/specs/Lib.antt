@@ -19,6 +19,7 @@ pub mod Transfer
 pub mod Machine
 pub mod Attempts
 pub mod Taking
+pub mod Together
 pub mod Laws
 pub mod BitResults
 pub mod Display

@@ -4,9 +4,11 @@ ghost use Rattle.trac_forms.specs.Text.{Text};
 ghost use Rattle.trac_core.specs.State.{Memory};
 ghost use Rattle.trac_core.specs.Performed.{performs, reads_input, prints_output};
 ghost use Rattle.trac_core.specs.Machine.{made, KeepsLimits, moment, Answers, Takes, StaysOver, input_failures, output_failures, reported_input_failures, reported_output_failures, Reports, course, counted, counts_as_step};
+ghost use Rattle.trac_core.specs.Together.{PassesTimes, passed, peak_after};
 
 use crate::call::advance;
 use crate::device::{Sink, Source};
+use crate::scan;
 use crate::scan::Attempt;
 use std::marker::Model;
 use trac_forms::{Cell, Work};
@@ -141,6 +143,19 @@ impl<'a> Machine<'a> {
         self.count(attempt)
     }
 
+    /// Makes the steps by which the ordinary characters at the front of the active string are added, all at once, as far as
+    /// the allowance goes.
+    fn add_characters(&mut self)
+        ensures passes { (n : ℕ) × ((memory : Memory) × PassesTimes n self.old.memory memory × (self.new ≡ passed n memory self.old)) }
+        ensures limits { KeepsLimits self.new }
+    {
+        let need = self.work.used();
+        let left = self.allowance - self.steps;
+        let count = scan::add_characters(&mut self.work, left);
+        self.steps += u64::from(count);
+        self.peak = peak_after(count, need, self.peak);
+    }
+
     /// Counts a step that came to this.
     fn count(&mut self, attempt: Attempt) -> Option<Fate>
         requires allowed { counts_as_step attempt.fate ≡ true → self.old.steps < self.old.allowance }
@@ -180,6 +195,7 @@ impl<'a> Machine<'a> {
         ensures peak { result.peak ≤ self.entry.room }
     {
         loop {
+            self.add_characters();
             if let Some(fate) = self.step(source, sink) {
                 return Report {
                     fate,
@@ -189,4 +205,11 @@ impl<'a> Machine<'a> {
             }
         }
     }
+}
+
+/// The peak after so many steps that need this many cells each.
+fn peak_after(count: u32, need: u32, peak: u32) -> u32
+    ensures { result ≡ peak_after count need peak }
+{
+    if count == 0 { peak } else { peak.max(need) }
 }

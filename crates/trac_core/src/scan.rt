@@ -1,11 +1,13 @@
 //! The scanner: the rules that perform no call.
-ghost use Rattle.std.specs.Prelude.{◌≡◌, ◌≢◌, ℕ, ◌+◌, ◌<◌, ◌≤◌, [], ◌∷◌, length, take, drop, slice_get, MatchOption, IsTrue, ◌↔◌, None, Some, true, false, ◌++◌};
+ghost use Rattle.std.specs.Prelude.{◌≡◌, ◌≢◌, ℕ, ◌+◌, ◌<◌, ◌≤◌, [], ◌∷◌, length, take, drop, slice_get, MatchOption, IsTrue, ◌↔◌, None, Some, true, false, ◌++◌, All};
 ghost use Rattle.trac_space.specs.Calls.{IsLastCall};
 ghost use Rattle.trac_forms.specs.FlatForms.{text_of_cells};
 ghost use Rattle.trac_forms.specs.Contents.{used, IsSound};
 ghost use Rattle.trac_core.specs.Protected.{protected};
 ghost use Rattle.trac_core.specs.Rule.{is_layout};
 ghost use Rattle.trac_core.specs.Attempts.{Scans, Scanned, ClosesNone};
+ghost use Rattle.trac_core.specs.Flat.{memory_of};
+ghost use Rattle.trac_core.specs.Together.{is_special, IsOrdinary, PassesTimes};
 
 use crate::machine::Fate;
 use crate::values::text::character_of;
@@ -64,6 +66,44 @@ pub(crate) fn scan(work: &mut Work) -> Attempt
         Some(byte) => add_character(work, byte),
     }
     Attempt { fate: None, need }
+}
+
+/// The steps by which the ordinary characters at the front of the active string are added, at most so many, all at once.
+/// Gives how many they were.
+pub(crate) fn add_characters(work: &mut Work, most: u64) -> u32
+    requires sound { IsSound work.old }
+    ensures passes { (meta : ℕ) → PassesTimes result (memory_of meta work.old) (memory_of meta work.new) }
+    ensures few { result ≤ most }
+    ensures room { work.new.room ≡ work.old.room }
+    ensures sound { IsSound work.new }
+{
+    let all = work.active_len();
+    let most = most.min(u64::from(all)) as u32;
+    let count = ordinary_characters(work.active_part(0, most));
+    work.active_to_neutral(count);
+    count
+}
+
+/// How many ordinary characters begin the cells.
+fn ordinary_characters(cells: &[Cell]) -> u32
+    requires { length cells.now ≤ 16777216 }
+    ensures within { result ≤ length cells.now }
+    ensures ordinary { All IsOrdinary (take result (text_of_cells cells.now)) }
+{
+    for (i, cell) in cells.iter().enumerate() {
+        if is_special(character_of(cell)) {
+            return i as u32;
+        }
+    }
+    cells.len() as u32
+}
+
+/// Whether a character has a rule of its own.
+#[inline]
+fn is_special(character: u8) -> bool
+    ensures { result ≡ is_special character }
+{
+    matches!(character, b'\t' | b'\n' | b'\r' | b'#' | b'(' | b')' | b',')
 }
 
 /// The active string is empty: the neutral string is cleared, and the idling procedure becomes the active string.

@@ -1,0 +1,77 @@
+-- Steps of one rule in a row: ordinary characters are added one by one.
+use Rattle.std.proofs.Common.{◌≡◌, ◌≢◌, ℕ, zero, suc, ◌≤◌, Bool, true, false, ◌||◌, max, List, [], ◌∷◌, ◌++◌, length, take, drop, All, Some, slice_get, refl, sym, ap, ◌∙◌, subst, arith, append_assoc, append-nil, length-append}
+use Rattle.std.specs.Prelude.{◌==◌}
+use Rattle.std.proofs.lemmas.List.{length-drop}
+use Rattle.std.proofs.lemmas.List.Elements.{All-head, All-tail}
+use Rattle.trac_space.specs.declared.cell.Cell.{Cell}
+use Rattle.trac_space.specs.declared.cell.Cell.TheVariants.{Byte, Call, Comma, Gap, Head}
+use Rattle.trac_forms.specs.FlatForms.{text_of_cells}
+use Rattle.trac_forms.specs.Contents.{Contents, used, IsByte}
+use Rattle.trac_core.specs.Rule.{is_layout}
+use Rattle.trac_core.specs.Flat.{memory_of}
+use Rattle.trac_core.specs.Attempts.{Scans}
+use Rattle.trac_core.specs.Together.{is_special, IsOrdinary, Passes, PassesTimes, peak_after}
+use Rattle.trac_core.proofs.FlatLemmas.{size-used}
+use Rattle.trac_core.proofs.Scanning.{scans-other}
+
+-- no rule of its own
+ordinary-layout : (c : ℕ) → IsOrdinary c → is_layout c ≡ false
+ordinary-layout c h = go (is_layout c) (c == 35) (c == 40) (c == 41) (c == 44) h
+  where
+    go : (a b d e f : Bool) → (a || b || d || e || f) ≡ false → a ≡ false
+    go false b d e f h = refl
+    go true b d e f h = absurd cc
+
+ordinary-not : (c b : ℕ) → IsOrdinary c → is_special b ≡ true → c ≢ b
+ordinary-not c b h special e = let f : is_special b ≡ false = subst IsOrdinary e h in cc
+
+-- a step over the contents of a workspace, as one over the memory that they stand for
+pub passes-scans : (meta : ℕ) (old new : Contents) → Scans old new (used old) → used new ≡ used old → Passes (memory_of meta old) (memory_of meta new)
+passes-scans meta old new scans same =
+    record {
+      goes = scans.goes meta;
+      needs = λ input output. scans.needs meta input output ∙ sym (size-used meta old);
+      reads = scans.reads meta;
+      keeps_size = size-used meta new ∙ same ∙ sym (size-used meta old);
+    }
+
+-- the contents with the first n cells of active at the end of neutral
+abbrev pub moved : ℕ → Contents → Contents
+moved n w = record w { active = drop n w.active; neutral = w.neutral ++ take n w.active }
+
+pub characters-pass : (meta n : ℕ) (w : Contents) → All IsByte w.active → n ≤ length w.active → All IsOrdinary (take n (text_of_cells w.active)) → PassesTimes n (memory_of meta w) (memory_of meta (moved n w))
+characters-pass meta zero w bytes within ordinary = ap (λ cells. memory_of meta (record w { neutral = cells })) (sym (append-nil w.neutral))
+characters-pass meta (suc n) w bytes within ordinary = go w.active refl (characters-pass meta n) bytes within ordinary
+  where
+    go : (active : List Cell) → w.active ≡ active → ((w : Contents) → All IsByte w.active → n ≤ length w.active → All IsOrdinary (take n (text_of_cells w.active)) → PassesTimes n (memory_of meta w) (memory_of meta (moved n w))) → All IsByte active → suc n ≤ length active → All IsOrdinary (take (suc n) (text_of_cells active)) → PassesTimes (suc n) (memory_of meta w) (memory_of meta (moved (suc n) w))
+    go [] is later bytes within ordinary = absurd (omega arith)
+    go (Byte c ∷ rest) is later bytes within ordinary =
+        let special = All-head IsOrdinary c (take n (text_of_cells rest)) ordinary in
+        let first : slice_get (text_of_cells w.active) 0 ≡ Some c = ap (λ cells. slice_get (text_of_cells cells) 0) is in
+        let next : Contents = record w { active = drop 1 w.active; neutral = w.neutral ++ Byte c ∷ [] } in
+        let scans = scans-other w c first (ordinary-layout c special) (ordinary-not c 40 special refl) (ordinary-not c 41 special refl) (ordinary-not c 44 special refl) (ordinary-not c 35 special refl) in
+        let long : length w.active ≡ suc (length rest) = ap length is in
+        let more = length-drop 1 w.active in
+        let pushed = length-append w.neutral (Byte c ∷ []) in
+        let same : used next ≡ used w = omega arith in
+        let after : drop 1 w.active ≡ rest = ap (drop 1) is in
+        let others : PassesTimes n (memory_of meta next) (memory_of meta (moved n next)) =
+        later next (subst (All IsByte) (sym after) (All-tail IsByte (Byte c) rest bytes)) (omega arith)
+        (subst (λ cells. All IsOrdinary (take n (text_of_cells cells))) (sym after) (All-tail IsOrdinary c (take n (text_of_cells rest)) ordinary)) in
+        let end : moved n next ≡ moved (suc n) w =
+        ap (λ cells. record w { active = drop n cells; neutral = (w.neutral ++ Byte c ∷ []) ++ take n cells }) after
+        ∙ ap (λ cells. record w { active = drop n rest; neutral = cells }) (append_assoc w.neutral (Byte c ∷ []) (take n rest))
+        ∙ ap (λ cells. record w { active = drop (suc n) cells; neutral = w.neutral ++ take (suc n) cells }) (sym is) in
+        (memory_of meta next, (passes-scans meta w next scans same, subst (λ v. PassesTimes n (memory_of meta next) (memory_of meta v)) end others))
+    go (Call mode k ∷ rest) is later bytes within ordinary = absurd (All-head IsByte (Call mode k) rest bytes)
+    go (Comma ∷ rest) is later bytes within ordinary = absurd (All-head IsByte Comma rest bytes)
+    go (Gap k ∷ rest) is later bytes within ordinary = absurd (All-head IsByte (Gap k) rest bytes)
+    go (Head k ∷ rest) is later bytes within ordinary = absurd (All-head IsByte (Head k) rest bytes)
+
+pub peak_after-some : (n needed peak : ℕ) → n ≢ 0 → max peak needed ≡ peak_after n needed peak
+peak_after-some zero needed peak some = absurd (some refl)
+peak_after-some (suc n) needed peak some = refl
+
+pub peak_after-le : (n needed peak room : ℕ) → peak ≤ room → needed ≤ room → peak_after n needed peak ≤ room
+peak_after-le zero needed peak room a b = a
+peak_after-le (suc n) needed peak room a b = omega arith

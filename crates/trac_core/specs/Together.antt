@@ -1,0 +1,35 @@
+-- Steps of one rule in a row, which are done at once.
+use Rattle.std.specs.Prelude.{◌≡◌, ℕ, zero, suc, max, Bool, false, ◌||◌, ◌==◌, ◌+◌}
+use Rattle.trac_forms.specs.Text.{Text}
+use Rattle.trac_core.specs.State.{Input, Memory, size}
+use Rattle.trac_core.specs.Rule.{is_layout}
+use Rattle.trac_core.specs.Step.{Next, step, need, reads_to_end}
+use Rattle.trac_core.specs.Machine.{MachineState, state_with}
+
+-- a character that has a rule of its own
+abbrev pub is_special : ℕ → Bool
+is_special c = is_layout c || (c == 35) || (c == 40) || (c == 41) || (c == 44)
+
+abbrev pub IsOrdinary : ℕ → Type 0
+IsOrdinary c = is_special c ≡ false
+
+-- a step that reads and prints nothing leads from one memory to another of the same size, and needs that many cells
+pub record Passes (old new : Memory) : Type 0 where
+  pub goes : (input : Input) (output : Text) → step (state_with old input output) ≡ Next (state_with new input output)
+  pub needs : (input : Input) (output : Text) → need (state_with old input output) ≡ size old
+  pub reads : (input : Input) (output : Text) → reads_to_end (state_with old input output) ≡ false
+  pub keeps_size : size new ≡ size old
+
+-- so many of them, one after the other
+abbrev pub PassesTimes : ℕ → Memory → Memory → Type 0
+PassesTimes zero old new = old ≡ new
+PassesTimes (suc n) old new = (middle : Memory) × (Passes old middle × PassesTimes n middle new)
+
+-- the peak after so many steps that need this many cells each
+abbrev pub peak_after : ℕ → ℕ → ℕ → ℕ
+peak_after zero needed peak = peak
+peak_after (suc n) needed peak = max peak needed
+
+-- a machine after so many steps that lead to this memory
+abbrev pub passed : ℕ → Memory → MachineState → MachineState
+passed n memory m = record m { memory = memory; steps = m.steps + n; peak = peak_after n (size m.memory) m.peak }
