@@ -1,7 +1,8 @@
-use Rattle.std.proofs.Common.{◌∙◌, arith, sym, ap, subst, refl}
+use Rattle.std.proofs.Common.{◌∙◌, arith, sym, ap, subst, refl, inl}
 use Rattle.trac_core.specs.Machine.{MachineState, KeepsLimits, moment}
 use Rattle.trac_core.proofs.Along.{SomeAlong, along-none, along-more}
 use Rattle.trac_core.proofs.Reported.{reported}
+use Rattle.trac_core.proofs.Sending.{sent-more}
 use Rattle.trac_core.proofs.machine.Machine.run.Goals as goal
 
 pub returns-in-Some-clause-reports : goal.returns-in-Some-clause-reports
@@ -14,6 +15,12 @@ returns-in-Some-clause-reports g c = λ told_source told_sink.
     i.room i.allowance (i.along told_source told_sink) c.in-Some.fate
     (c.in-Some.ensures.answers i.not_over (i.told_source told_source) (i.told_sink told_sink)) in
     rw (c.steps.ensures, c.peak.ensures) last
+
+pub returns-in-Some-clause-sent : goal.returns-in-Some-clause-sent
+returns-in-Some-clause-sent g c = λ other.
+    let i = c.loop-fate.invariant in
+    sent-more g.O.Sink.tells g.O.Sink.flushed g.O.Sink.written c.args.sink.now c.loop-fate.sink c.step.new.sink i.told_sink i.sent
+    (c.in-Some.ensures.sent (λ e. other cc))
 
 pub loop-fate-init : goal.loop-fate-init
 loop-fate-init g c =
@@ -28,6 +35,7 @@ loop-fate-init g c =
       sink_failures = refl;
       told_source = λ told. told;
       told_sink = λ told. told;
+      sent = inl refl;
       along = λ told_source told_sink.
           let source = g.I.Source.stream c.args.source.now in
           let written = g.O.Sink.written c.args.sink.now in
@@ -49,6 +57,7 @@ loop-fate-preserved g c =
       sink_failures = omega (arith, i.sink_failures, sink_failed);
       told_source = λ told. h.told_source (i.told_source told);
       told_sink = λ told. h.told_sink (i.told_sink told);
+      sent = sent-more g.O.Sink.tells g.O.Sink.flushed g.O.Sink.written c.args.sink.now c.loop-fate.sink c.step.new.sink i.told_sink i.sent (h.sent (λ e. absurd cc));
       along = λ told_source told_sink.
           let took = h.takes (i.told_source told_source) in
           along-more c.args.self.room (g.I.Source.stream c.args.source.now).bytes (g.O.Sink.written c.args.sink.now) took.0
