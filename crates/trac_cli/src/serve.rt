@@ -1,5 +1,7 @@
 //! A run in a block of its own.
-ghost use Rattle.std.specs.Prelude.{◌≡◌, ℕ, ◌+◌, ◌-◌, ◌^◌, ◌<◌, ◌≤◌, OnErr, IfOk, MatchResult};
+ghost use Rattle.std.specs.Prelude.{◌≡◌, ◌≢◌, ℕ, ◌+◌, ◌-◌, ◌^◌, ◌<◌, ◌≤◌, OnErr, IfOk, MatchResult};
+ghost use Rattle.trac_core.specs.declared.machine.Fate.TheVariants.{OutputFailed};
+ghost use Rattle.trac_core.specs.Devices.{Sent};
 ghost use Rattle.trac_core.specs.Machine.{Reports, course, made, reported_input_failures, reported_output_failures};
 
 use crate::settings::Settings;
@@ -28,6 +30,7 @@ pub fn serve<I: Source, O: Sink>(
         Reports report.fate (course (made settings.now.cells settings.now.steps) (I.stream source.old) (O.written sink.old) (I.stream source.new) (O.written sink.new)) report) }
     ensures input_failed { IfOk result (λ report. I.failure_count source.new ≡ I.failure_count source.old + reported_input_failures report.fate) }
     ensures output_failed { IfOk result (λ report. O.failure_count sink.new ≡ O.failure_count sink.old + reported_output_failures report.fate) }
+    ensures sent { IfOk result (λ report. report.fate ≢ OutputFailed → Sent O.tells O.flushed O.written sink.old sink.new) }
     ensures steps { IfOk result (λ report. report.steps ≤ settings.now.steps) }
     ensures peak { IfOk result (λ report. report.peak ≤ settings.now.cells) }
     ensures no_memory { OnErr result ((source.new ≡ source.old) × (sink.new ≡ sink.old)) }

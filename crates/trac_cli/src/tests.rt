@@ -2,7 +2,7 @@
 use crate::buffered::{BufferedReader, BufferedWriter};
 use crate::error_status;
 use crate::lines::{fault_line, memory_line, report_line, status};
-use crate::serve::NoMemory;
+use crate::serve::{NoMemory, serve};
 use crate::settings::Settings;
 use crate::words::settings_from;
 use clap::error::ErrorKind;
@@ -11,7 +11,7 @@ use std::io;
 use std::io::{Read, Write};
 use std::process::Abort;
 use std::test::Fail;
-use trac_core::{Fate, Report};
+use trac_core::{Fate, Next, Report, SliceSink, SliceSource, Source};
 
 fn words(alloc: Global, texts: &[&str]) -> Result<Vec<String>, Fail> {
     let mut words = Vec::new(alloc);
@@ -167,6 +167,29 @@ fn lines_of_reports(rt: HostRuntime) -> Result<(), Fail> {
     assert!(rt; report_line(&short).as_bytes() == b"trac: 29 steps, peak 19 cells".as_slice());
     let text = format!(in rt.alloc(); "{NoMemory}")?;
     assert!(rt; text.as_str() == "no memory for the block");
+    Ok(())
+}
+
+// Where the block is refused, nothing was read and nothing was written.
+#[test]
+fn a_run_in_a_block_of_its_own(rt: HostRuntime) -> Result<(), Fail> {
+    let settings = Settings::new(19, 29, false).ok_or("settings")?;
+    let mut room = [0u8; 8];
+    let mut source = SliceSource::new(b"#(ps,hello)'", None);
+    let mut sink = SliceSink::new(&mut room, None);
+    let report = Report {
+        fate: Fate::InputEnded,
+        steps: 29,
+        peak: 19,
+    };
+    let Ok(got) = serve(rt.alloc(), &settings, &mut source, &mut sink) else {
+        assert_eq!(rt; source.next(), Next::Byte(b'#'));
+        assert!(rt; sink.written().is_empty());
+        return Err(Fail::from("no memory for the block"));
+    };
+    assert_eq!(rt; got, report);
+    assert_eq!(rt; source.next(), Next::End);
+    assert!(rt; sink.written() == b"hello".as_slice());
     Ok(())
 }
 

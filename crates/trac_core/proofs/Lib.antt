@@ -15,6 +15,7 @@ pub mod Texts
 pub mod SuffixCells
 pub mod Counting
 pub mod DigitBits
+pub mod Sending
 pub mod Shifts
 pub mod Parts
 pub mod Counted

@@ -1,5 +1,5 @@
 -- What contracts say of the devices that a machine reads from and writes to.
-use Rattle.std.specs.Prelude.{◌≡◌, ℕ, Bool, true, false, List, [], ◌∷◌, ◌++◌, Result, Ok, Err}
+use Rattle.std.specs.Prelude.{◌≡◌, ℕ, ◌<◌, Bool, true, false, List, [], ◌∷◌, ◌++◌, length, Result, Ok, Err, ◌⊎◌}
 use Rattle.trac_core.specs.declared.device.Next.{Next}
 use Rattle.trac_core.specs.declared.device.Next.TheVariants.{Byte, End, Failed}
 
@@ -32,3 +32,7 @@ failures_of (Err e) = 1
 abbrev pub after_put : {A E : Type 0} → List ℕ → ℕ → Result A E → List ℕ
 after_put written byte (Ok x) = written ++ byte ∷ []
 after_put written byte (Err e) = written
+
+-- a sink was not called; or bytes were put, and then all that it had taken was sent on
+abbrev pub Sent : {S : Type 0} → (tells flushed : S → Type 0) → (written : S → List ℕ) → S → S → Type 0
+Sent tells flushed written old new = (new ≡ old) ⊎ (flushed new × (tells old → length (written old) < length (written new)))

@@ -44,10 +44,11 @@ IfTells None ended = ⊥
 IfTells (Some bytes) true = bytes ≡ []
 IfTells (Some bytes) false = Unit {0}
 
--- a sink over memory: what was written, for how many bytes there is room, the flushes up to the one that fails, and the
--- failures so far
+-- a sink over memory: what was written, for how many bytes there is room, the flushes up to the one that fails, the
+-- failures so far, and whether all that was taken has been sent on
 pub record SliceOutput : Type 0 where
   pub written : List ℕ
   pub room : ℕ
   pub flushes_left : ℕ
   pub failures : ℕ
+  pub is_flushed : Bool

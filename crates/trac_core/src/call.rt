@@ -4,7 +4,7 @@ ghost use Rattle.trac_space.specs.Calls.{IsLastCall};
 ghost use Rattle.trac_forms.specs.Text.{Text};
 ghost use Rattle.trac_forms.specs.FlatForms.{text_of_cells};
 ghost use Rattle.trac_forms.specs.Contents.{IsByte, IsSound, used};
-ghost use Rattle.trac_core.specs.Devices.{Stream};
+ghost use Rattle.trac_core.specs.Devices.{Stream, Sent};
 ghost use Rattle.trac_core.specs.Flat.{memory_of, mode_of, mode_at, is_active_mode, arguments_at};
 ghost use Rattle.trac_core.specs.Function.{is_plain};
 ghost use Rattle.trac_core.specs.Performed.{performs, reads_input, prints_output};
@@ -37,6 +37,7 @@ pub(crate) fn advance<I: Source, O: Sink>(
         (scene work.new meta.new (I.stream source.new) (O.written sink.new)) }
     ensures input_failed { I.failure_count source.new ≡ I.failure_count source.old + input_failures None result.fate }
     ensures output_failed { O.failure_count sink.new ≡ O.failure_count sink.old + output_failures None result.fate }
+    ensures sent { result.fate ≢ Some Fate.OutputFailed → Sent O.tells O.flushed O.written sink.old sink.new }
     ensures unspent { result.fate ≢ Some Fate.Steps }
     ensures unread { reads_input (performs (memory_of meta.old work.old)) ≡ false → source.new ≡ source.old }
     ensures unprinted { prints_output (performs (memory_of meta.old work.old)) ≡ false → sink.new ≡ sink.old }
@@ -73,6 +74,7 @@ fn close<I: Source, O: Sink>(
         (scene work.new meta.new (I.stream source.new) (O.written sink.new)) }
     ensures input_failed { I.failure_count source.new ≡ I.failure_count source.old + input_failures None result.fate }
     ensures output_failed { O.failure_count sink.new ≡ O.failure_count sink.old + output_failures None result.fate }
+    ensures sent { result.fate ≢ Some Fate.OutputFailed → Sent O.tells O.flushed O.written sink.old sink.new }
     ensures unspent { result.fate ≢ Some Fate.Steps }
     ensures unread { reads_input (performs (memory_of meta.old work.old)) ≡ false → source.new ≡ source.old }
     ensures unprinted { prints_output (performs (memory_of meta.old work.old)) ≡ false → sink.new ≡ sink.old }
@@ -104,6 +106,7 @@ fn perform<I: Source, O: Sink>(
         (scene work.new meta.new (I.stream source.new) (O.written sink.new)) }
     ensures input_failed { I.failure_count source.new ≡ I.failure_count source.old + input_failures None result.fate }
     ensures output_failed { O.failure_count sink.new ≡ O.failure_count sink.old + output_failures None result.fate }
+    ensures sent { result.fate ≢ Some Fate.OutputFailed → Sent O.tells O.flushed O.written sink.old sink.new }
     ensures unspent { result.fate ≢ Some Fate.Steps }
     ensures unread { reads_input (function_at work.old.neutral place) ≡ false → source.new ≡ source.old }
     ensures unprinted { prints_output (function_at work.old.neutral place) ≡ false → sink.new ≡ sink.old }

@@ -1,5 +1,5 @@
 //! What a machine reads from and writes to.
-ghost use Rattle.std.specs.Prelude.{◌≡◌, ℕ, ◌+◌, ◌-◌, ◌^◌, ◌<◌, List};
+ghost use Rattle.std.specs.Prelude.{◌≡◌, ℕ, ◌+◌, ◌-◌, ◌^◌, ◌<◌, List, OnOk};
 ghost use Rattle.trac_core.specs.Devices.{Stream, Gives, failures_of_next, failures_of, after_put};
 
 mod read_source;
@@ -61,6 +61,9 @@ pub trait Sink {
     /// The bytes written so far.
     ghost written: { Self → List ℕ };
 
+    /// That all that was taken has been sent on.
+    ghost flushed: { Self → Type 0 };
+
     /// The number of failures so far.
     ghost failure_count: { Self → ℕ };
 
@@ -75,6 +78,7 @@ pub trait Sink {
     fn flush(&mut self) -> Result<(), SinkFailed>
         requires { failure_count self.old < 2 ^ 64 - 1 }
         ensures keeps { tells self.old → written self.new ≡ written self.old }
+        ensures flushed { OnOk result (flushed self.new) }
         ensures told { tells self.old → tells self.new }
         ensures counts { failure_count self.new ≡ failure_count self.old + failures_of result };
 

@@ -1,8 +1,8 @@
 //! The function that displays a form: `pf`.
-ghost use Rattle.std.specs.Prelude.{◌≡◌, ◌≢◌, ℕ, ◌+◌, ◌-◌, ◌<◌, ◌≤◌, ◌^◌, [], ◌∷◌, ◌++◌, drop, length, Some, slice_range, OnErr, codes, decimal};
+ghost use Rattle.std.specs.Prelude.{◌≡◌, ◌≢◌, ℕ, ◌+◌, ◌-◌, ◌<◌, ◌≤◌, ◌^◌, [], ◌∷◌, ◌++◌, drop, length, Some, slice_range, OnErr, OnOk, codes, decimal};
 ghost use Rattle.trac_forms.specs.Store.{form_named};
 ghost use Rattle.trac_forms.specs.Contents.{form_at, body_at, part_text, IsTextPart, IsSound};
-ghost use Rattle.trac_core.specs.Devices.{Stream, failures_of};
+ghost use Rattle.trac_core.specs.Devices.{Stream, failures_of, Sent};
 ghost use Rattle.trac_core.specs.Flat.{arguments_at};
 ghost use Rattle.trac_core.specs.Calls.{AreArguments, texts};
 ghost use Rattle.trac_core.specs.Machine.{output_failures};
@@ -35,6 +35,7 @@ pub(crate) fn print_form<O: Sink>(
         (scene work.new meta source (O.written sink.new)) }
     ensures fate { (result.fate ≢ Some Fate.InputFailed) × (result.fate ≢ Some Fate.Steps) }
     ensures output_failed { O.failure_count sink.new ≡ O.failure_count sink.old + output_failures None result.fate }
+    ensures sent { result.fate ≢ Some Fate.OutputFailed → Sent O.tells O.flushed O.written sink.old sink.new }
     ensures told { O.tells sink.old → O.tells sink.new }
     ensures fits { result.need ≤ work.old.room }
     ensures room { work.new.room ≡ work.old.room }
@@ -62,6 +63,8 @@ fn show_named<O: Sink>(work: &mut Work, name: (u32, u32), sink: &mut O) -> Resul
     ensures prints { O.tells sink.old →
         Prints result (O.written sink.old) (display (form_named (part_text work.old.neutral name.0 name.1) work.old.forms)) (O.written sink.new) }
     ensures some { OnErr result (display (form_named (part_text work.old.neutral name.0 name.1) work.old.forms) ≢ []) }
+    ensures untouched { display (form_named (part_text work.old.neutral name.0 name.1) work.old.forms) ≡ [] → sink.new ≡ sink.old }
+    ensures flushed { OnOk result (display (form_named (part_text work.old.neutral name.0 name.1) work.old.forms) ≢ [] → O.flushed sink.new) }
     ensures same { work.new ≡ work.old }
     ensures told { O.tells sink.old → O.tells sink.new }
     ensures counts { O.failure_count sink.new ≡ O.failure_count sink.old + failures_of result }
@@ -77,6 +80,7 @@ fn show_form<O: Sink>(work: &Work, form: FormId, sink: &mut O) -> Result<(), Sin
     requires known { form.0 < length work.now.forms }
     requires counts { O.failure_count sink.old < 2 ^ 64 - 1 }
     ensures prints { O.tells sink.old → Prints result (O.written sink.old) (show_form (form_at work.now.forms form.0)) (O.written sink.new) }
+    ensures flushed { OnOk result (O.flushed sink.new) }
     ensures told { O.tells sink.old → O.tells sink.new }
     ensures counts { O.failure_count sink.new ≡ O.failure_count sink.old + failures_of result }
 {

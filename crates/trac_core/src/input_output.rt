@@ -3,7 +3,7 @@ ghost use Rattle.std.specs.Prelude.{◌≡◌, ◌≢◌, ℕ, ◌+◌, ◌-◌,
 ghost use Rattle.trac_forms.specs.Text.{Text};
 ghost use Rattle.trac_forms.specs.FlatForms.{text_of_cells};
 ghost use Rattle.trac_forms.specs.Contents.{IsByte, IsSound, used};
-ghost use Rattle.trac_core.specs.Devices.{Stream};
+ghost use Rattle.trac_core.specs.Devices.{Stream, Sent};
 ghost use Rattle.trac_core.specs.Flat.{arguments_at, mode_at};
 ghost use Rattle.trac_core.specs.Calls.{AreArguments, texts};
 ghost use Rattle.trac_core.specs.Machine.{input_failures, output_failures};
@@ -131,6 +131,7 @@ pub(crate) fn print_string<O: Sink>(
         (scene work.new meta source (O.written sink.new)) }
     ensures fate { (result.fate ≢ Some Fate.InputFailed) × (result.fate ≢ Some Fate.Steps) }
     ensures output_failed { O.failure_count sink.new ≡ O.failure_count sink.old + output_failures None result.fate }
+    ensures sent { result.fate ≢ Some Fate.OutputFailed → Sent O.tells O.flushed O.written sink.old sink.new }
     ensures told { O.tells sink.old → O.tells sink.new }
     ensures fits { result.need ≤ work.old.room }
     ensures room { work.new.room ≡ work.old.room }

@@ -2,6 +2,7 @@
 ghost use Rattle.std.specs.Prelude.{◌≡◌, ◌≢◌, ℕ, ◌+◌, ◌-◌, ◌^◌, ◌<◌, ◌≤◌, List, length, false, true, None, Some, IsSome};
 ghost use Rattle.trac_forms.specs.Text.{Text};
 ghost use Rattle.trac_core.specs.State.{Memory};
+ghost use Rattle.trac_core.specs.Devices.{Sent};
 ghost use Rattle.trac_core.specs.Performed.{performs, reads_input, prints_output};
 ghost use Rattle.trac_core.specs.Machine.{made, KeepsLimits, moment, Answers, Takes, StaysOver, input_failures, output_failures, reported_input_failures, reported_output_failures, Reports, course, counted, counts_as_step};
 ghost use Rattle.trac_core.specs.Together.{PassesTimes, passed, peak_after};
@@ -117,6 +118,8 @@ impl<'a> Machine<'a> {
         // the failures of the devices are told, and no others
         ensures input_failed { I.failure_count source.new ≡ I.failure_count source.old + input_failures self.old.fate result }
         ensures output_failed { O.failure_count sink.new ≡ O.failure_count sink.old + output_failures self.old.fate result }
+        // unless the sink failed, what was put was sent on, and where nothing was put the sink was not called
+        ensures sent { result ≢ Some Fate.OutputFailed → Sent O.tells O.flushed O.written sink.old sink.new }
         // only a call that reads calls the source, for at most two bytes more than are free; only a call that prints calls the sink
         ensures unread { reads_input (performs self.old.memory) ≡ false → source.new ≡ source.old }
         ensures unprinted { prints_output (performs self.old.memory) ≡ false → sink.new ≡ sink.old }
@@ -191,6 +194,7 @@ impl<'a> Machine<'a> {
             Reports result.fate (course self.entry (I.stream source.old) (O.written sink.old) (I.stream source.new) (O.written sink.new)) result }
         ensures input_failed { I.failure_count source.new ≡ I.failure_count source.old + reported_input_failures result.fate }
         ensures output_failed { O.failure_count sink.new ≡ O.failure_count sink.old + reported_output_failures result.fate }
+        ensures sent { result.fate ≢ Fate.OutputFailed → Sent O.tells O.flushed O.written sink.old sink.new }
         ensures steps { result.steps ≤ self.entry.allowance }
         ensures peak { result.peak ≤ self.entry.room }
     {

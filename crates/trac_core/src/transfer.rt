@@ -1,5 +1,5 @@
 //! Bytes from a source into the neutral string, and from there to a sink.
-ghost use Rattle.std.specs.Prelude.{◌≡◌, ◌≢◌, ℕ, ◌+◌, ◌-◌, ◌<◌, ◌≤◌, ◌^◌, List, [], ◌∷◌, ◌++◌, is_ok, if◌then◌else◌, MatchResult, OnErr, true, false};
+ghost use Rattle.std.specs.Prelude.{◌≡◌, ◌≢◌, ℕ, ◌+◌, ◌-◌, ◌<◌, ◌≤◌, ◌^◌, List, [], ◌∷◌, ◌++◌, is_ok, if◌then◌else◌, MatchResult, OnErr, OnOk, true, false};
 ghost use Rattle.trac_forms.specs.Text.{Text};
 ghost use Rattle.trac_forms.specs.FlatForms.{character_of, text_of_cells};
 ghost use Rattle.trac_forms.specs.Contents.{used, IsSound};
@@ -54,6 +54,8 @@ pub(crate) fn print_text<O: Sink>(text: &[Cell], sink: &mut O) -> Result<(), Sin
         (λ _. O.written sink.new ≡ O.written sink.old ++ text_of_cells text.now)
         (λ _. (put : Text) × ((rest : Text) × (text_of_cells text.now ≡ put ++ rest) × (O.written sink.new ≡ O.written sink.old ++ put))) }
     ensures some { OnErr result (text_of_cells text.now ≢ []) }
+    ensures untouched { text_of_cells text.now ≡ [] → sink.new ≡ sink.old }
+    ensures flushed { OnOk result (text_of_cells text.now ≢ [] → O.flushed sink.new) }
     ensures told { O.tells sink.old → O.tells sink.new }
     ensures counts { O.failure_count sink.new ≡ O.failure_count sink.old + failures_of result }
 {

@@ -10,6 +10,7 @@ use std::io::Write;
 pub struct WriteSink<W> {
     writer: W,
     failures: u64,
+    is_flushed: bool,
 }
 
 impl<W: Write> WriteSink<W> {
@@ -17,11 +18,13 @@ impl<W: Write> WriteSink<W> {
     pub fn new(writer: W) -> WriteSink<W>
         ensures tells { IsSome (W.contents writer) → ⟦<WriteSink<W> as Sink>⟧.tells result }
         ensures written { ⟦<WriteSink<W> as Sink>⟧.written result ≡ unwrap_or (W.contents writer) [] }
+        ensures flushed { ⟦<WriteSink<W> as Sink>⟧.flushed result }
         ensures none { ⟦<WriteSink<W> as Sink>⟧.failure_count result ≡ 0 }
     {
         WriteSink {
             writer,
             failures: 0,
+            is_flushed: true,
         }
     }
 }
@@ -31,9 +34,12 @@ impl<W: Write> Sink for WriteSink<W> {
 
     ghost written = { λ s. unwrap_or (W.contents s.writer) [] };
 
+    ghost flushed = { λ s. s.is_flushed ≡ true };
+
     ghost failure_count = { λ s. s.failures };
 
     fn put(&mut self, byte: u8) -> Result<(), SinkFailed> {
+        self.is_flushed = false;
         match self.writer.write(&[byte]) {
             Ok(1) => Ok(()),
             _ => {
@@ -45,7 +51,10 @@ impl<W: Write> Sink for WriteSink<W> {
 
     fn flush(&mut self) -> Result<(), SinkFailed> {
         match self.writer.flush() {
-            Ok(()) => Ok(()),
+            Ok(()) => {
+                self.is_flushed = true;
+                Ok(())
+            }
             Err(_) => {
                 self.failures += 1;
                 Err(SinkFailed)

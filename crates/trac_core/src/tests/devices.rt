@@ -1,5 +1,5 @@
 //! Runs over devices that fail, and over sources, sinks, readers and writers of the tests' own.
-ghost use Rattle.std.specs.Prelude.{◌≡◌, ◌+◌, ◌-◌, ◌^◌, ◌<◌, ◌≤◌, [], length, false};
+ghost use Rattle.std.specs.Prelude.{◌≡◌, ◌+◌, ◌-◌, ◌^◌, ◌<◌, ◌≤◌, [], length, false, ⊤};
 ghost use Rattle.trac_core.specs.Devices.{Stream, failures_of_next, failures_of, after_put};
 
 use super::{AMPLE, Faults, HELLO, MANY, NO_FAULTS, SHOWN, came_to, faulty};
@@ -92,6 +92,8 @@ impl Sink for FakeSink {
     ghost tells = { λ _. ⊥ };
 
     ghost written = { λ _. [] };
+
+    ghost flushed = { λ _. ⊤ };
 
     ghost failure_count = { λ s. s.failures };
 

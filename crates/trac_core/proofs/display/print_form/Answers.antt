@@ -1,12 +1,13 @@
 use Rattle.std.proofs.Common.{sym, ap, ◌∙◌}
 use Rattle.trac_forms.specs.Store.{form_named}
-use Rattle.trac_forms.specs.Contents.{Contents}
+use Rattle.trac_forms.specs.Contents.{Contents, part_text}
 use Rattle.trac_core.specs.Flat.{arguments_at}
 use Rattle.trac_core.specs.Calls.{texts}
 use Rattle.trac_core.specs.Display.{display}
 use Rattle.trac_core.proofs.Performing.{closed}
 use Rattle.trac_core.proofs.Printing.{argument-one}
 use Rattle.trac_core.proofs.Displaying.{tried-display, tried-display-broken}
+use Rattle.trac_core.proofs.Sending.{sent-text}
 use Rattle.trac_core.proofs.display.print_form.Goals as goal
 
 pub returns-in-Ok-clause-tried : goal.returns-in-Ok-clause-tried
@@ -26,3 +27,10 @@ returns-in-Err-clause-tried g c = λ told meta source.
     rw (broke.1.1.1, c.in-Err.ensures.same)
     (tried-display-broken w c.args.place c.used-need.result c.requires.call c.used-need.ensures.value meta source (g.O.Sink.written c.args.sink.now) broke.0 broke.1.0
     (sym shown ∙ broke.1.1.0) (λ none. c.in-Err.ensures.some (broke.1.1.0 ∙ none)))
+
+pub returns-in-Ok-clause-sent : goal.returns-in-Ok-clause-sent
+returns-in-Ok-clause-sent g c = λ other.
+    let w = c.args.work.now in
+    sent-text g.O.Sink.tells g.O.Sink.flushed g.O.Sink.written c.args.sink.now c.show_named.new.sink
+    (display (form_named (part_text w.neutral c.next-name.result.0 c.next-name.result.1) w.forms))
+    c.in-Ok.ensures.untouched c.in-Ok.ensures.flushed c.in-Ok.ensures.prints

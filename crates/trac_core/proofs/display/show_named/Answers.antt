@@ -29,3 +29,16 @@ returns-in-None-clause-prints g c = λ told.
     let name = part_text w.neutral c.args.name.0 c.args.name.1 in
     let written = g.O.Sink.written c.args.sink.now in
     sym (ap (λ o. written ++ display o) (form_named-none name w.forms c.in-None.ensures.found) ∙ append-nil written)
+
+pub returns-in-Some-clause-untouched : goal.returns-in-Some-clause-untouched
+returns-in-Some-clause-untouched g c = λ none.
+    let w = c.args.work.now in
+    let name = part_text w.neutral c.args.name.0 c.args.name.1 in
+    let k = c.in-Some.form.0 in
+    absurd (display-some (form_at w.forms k) (sym (ap display (form_named-at name w.forms k c.requires.sound.forms c.in-Some.ensures.found)) ∙ none))
+
+pub returns-in-None-clause-flushed : goal.returns-in-None-clause-flushed
+returns-in-None-clause-flushed g c = λ some.
+    let w = c.args.work.now in
+    let name = part_text w.neutral c.args.name.0 c.args.name.1 in
+    absurd (some (ap display (form_named-none name w.forms c.in-None.ensures.found)))

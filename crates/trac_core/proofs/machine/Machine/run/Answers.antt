@@ -1,7 +1,8 @@
-use Rattle.std.proofs.Common.{◌≡◌, None, ◌∙◌, arith, sym, ap, subst, refl}
+use Rattle.std.proofs.Common.{◌≡◌, None, ◌∙◌, arith, sym, ap, subst, refl, inl}
 use Rattle.trac_core.specs.Machine.{MachineState, KeepsLimits, moment}
 use Rattle.trac_core.proofs.Along.{SomeAlong, along-none, along-more, along-passes}
 use Rattle.trac_core.proofs.Reported.{reported}
+use Rattle.trac_core.proofs.Sending.{sent-more}
 use Rattle.trac_core.proofs.machine.Machine.run.Goals as goal
 
 pub returns-in-Some-clause-reports : goal.returns-in-Some-clause-reports
@@ -28,6 +29,12 @@ returns-in-Some-clause-reports g c = λ told_source told_sink.
     (c.in-Some.ensures.answers (ap (λ (m : MachineState). m.fate) is ∙ i.not_over) (i.told_source told_source) (i.told_sink told_sink)) in
     rw (c.steps.ensures, c.peak.ensures) last
 
+pub returns-in-Some-clause-sent : goal.returns-in-Some-clause-sent
+returns-in-Some-clause-sent g c = λ other.
+    let i = c.loop-fate.invariant in
+    sent-more g.O.Sink.tells g.O.Sink.flushed g.O.Sink.written c.args.sink.now c.loop-fate.sink c.step.new.sink i.told_sink i.sent
+    (c.in-Some.ensures.sent (λ e. other cc))
+
 pub loop-fate-init : goal.loop-fate-init
 loop-fate-init g c =
     let e = c.requires.made in
@@ -41,6 +48,7 @@ loop-fate-init g c =
       sink_failures = refl;
       told_source = λ told. told;
       told_sink = λ told. told;
+      sent = inl refl;
       along = λ told_source told_sink.
           let source = g.I.Source.stream c.args.source.now in
           let written = g.O.Sink.written c.args.sink.now in
@@ -71,6 +79,7 @@ loop-fate-preserved g c =
       sink_failures = omega (arith, i.sink_failures, sink_failed);
       told_source = λ told. h.told_source (i.told_source told);
       told_sink = λ told. h.told_sink (i.told_sink told);
+      sent = sent-more g.O.Sink.tells g.O.Sink.flushed g.O.Sink.written c.args.sink.now c.loop-fate.sink c.step.new.sink i.told_sink i.sent (h.sent (λ e. absurd cc));
       along = λ told_source told_sink.
           let source = g.I.Source.stream c.loop-fate.source in
           let written = g.O.Sink.written c.loop-fate.sink in

@@ -1,4 +1,5 @@
 use Rattle.std.proofs.Common.{◌≡◌, ◌-◌, None}
+use Rattle.trac_core.specs.Devices.{Sent}
 use Rattle.trac_core.specs.Machine.{KeepsLimits, moment}
 use Rattle.trac_core.proofs.Along.{SomeAlong}
 use Rattle.trac_core.proofs.machine.Machine.run.Given as goal
@@ -15,6 +16,7 @@ invariant-loop-fate g l =
       sink_failures : g.O.Sink.failure_count l.sink ≡ g.O.Sink.failure_count l.initial.sink;
       told_source : g.I.Source.tells l.initial.source → g.I.Source.tells l.source;
       told_sink : g.O.Sink.tells l.initial.sink → g.O.Sink.tells l.sink;
+      sent : Sent g.O.Sink.tells g.O.Sink.flushed g.O.Sink.written l.initial.sink l.sink;
       along : g.I.Source.tells l.initial.source → g.O.Sink.tells l.initial.sink →
           SomeAlong l.fn.self.room (g.I.Source.stream l.initial.source).bytes (g.O.Sink.written l.initial.sink)
           (moment l.self (g.I.Source.stream l.source) (g.O.Sink.written l.sink));

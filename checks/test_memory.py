@@ -1,0 +1,91 @@
+"""Each request for memory in turn is refused, by a small library before the C library's allocator."""
+import os
+import subprocess
+import tempfile
+import unittest
+
+from trac import PROGRAM, TOP
+
+HELLO = b"#(ps,hello)'"
+LONG = (b"#(ds,F,(abcabc))#(ss,F,b)#(ps,#(cl,F,(xyz))#(ad,99,1)#(gr,10,9,a,b))#(pf,F)'"
+        b"#(ds,G,#(cc,F)#(in,F,c)#(bu,12,7))#(pf,G)#(dd,F,G)'") * 200
+LONG_OUTPUT = b'axyzcaxyzc100a<^>a<1>ca<1>c<^>a17' * 200
+WORDS_LINE = b'trac: no memory for the command line\n'
+BLOCK_LINE = b'trac: no memory for 18 cells\n'
+AMPLE_LINES = b'trac: 8 steps, peak 11 cells\ntrac: workspace of 18 cells full at step 9\n'
+CELL = 8
+ALLOCATORS = {'malloc', 'calloc', 'realloc', 'memalign', 'aligned_alloc', 'posix_memalign'}
+OTHER_WAYS = {'mmap', 'mmap64', 'mremap', 'brk', 'sbrk', 'valloc', 'pvalloc', 'reallocarray', 'strdup', 'syscall'}
+
+
+class Serve(unittest.TestCase):
+    def test_a_refused_block(self):
+        done = subprocess.run(['rt', 'try', '--test', '--fail-alloc', '1'], cwd=os.path.join(TOP, 'crates', 'trac_cli'),
+                              capture_output=True, text=True, timeout=600)
+        lines = [line.strip() for line in done.stdout.splitlines()]
+        at = lines.index('test tests::a_run_in_a_block_of_its_own ... FAILED')
+        # what the test answers once it has seen that nothing was read and nothing written
+        self.assertIn('no memory for the block', lines[at + 1])
+
+
+class Refused(unittest.TestCase):
+    @classmethod
+    def setUpClass(cls):
+        cls.folder = tempfile.TemporaryDirectory()
+        cls.library = os.path.join(cls.folder.name, 'refusing.so')
+        source = os.path.join(TOP, 'checks', 'refusing.c')
+        subprocess.run(['gcc', '-shared', '-fPIC', '-O1', '-fno-builtin', '-o', cls.library, source], check=True)
+
+    @classmethod
+    def tearDownClass(cls):
+        cls.folder.cleanup()
+
+    def run_refusing(self, number, script, *words):
+        """The output, the lines, the status, the script that is left, and the sizes of the requests."""
+        with tempfile.TemporaryFile() as given, tempfile.TemporaryFile() as requests:
+            given.write(script)
+            given.seek(0)
+            environment = dict(os.environ, LD_PRELOAD=self.library, REFUSED=str(number), REQUESTS=str(requests.fileno()))
+            done = subprocess.run([PROGRAM, *words], stdin=given, capture_output=True, timeout=60,
+                                  pass_fds=[requests.fileno()], env=environment)
+            left = os.read(given.fileno(), len(script))
+            requests.seek(0)
+            sizes = [int(line) for line in requests.read().split()]
+        return done.stdout, done.stderr, done.returncode, left, sizes
+
+    def test_each_request_in_turn(self):
+        words = ['--cells', '18', '--report']
+        *ample, sizes = self.run_refusing(0, HELLO, *words)
+        self.assertEqual(ample, [b'', AMPLE_LINES, 1, b''])
+        refused_block = [b'', BLOCK_LINE, 6, HELLO]
+        self.assertEqual(self.run_refusing(len(sizes), HELLO, *words)[:4], tuple(refused_block))
+        got_past = []
+        for number in range(1, len(sizes)):
+            with self.subTest(request=number, of=len(sizes)):
+                *ends, made = self.run_refusing(number, HELLO, *words)
+                if ends == ample:
+                    # the library asks for the same once more
+                    self.assertEqual(made[number], sizes[number - 1])
+                    got_past.append(number)
+                else:
+                    self.assertEqual(ends, [b'', WORDS_LINE, 6, HELLO])
+                    self.assertEqual(made, sizes[:number])
+        self.assertLessEqual(len(got_past), 1)
+        self.assertGreater(len(sizes), 20)
+
+    def test_a_run_makes_no_request(self):
+        words = ['--cells', '65432', '--steps', '100000000']
+        *short, sizes = self.run_refusing(0, HELLO, *words)
+        self.assertEqual(short, [b'hello', b'', 0, b''])
+        *long, long_sizes = self.run_refusing(0, LONG, *words)
+        self.assertEqual(long[1:], [b'', 0, b''])
+        self.assertEqual(long[0], LONG_OUTPUT)
+        self.assertEqual(long_sizes, sizes)
+        # the last request is that of the block
+        self.assertEqual(sizes[-1], 65432 * CELL)
+
+    def test_the_program_has_no_other_way_to_memory(self):
+        lines = subprocess.run(['nm', '-D', '--undefined-only', PROGRAM], check=True, capture_output=True, text=True).stdout
+        names = {line.split()[1].split('@')[0] for line in lines.splitlines()}
+        self.assertEqual(names & ALLOCATORS, {'malloc', 'realloc'})
+        self.assertEqual(names & OTHER_WAYS, set())
