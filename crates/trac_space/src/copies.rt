@@ -4,12 +4,28 @@ ghost use Rattle.std.specs.List.{copy_within};
 
 use crate::cell::Cell;
 
-// How many cells a move takes at once.
-const PART: usize = 256;
+// How many cells a long move takes at once.
+const PART: usize = 512;
 
-// As `copy_within`. Where the two places are apart the cells go as a block of memory.
+// As `copy_within`. A short move goes cell by cell.
 #[inline]
 pub(crate) fn copy_cells(cells: &mut [Cell], start: usize, end: usize, to: usize)
+    requires order { start ≤ end }
+    requires within { end ≤ length cells.old }
+    requires room { to + (end - start) ≤ length cells.old }
+    ensures len { length cells.new ≡ length cells.old }
+    ensures after { cells.new ≡ copy_within cells.old start end to }
+{
+    if end - start < 12 {
+        cells.copy_within(start..end, to);
+    } else {
+        copy_long(cells, start, end, to);
+    }
+}
+
+// The same. Where the two places are apart the cells go as a block of memory.
+#[inline(never)]
+fn copy_long(cells: &mut [Cell], start: usize, end: usize, to: usize)
     requires order { start ≤ end }
     requires within { end ≤ length cells.old }
     requires room { to + (end - start) ≤ length cells.old }
