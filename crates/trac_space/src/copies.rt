@@ -5,7 +5,7 @@ ghost use Rattle.std.specs.List.{copy_within};
 use crate::cell::Cell;
 
 // How many cells a long move takes at once.
-const PART: usize = 512;
+const PART: usize = 256;
 
 // As `copy_within`. A short move goes cell by cell.
 #[inline]
