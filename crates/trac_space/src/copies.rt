@@ -16,7 +16,7 @@ pub(crate) fn copy_cells(cells: &mut [Cell], start: usize, end: usize, to: usize
     ensures len { length cells.new ≡ length cells.old }
     ensures after { cells.new ≡ copy_within cells.old start end to }
 {
-    if end - start < 12 {
+    if end - start < 8 {
         cells.copy_within(start..end, to);
     } else {
         copy_long(cells, start, end, to);
@@ -45,7 +45,21 @@ fn copy_long(cells: &mut [Cell], start: usize, end: usize, to: usize)
 }
 
 // Makes some cells the same as others.
+#[inline]
 fn copy_apart(from: &[Cell], to: &mut [Cell])
+    requires { length from.now ≡ length to.old }
+    ensures { to.new ≡ from.now }
+{
+    if from.len() <= PART {
+        to.copy_from_slice(from);
+    } else {
+        copy_parts(from, to);
+    }
+}
+
+// The same, part by part.
+#[inline(never)]
+fn copy_parts(from: &[Cell], to: &mut [Cell])
     requires { length from.now ≡ length to.old }
     ensures { to.new ≡ from.now }
 {

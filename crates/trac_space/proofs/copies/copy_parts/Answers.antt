@@ -3,7 +3,7 @@ use Rattle.std.proofs.Math.Seq.{take-add}
 use Rattle.std.proofs.lemmas.List.{length-take-le, take_at, drop-drop, drop_at}
 use borrow.Rule.Slice.PartMut.{put_mid}
 use Rattle.trac_space.specs.declared.cell.Cell.{Cell}
-use Rattle.trac_space.proofs.copies.copy_apart.Goals as goal
+use Rattle.trac_space.proofs.copies.copy_parts.Goals as goal
 
 -- the next cells are copied
 copied-more : (from was now part : List Cell) (k n : ℕ) → k + n ≤ length from → length from ≡ length was → now ≡ take k from ++ drop k was → part ≡ take n (drop k from) → put_mid k n now part ≡ take (k + n) from ++ drop (k + n) was
