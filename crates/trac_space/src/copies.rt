@@ -1,11 +1,13 @@
 //! Moves of cells within a block.
-ghost use Rattle.std.specs.Prelude.{◌≡◌, ◌+◌, ◌-◌, ◌≤◌, length};
+ghost use Rattle.std.specs.Prelude.{◌≡◌, ◌+◌, ◌-◌, ◌≤◌, ◌⊎◌, length};
 ghost use Rattle.std.specs.List.{copy_within};
 
 use crate::cell::Cell;
 
 // How many cells a long move takes at once.
 const PART: usize = 256;
+// How far a long move has to go for that.
+const FAR: usize = 64;
 
 // As `copy_within`. A short move goes cell by cell.
 #[inline]
@@ -23,7 +25,7 @@ pub(crate) fn copy_cells(cells: &mut [Cell], start: usize, end: usize, to: usize
     }
 }
 
-// The same. Where the two places are apart the cells go as a block of memory.
+// The same. Where the two places are apart, or far enough from one another, the cells go as blocks of memory.
 #[inline(never)]
 fn copy_long(cells: &mut [Cell], start: usize, end: usize, to: usize)
     requires order { start ≤ end }
@@ -32,21 +34,75 @@ fn copy_long(cells: &mut [Cell], start: usize, end: usize, to: usize)
     ensures len { length cells.new ≡ length cells.old }
     ensures after { cells.new ≡ copy_within cells.old start end to }
 {
-    let n = end - start;
-    if end <= to {
-        let (front, back) = cells.split_at_mut(to);
-        copy_apart(&front[start..end], &mut back[..n]);
-    } else if to + n <= start {
-        let (front, back) = cells.split_at_mut(start);
-        copy_apart(&back[..n], &mut front[to..to + n]);
+    if end <= to || to + (end - start) <= start {
+        copy_apart(cells, start, end, to);
+    } else if start + FAR <= to {
+        copy_up(cells, start, end, to);
+    } else if to + FAR <= start {
+        copy_down(cells, start, end, to);
     } else {
         cells.copy_within(start..end, to);
     }
 }
 
+// The same, where the two places are apart.
+#[inline]
+fn copy_apart(cells: &mut [Cell], start: usize, end: usize, to: usize)
+    requires order { start ≤ end }
+    requires within { end ≤ length cells.old }
+    requires room { to + (end - start) ≤ length cells.old }
+    requires apart { (end ≤ to) ⊎ (to + (end - start) ≤ start) }
+    ensures len { length cells.new ≡ length cells.old }
+    ensures after { cells.new ≡ copy_within cells.old start end to }
+{
+    let n = end - start;
+    if end <= to {
+        let (front, back) = cells.split_at_mut(to);
+        copy_other(&front[start..end], &mut back[..n]);
+    } else {
+        let (front, back) = cells.split_at_mut(start);
+        copy_other(&back[..n], &mut front[to..to + n]);
+    }
+}
+
+// The same, to a place far enough behind: the last part first.
+fn copy_up(cells: &mut [Cell], start: usize, end: usize, to: usize)
+    requires order { start ≤ end }
+    requires room { to + (end - start) ≤ length cells.old }
+    requires far { start + 64 ≤ to }
+    ensures len { length cells.new ≡ length cells.old }
+    ensures after { cells.new ≡ copy_within cells.old start end to }
+{
+    let part = PART.min(to - start);
+    let mut left = end - start;
+    while left > 0 {
+        let last = left;
+        left -= part.min(left);
+        copy_apart(cells, start + left, start + last, to + left);
+    }
+}
+
+// The same, to a place far enough before: the first part first.
+fn copy_down(cells: &mut [Cell], start: usize, end: usize, to: usize)
+    requires order { start ≤ end }
+    requires within { end ≤ length cells.old }
+    requires far { to + 64 ≤ start }
+    ensures len { length cells.new ≡ length cells.old }
+    ensures after { cells.new ≡ copy_within cells.old start end to }
+{
+    let part = PART.min(start - to);
+    let all = end - start;
+    let mut done = 0;
+    while done < all {
+        let first = done;
+        done += part.min(all - done);
+        copy_apart(cells, start + first, start + done, to + first);
+    }
+}
+
 // Makes some cells the same as others.
 #[inline]
-fn copy_apart(from: &[Cell], to: &mut [Cell])
+fn copy_other(from: &[Cell], to: &mut [Cell])
     requires { length from.now ≡ length to.old }
     ensures { to.new ≡ from.now }
 {
