@@ -155,6 +155,9 @@ impl<'a> Machine<'a> {
         let need = self.work.used();
         let left = self.allowance - self.steps;
         let count = scan::add_characters(&mut self.work, left);
+        if count == 0 {
+            return;
+        }
         self.steps += u64::from(count);
         self.peak = peak_after(count, need, self.peak);
     }

@@ -80,7 +80,9 @@ pub(crate) fn add_characters(work: &mut Work, most: u64) -> u32
     let all = work.active_len();
     let most = most.min(u64::from(all)) as u32;
     let count = ordinary_characters(work.active_part(0, most));
-    work.active_to_neutral(count);
+    if count > 0 {
+        work.active_to_neutral(count);
+    }
     count
 }
 

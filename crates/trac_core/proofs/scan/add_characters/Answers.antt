@@ -8,8 +8,8 @@ use Rattle.trac_core.proofs.Scanning.{take-text}
 use Rattle.trac_core.proofs.Together.{characters-pass}
 use Rattle.trac_core.proofs.scan.add_characters.Goals as goal
 
-pub returns-clause-passes : goal.returns-clause-passes
-returns-clause-passes c = λ meta.
+pub returns-then-count-gt0-clause-passes : goal.returns-then-count-gt0-clause-passes
+returns-then-count-gt0-clause-passes c = λ meta.
     let old = c.args.work.now in
     let n = c.ordinary_characters-count.result in
     let most = c.min-most.result in

@@ -1,6 +1,8 @@
-use Rattle.std.proofs.Common.{◌≡◌, refl, sym, ◌∙◌, arith}
+use Rattle.std.proofs.Common.{◌≡◌, ℕ, ◌+◌, refl, sym, ap, ◌∙◌, arith}
 use Rattle.trac_core.specs.State.{size}
 use Rattle.trac_core.specs.Flat.{memory_of}
+use Rattle.trac_core.specs.Machine.{MachineState}
+use Rattle.trac_core.specs.Together.{peak_after}
 use Rattle.trac_core.proofs.FlatLemmas.{size-used}
 use Rattle.trac_core.proofs.Together.{peak_after-le}
 use Rattle.trac_core.proofs.machine.Machine.add_characters.Goals as goal
@@ -35,4 +37,38 @@ returns-clause-limits c =
       cells = omega (arith, size-used i.meta new);
       steps = omega (arith, c.from.ensures);
       peak = omega (arith, c.peak_after-self-inside.ensures);
+    }
+
+pub returns-then-count-eq0-clause-passes : goal.returns-then-count-eq0-clause-passes
+returns-then-count-eq0-clause-passes c =
+    let i = c.self.inside in
+    let n = c.add_characters-count.result in
+    let new = c.add_characters-count.new.work in
+    let memory = memory_of i.meta new in
+    let cells = size (memory_of i.meta i.work) in
+    let none : n ≡ 0 = c.if-count-eq0.true in
+    let steps : i.steps ≡ i.steps + n = omega (arith, none) in
+    let peak : i.peak ≡ peak_after n cells i.peak = sym (ap (λ k. peak_after k cells i.peak) none) in
+    let after : ℕ → ℕ → ℕ → MachineState = λ room steps peak. record { memory = memory; room = room; allowance = i.allowance; steps = steps; peak = peak; fate = i.fate } in
+    rw (← c.self.view_is) (
+      n,
+      (
+        memory,
+        c.add_characters-count.ensures.passes i.meta,
+        ap (λ room. after room i.steps i.peak) c.add_characters-count.ensures.room
+            ∙ ap (λ k. after i.work.room k i.peak) steps
+            ∙ ap (λ p. after i.work.room (i.steps + n) p) peak,
+      ),
+    )
+
+pub returns-then-count-eq0-clause-limits : goal.returns-then-count-eq0-clause-limits
+returns-then-count-eq0-clause-limits c =
+    let i = c.self.inside in
+    let new = c.add_characters-count.new.work in
+    let fits = c.add_characters-count.ensures.sound.fits in
+    let room = c.add_characters-count.ensures.room in
+    record {
+      cells = omega (arith, size-used i.meta new);
+      steps = omega (arith, c.self.invariant.0);
+      peak = omega (arith, c.self.invariant.1);
     }
