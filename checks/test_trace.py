@@ -1,11 +1,7 @@
 """Traces: the tables of steps of two scripts that were worked by hand, row by row, and what becomes of odd bytes and of faults."""
-import os
-import subprocess
 import unittest
 
-from trac import TOP
-
-PROGRAM = os.path.join(TOP, 'crates', 'trac_trace', 'out', 'trac_trace')
+from trac import trace
 
 # A run over no input: the step, its rule, the size before it, its need, the active string after it.
 NOTHING = [
@@ -39,12 +35,6 @@ HELLO = [
 
 # A form that is defined: the step, the size before it and its need, for the steps where something is built or leaves.
 DEFINED = [(9, 9, 17), (10, 14, 14), (17, 13, 17), (18, 10, 9), (19, 5, 16), (27, 14, 13)]
-
-
-def trace(script, *words):
-    """The lines of a trace of a script, and the status."""
-    done = subprocess.run([PROGRAM, *words], input=script, capture_output=True, timeout=60)
-    return done.stdout.decode().splitlines(), done.returncode
 
 
 def rows(lines):
