@@ -98,3 +98,6 @@ fn status(fate: Fate) -> u8
         Fate::OutputFailed => NO_MEMORY,
     }
 }
+
+#[cfg(test)]
+mod tests;
