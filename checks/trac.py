@@ -1,10 +1,11 @@
-"""Runs the built program on a script."""
+"""Runs the built programs on a script."""
 import os
 import subprocess
 
 TOP = os.path.dirname(os.path.dirname(os.path.abspath(__file__)))
 LAUNCHER = os.path.join(TOP, 'trac')
 PROGRAM = os.path.join(TOP, 'crates', 'trac_cli', 'out', 'trac_cli')
+TRACER = os.path.join(TOP, 'crates', 'trac_trace', 'out', 'trac_trace')
 
 
 def run(script, *words, **more):
@@ -20,3 +21,9 @@ def report(script, *words):
     output, lines, status = run(script, '--report', *words)
     first = lines.split('\n')[0].split()
     return output, int(first[1]), int(first[4]), status
+
+
+def trace(script, *words):
+    """The lines of a trace of a script, and the status."""
+    done = subprocess.run([TRACER, *words], input=script, capture_output=True, timeout=60)
+    return done.stdout.decode().splitlines(), done.returncode

@@ -42,3 +42,4 @@ pub mod BitResults
 pub mod Behind
 pub mod Parting
 pub mod Displaying
+pub mod Rows

@@ -63,15 +63,15 @@ module _ (old new : Contents) where
 same-active : (n : Neutral) (t u : Text) (forms : List Form) (meta : ℕ) (input : Input) (output : Text) → t ≡ u → Next (state_with (memory_with n t forms meta) input output) ≡ Next (state_with (memory_with n u forms meta) input output)
 same-active n t u forms meta input output e = ap (λ t. Next (state_with (memory_with n t forms meta) input output)) e
 
-rule-layout : (c : ℕ) (rest : Text) → is_layout c ≡ true → rule (c ∷ rest) ≡ DeleteLayout rest
+pub rule-layout : (c : ℕ) (rest : Text) → is_layout c ≡ true → rule (c ∷ rest) ≡ DeleteLayout rest
 unfolding rule
 rule-layout c rest h = rw h refl
 
-rule-parenthesis : (text : Text) (o : Option (Text × Text)) → protected text ≡ o → rule (40 ∷ text) ≡ parenthesis_rule o
+pub rule-parenthesis : (text : Text) (o : Option (Text × Text)) → protected text ≡ o → rule (40 ∷ text) ≡ parenthesis_rule o
 unfolding rule
 rule-parenthesis rest o e = ap parenthesis_rule e
 
-rule-nothing : rule [] ≡ LoadIdling
+pub rule-nothing : rule [] ≡ LoadIdling
 unfolding rule
 rule-nothing = refl
 
@@ -173,12 +173,12 @@ scans-call old mode n fits =
     (λ meta input output. size-used meta old)
     (λ meta input output. refl)
 
-second-rest : (text : Text) (b c : ℕ) → slice_get text 0 ≡ Some b → slice_get text 1 ≡ Some c → text ≡ b ∷ c ∷ drop 2 text
+pub second-rest : (text : Text) (b c : ℕ) → slice_get text 0 ≡ Some b → slice_get text 1 ≡ Some c → text ≡ b ∷ c ∷ drop 2 text
 second-rest [] b c e f = absurd cc
 second-rest (x ∷ []) b c e f = absurd cc
 second-rest (x ∷ y ∷ text) b c e f = let first : x ≡ b = cc in let second : y ≡ c = cc in rw (first, second) refl
 
-third-rest : (text : Text) (b c d : ℕ) → slice_get text 0 ≡ Some b → slice_get text 1 ≡ Some c → slice_get text 2 ≡ Some d → text ≡ b ∷ c ∷ d ∷ drop 3 text
+pub third-rest : (text : Text) (b c d : ℕ) → slice_get text 0 ≡ Some b → slice_get text 1 ≡ Some c → slice_get text 2 ≡ Some d → text ≡ b ∷ c ∷ d ∷ drop 3 text
 third-rest [] b c d e f g = absurd cc
 third-rest (x ∷ []) b c d e f g = absurd cc
 third-rest (x ∷ y ∷ []) b c d e f g = absurd cc
@@ -208,7 +208,7 @@ scans-first old c fits =
     (λ meta input output. refl)
 
 -- a number sign that opens no call
-sign-rule : (text : Text) → slice_get text 0 ≡ Some 35 → slice_get text 1 ≢ Some 40 → (slice_get text 1 ≡ Some 35 → slice_get text 2 ≢ Some 40) → rule text ≡ AddCharacter 35 (drop 1 text)
+pub sign-rule : (text : Text) → slice_get text 0 ≡ Some 35 → slice_get text 1 ≢ Some 40 → (slice_get text 1 ≡ Some 35 → slice_get text 2 ≢ Some 40) → rule text ≡ AddCharacter 35 (drop 1 text)
 sign-rule [] first second third = absurd cc
 sign-rule (b ∷ []) first second third = let e : b ≡ 35 = cc in ap (λ b. rule (b ∷ [])) e ∙ rule_sign_last
 sign-rule (b ∷ c ∷ []) first second third =
@@ -234,7 +234,7 @@ pub scans-sign : (old : Contents) → slice_get (text_of_cells old.active) 0 ≡
 scans-sign old first second third = scans-first old 35 (sign-rule (text_of_cells old.active) first second third)
 
 -- a character that isn't layout
-not-layout : (c : ℕ) → is_layout c ≡ false → (c ≢ 9) × (c ≢ 10) × (c ≢ 13)
+pub not-layout : (c : ℕ) → is_layout c ≡ false → (c ≢ 9) × (c ≢ 10) × (c ≢ 13)
 not-layout c h = (λ e. absurd (tab e), λ e. absurd (feed e), λ e. absurd (back e))
   where
     tab : c ≡ 9 → ⊥

@@ -17,6 +17,7 @@ pub mod Calls
 pub mod Performed
 pub mod Transfer
 pub mod Machine
+pub mod View
 pub mod Attempts
 pub mod Taking
 pub mod Together

@@ -20,7 +20,7 @@ pub mod values;
 mod writing;
 
 pub use device::{Next, ReadSource, Sink, SinkFailed, SliceSink, SliceSource, Source, WriteSink};
-pub use machine::{Fate, Machine, Report};
+pub use machine::{Fate, Machine, Report, ScanningRule};
 pub use trac_forms::Cell;
 
 #[cfg(test)]

@@ -14,6 +14,10 @@ use crate::scan::Attempt;
 use std::marker::Model;
 use trac_forms::{Cell, Work};
 
+pub(crate) mod view;
+
+pub use view::ScanningRule;
+
 /// How a run ended. The fates and their numbers are this processor's own choice.
 #[derive(Clone, Copy, Debug, PartialEq, Eq)]
 pub enum Fate {

@@ -4,6 +4,7 @@ ghost use Rattle.std.specs.Prelude.{◌≤◌, length};
 
 mod devices;
 mod rows;
+mod view;
 
 use crate::{Cell, Fate, Machine, Report, SliceSink, SliceSource};
 use rows::{DISPLAYED, FORMS, HALTING, PARTS, READ, REPORTS, SCANNED, VALUES};

@@ -1,0 +1,98 @@
+"""The man page: it formats without a warning, and says what the program's help and the README say."""
+import os
+import re
+import shutil
+import subprocess
+import unittest
+
+from trac import TOP, run
+
+PAGE = os.path.join(TOP, 'docs', 'trac.1')
+WIDE = {'MANWIDTH': '500', 'MANPAGER': 'cat', 'LC_ALL': 'C.UTF-8'}
+NUMBER = re.compile(r'\b(\d+|[NPS])\b')
+EXAMPLE = re.compile(r'^ +\$ printf "(.*)" \| trac (.*)\n((?: {11}\S.*\n)+)', re.MULTILINE)
+
+
+def formatted():
+    """The page as lines of 500 columns, and what man says of it on standard error."""
+    done = subprocess.run(['man', '--warnings', '-l', PAGE], capture_output=True, env={**os.environ, **WIDE})
+    return done.stdout.decode(), done.stderr.decode(), done.returncode
+
+
+def section(text, name):
+    """The text of a section."""
+    return text.split(f'\n{name}\n')[1].split('\n\n\n')[0].split('\n' + next_name(text, name))[0]
+
+
+def next_name(text, name):
+    names = re.findall(r'^[A-Z][A-Z ]+$', text, re.MULTILINE) + ['\0']
+    return names[names.index(name) + 1]
+
+
+def entries(text):
+    """The tagged paragraphs of a section: what each is about, and its text."""
+    found = re.findall(r'^ {7}(\S.*)\n((?: {14}.*\n?)+)', text, re.MULTILINE)
+    short = re.findall(r'^ {7}(\d+) +(\S.*)$', text, re.MULTILINE)
+    return {tag: words.strip() for tag, words in found + short}
+
+
+def readme_rows(head):
+    """The cells of the table of the README that has this head."""
+    with open(os.path.join(TOP, 'README.md'), encoding='utf-8') as readme:
+        rows = readme.read().split(head + '\n')[1].split('\n\n')[0].split('\n')
+    return [[cell.strip() for cell in row.strip('|').split('|')] for row in rows[1:]]
+
+
+class ManPage(unittest.TestCase):
+    @classmethod
+    def setUpClass(cls):
+        if not shutil.which('man'):
+            raise AssertionError('man is missing: install man-db and groff')
+        cls.text, cls.warnings, cls.status = formatted()
+        cls.options = entries(section(cls.text, 'OPTIONS'))
+        cls.lines = entries(section(cls.text, 'DIAGNOSTICS'))
+
+    def test_it_formats_without_a_warning(self):
+        self.assertEqual((self.warnings, self.status), ('', 0))
+
+    def test_its_options_are_those_of_the_help(self):
+        shown = run('', '--help')[0].decode().split('Options:\n')[1]
+        rows = re.findall(r'^ +((?:-\w, )?--\w+(?: <\w>)?)  +(.*)$', shown, re.MULTILINE)
+        self.assertEqual({option.replace('<N>', 'N') for option, _ in rows}, set(self.options))
+        for option, words in rows:
+            for default in re.findall(r'\[default: (\d+)\]', words):
+                self.assertIn(f'The default is {default}.', self.options[option.replace('<N>', 'N')])
+
+    def test_its_ranges_are_those_of_the_readme(self):
+        ranges = {row[0].split('`')[1]: row[1:] for row in readme_rows('| Option | Range | Default |')}
+        self.assertEqual({option.split(', ')[-1] for option in self.options}, set(ranges))
+        for option, (spans, default) in ranges.items():
+            if spans:
+                self.assertIn(f'from {spans}.', self.options[option])
+                self.assertIn(f'The default is {default}.', self.options[option])
+
+    def test_its_statuses_are_those_of_the_readme(self):
+        rows = readme_rows('| Status | When | Line on standard error (an example) |')
+        statuses = {row[0] for row in rows} | {'70'}
+        self.assertEqual(set(entries(section(self.text, 'EXIT STATUS'))), statuses)
+
+    def test_its_lines_are_those_of_the_readme(self):
+        rows = readme_rows('| Status | When | Line on standard error (an example) |')
+        wanted = {'trac: 29 steps, peak 19 cells': None}
+        for status, _, line in rows:
+            for text in re.findall(r'`([a-z]+: .*?)`', line):
+                wanted[text] = status
+        self.assertEqual({NUMBER.sub('#', line) for line in wanted}, {NUMBER.sub('#', line) for line in self.lines})
+        told = {NUMBER.sub('#', line): words for line, words in self.lines.items()}
+        for line, status in wanted.items():
+            if status:
+                self.assertTrue(told[NUMBER.sub('#', line)].startswith(f'Status {status}.'), line)
+
+    def test_its_examples(self):
+        examples = EXAMPLE.findall(section(self.text, 'EXAMPLES') + '\n')
+        self.assertEqual(len(examples), 3)
+        for script, words, shown in examples:
+            with self.subTest(words=words):
+                output, lines, _ = run(script, *words.split())
+                text = output.decode() + '\n' + lines if output else lines
+                self.assertEqual([line.strip() for line in shown.splitlines()], text.splitlines())

@@ -1,0 +1,11 @@
+use Rattle.std.proofs.Common.{◌≡◌, None}
+use Rattle.embedding_example.proofs.count.Given as goal
+
+-- the run is not over, and no device has failed
+abbrev pub invariant-loop-turn : goal.invariant-loop-turn
+invariant-loop-turn l =
+    record {
+      running : l.machine.fate ≡ None;
+      source : l.source.failures ≡ 0;
+      sink : l.sink.failures ≡ 0;
+    }

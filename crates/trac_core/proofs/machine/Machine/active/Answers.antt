@@ -1,0 +1,12 @@
+use Rattle.std.proofs.Common.{◌∙◌, sym, ap}
+use Rattle.std.specs.Prelude.{slice_range}
+use Rattle.trac_forms.specs.FlatForms.{text_of_cells}
+use Rattle.trac_core.proofs.ArgumentLemmas.{text_of_cells-seen}
+use Rattle.trac_core.proofs.Rows.{whole-range}
+use Rattle.trac_core.proofs.machine.Machine.active.Goals as goal
+
+pub returns : goal.returns
+returns c =
+    let cells = c.self.inside.work.active in
+    let whole = c.active_part.ensures ∙ ap (slice_range cells 0) c.active_len.ensures.value ∙ whole-range cells in
+    rw (← c.self.view_is) (sym (text_of_cells-seen c.active_part.result.now) ∙ ap text_of_cells whole)

@@ -1,0 +1,15 @@
+use Rattle.std.proofs.Common.{◌≡◌, ◌-◌, None}
+use Rattle.trac_trace.proofs.trace.trace.Given as goal
+
+-- the run is not over, and no device has failed
+abbrev pub invariant-loop-step : goal.invariant-loop-step
+invariant-loop-step g l =
+    record {
+      not_over : l.machine.fate ≡ None;
+      source_failures : g.I.Source.failure_count l.source ≡ g.I.Source.failure_count l.initial.source;
+      sink_failures : l.printed.failures ≡ 0;
+    }
+
+-- the steps that are left
+abbrev pub decreases-loop-step : goal.decreases-loop-step
+decreases-loop-step g l = l.machine.allowance - l.machine.steps

@@ -1,0 +1,99 @@
+-- The lines of a trace.
+use Rattle.std.specs.Prelude.{◌++◌, ◌==◌, ◌/◌, ◌%◌, ◌||◌, ℕ, List, [], ◌∷◌, codes, decimal, drop, length, min, nat_lt, get_or, if◌then◌else◌}
+use Rattle.trac_space.specs.declared.cell.Cell.{Cell}
+use Rattle.trac_space.specs.declared.cell.Cell.TheVariants.{Byte, Call, Comma, Gap, Head}
+use Rattle.trac_space.specs.declared.cell.Mode.TheVariants.{Active, Neutral}
+use Rattle.trac_core.specs.declared.machine.Fate.{Fate}
+use Rattle.trac_core.specs.declared.machine.Fate.TheVariants.{Halted, InputEnded, Workspace, Steps, InputFailed, OutputFailed}
+use Rattle.trac_core.specs.declared.machine.view.ScanningRule.{ScanningRule}
+use Rattle.trac_core.specs.declared.machine.view.ScanningRule.TheVariants as row
+
+-- a digit to the base 16
+abbrev pub digit_16 : ℕ → ℕ
+digit_16 n = get_or (codes "0123456789abcdef") n 0
+
+-- a byte that is no visible character of ASCII and no space, by its number
+abbrev pub number_16 : ℕ → List ℕ
+number_16 b = codes "\\x" ++ digit_16 (b / 16) ∷ digit_16 (b % 16) ∷ []
+
+-- a byte as a trace shows it
+abbrev pub byte_text : ℕ → List ℕ
+byte_text b =
+    if b == 9 then codes "\\t"
+    else (if b == 10 then codes "\\n"
+    else (if b == 13 then codes "\\r"
+    else (if b == 92 then codes "\\\\"
+    else (if nat_lt b 32 || nat_lt 126 b then number_16 b
+    else b ∷ []))))
+
+-- bytes, one after the other
+abbrev pub bytes_text : List ℕ → List ℕ
+bytes_text [] = []
+bytes_text (b ∷ bytes) = byte_text b ++ bytes_text bytes
+
+-- a cell of a string: a mark stands in angle brackets
+abbrev pub cell_text : Cell → List ℕ
+cell_text (Byte b) = byte_text b
+cell_text (Call Active _) = codes "<#>"
+cell_text (Call Neutral _) = codes "<##>"
+cell_text Comma = codes "<,>"
+cell_text (Gap _) = []
+cell_text (Head _) = []
+
+-- cells, one after the other
+abbrev pub cells_text : List Cell → List ℕ
+cells_text [] = []
+cells_text (cell ∷ cells) = cell_text cell ++ cells_text cells
+
+-- the name of a rule, in 13 columns
+abbrev pub name_text : ScanningRule → List ℕ
+name_text row.Idling = codes "idling       "
+name_text row.Layout = codes "layout       "
+name_text row.Protection = codes "protection   "
+name_text row.Argument = codes "argument     "
+name_text row.ActiveCall = codes "active call  "
+name_text row.NeutralCall = codes "neutral call "
+name_text row.NumberSign = codes "number sign  "
+name_text row.EndOfCall = codes "end of call  "
+name_text row.Character = codes "character    "
+
+-- a number at the right end of 6 columns, or of as many as it has digits
+abbrev pub column_text : ℕ → List ℕ
+column_text n = drop (min (length (decimal n)) 6) (codes "      ") ++ decimal n
+
+-- the line of a step
+abbrev pub step_text : ℕ → ScanningRule → ℕ → ℕ → List Cell → List Cell → List ℕ
+step_text number rule size need neutral active =
+    column_text number ++ codes "  " ++ name_text rule ++ column_text size ++ column_text need ++ codes "  "
+    ++ cells_text neutral ++ codes "|" ++ cells_text active ++ codes "\n"
+
+-- the line of what a step printed
+abbrev pub printed_text : List ℕ → List ℕ
+printed_text bytes = codes "        prints: " ++ bytes_text bytes ++ codes "\n"
+
+-- the same, and nothing where nothing was printed
+abbrev pub output_text : List ℕ → List ℕ
+output_text [] = []
+output_text (b ∷ bytes) = printed_text (b ∷ bytes)
+
+-- how a run ended
+abbrev pub fate_text : Fate → List ℕ
+fate_text Halted = codes "halted"
+fate_text InputEnded = codes "input ended"
+fate_text Workspace = codes "workspace full"
+fate_text Steps = codes "allowance used up"
+fate_text InputFailed = codes "input failed"
+fate_text OutputFailed = codes "no memory for what is printed"
+
+-- the last line
+abbrev pub end_text : Fate → ℕ → ℕ → List ℕ
+end_text fate steps peak = fate_text fate ++ codes ": " ++ decimal steps ++ codes " steps, peak " ++ decimal peak ++ codes " cells\n"
+
+-- the exit status after a run with this fate
+abbrev pub status_of : Fate → ℕ
+status_of Halted = 0
+status_of InputEnded = 0
+status_of Workspace = 1
+status_of Steps = 3
+status_of InputFailed = 4
+status_of OutputFailed = 6

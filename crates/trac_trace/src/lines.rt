@@ -1,0 +1,181 @@
+//! The lines of a trace. Their form is this processor's own choice.
+ghost use Rattle.std.specs.Prelude.{◌≡◌, ◌++◌, OnOk, decimal};
+ghost use Rattle.trac_trace.specs.Lines.{byte_text, bytes_text, cell_text, cells_text, column_text, end_text, fate_text, name_text, number_16, printed_text, step_text};
+
+use itoa::Buffer;
+use std::alloc::AllocError;
+use trac_core::{Cell, Fate, Report, ScanningRule};
+use trac_space::Mode;
+
+/// The line above those of the steps.
+pub const HEAD: &[u8; 64] = b"  step  rule           size  need  neutral string|active string\n";
+
+const DIGITS: &[u8; 16] = b"0123456789abcdef";
+
+const BLANKS: &[u8; 6] = b"      ";
+
+/// A step that was done.
+#[derive(Clone, Copy, Debug, PartialEq, Eq)]
+pub struct Step {
+    /// Its number, from 1.
+    pub number: u64,
+    /// The rule that it followed.
+    pub rule: ScanningRule,
+    /// The cells of both strings and of all forms before it.
+    pub size: u32,
+    /// The cells that it needed.
+    pub need: u32,
+}
+
+/// Adds the line of a step, with the cells of both strings after it. An error is want of memory.
+pub fn push_step(
+    line: &mut Vec<u8>,
+    step: &Step,
+    neutral: &[Cell],
+    active: &[Cell],
+) -> Result<(), AllocError>
+    ensures { OnOk result (line.new.items ≡ line.old.items ++ step_text step.now.number step.now.rule step.now.size step.now.need neutral.now active.now) }
+{
+    push_column(line, step.number)?;
+    push(line, b"  ")?;
+    push(line, name(step.rule))?;
+    push_column(line, u64::from(step.size))?;
+    push_column(line, u64::from(step.need))?;
+    push(line, b"  ")?;
+    push_cells(line, neutral)?;
+    push(line, b"|")?;
+    push_cells(line, active)?;
+    push(line, b"\n")
+}
+
+/// Adds the line of what a step printed. An error is want of memory.
+pub fn push_printed(line: &mut Vec<u8>, bytes: &[u8]) -> Result<(), AllocError>
+    ensures { OnOk result (line.new.items ≡ line.old.items ++ printed_text bytes.now) }
+{
+    push(line, b"        prints: ")?;
+    push_bytes(line, bytes)?;
+    push(line, b"\n")
+}
+
+/// Adds the last line, on how the run ended. An error is want of memory.
+pub fn push_end(line: &mut Vec<u8>, report: &Report) -> Result<(), AllocError>
+    ensures { OnOk result (line.new.items ≡ line.old.items ++ end_text report.now.fate report.now.steps report.now.peak) }
+{
+    push(line, ending(report.fate))?;
+    push(line, b": ")?;
+    push_number(line, report.steps)?;
+    push(line, b" steps, peak ")?;
+    push_number(line, u64::from(report.peak))?;
+    push(line, b" cells\n")
+}
+
+// How a run with this fate ended.
+fn ending(fate: Fate) -> &'static [u8]
+    ensures { result.now ≡ fate_text fate }
+{
+    match fate {
+        Fate::Halted => b"halted",
+        Fate::InputEnded => b"input ended",
+        Fate::Workspace => b"workspace full",
+        Fate::Steps => b"allowance used up",
+        Fate::InputFailed => b"input failed",
+        Fate::OutputFailed => b"no memory for what is printed",
+    }
+}
+
+// The name of a rule, in 13 columns.
+fn name(rule: ScanningRule) -> &'static [u8]
+    ensures { result.now ≡ name_text rule }
+{
+    match rule {
+        ScanningRule::Idling => b"idling       ",
+        ScanningRule::Layout => b"layout       ",
+        ScanningRule::Protection => b"protection   ",
+        ScanningRule::Argument => b"argument     ",
+        ScanningRule::ActiveCall => b"active call  ",
+        ScanningRule::NeutralCall => b"neutral call ",
+        ScanningRule::NumberSign => b"number sign  ",
+        ScanningRule::EndOfCall => b"end of call  ",
+        ScanningRule::Character => b"character    ",
+    }
+}
+
+// Adds a text.
+fn push(line: &mut Vec<u8>, text: &[u8]) -> Result<(), AllocError>
+    ensures { OnOk result (line.new.items ≡ line.old.items ++ text.now) }
+{
+    line.extend_from_slice(text)
+}
+
+// Adds a number.
+fn push_number(line: &mut Vec<u8>, n: u64) -> Result<(), AllocError>
+    ensures { OnOk result (line.new.items ≡ line.old.items ++ decimal n) }
+{
+    line.extend_from_slice(Buffer::new().format(n).as_bytes())
+}
+
+// Adds a number at the right end of 6 columns, or of as many as it has digits.
+fn push_column(line: &mut Vec<u8>, n: u64) -> Result<(), AllocError>
+    ensures { OnOk result (line.new.items ≡ line.old.items ++ column_text n) }
+{
+    let mut buffer = Buffer::new();
+    let digits = buffer.format(n).as_bytes();
+    line.extend_from_slice(&BLANKS[digits.len().min(6)..])?;
+    line.extend_from_slice(digits)
+}
+
+// Adds the cells of a string.
+fn push_cells(line: &mut Vec<u8>, cells: &[Cell]) -> Result<(), AllocError>
+    ensures { OnOk result (line.new.items ≡ line.old.items ++ cells_text cells.now) }
+{
+    for cell in cells {
+        push_cell(line, cell)?;
+    }
+    Ok(())
+}
+
+// Adds a cell of a string. A mark stands in angle brackets; a gap and a head never stand in a string.
+fn push_cell(line: &mut Vec<u8>, cell: &Cell) -> Result<(), AllocError>
+    ensures { OnOk result (line.new.items ≡ line.old.items ++ cell_text cell.now) }
+{
+    match cell {
+        Cell::Byte(byte) => push_byte(line, *byte),
+        Cell::Call(Mode::Active, _) => line.extend_from_slice(b"<#>"),
+        Cell::Call(Mode::Neutral, _) => line.extend_from_slice(b"<##>"),
+        Cell::Comma => line.extend_from_slice(b"<,>"),
+        Cell::Gap(_) | Cell::Head(_) => Ok(()),
+    }
+}
+
+// Adds bytes.
+fn push_bytes(line: &mut Vec<u8>, bytes: &[u8]) -> Result<(), AllocError>
+    ensures { OnOk result (line.new.items ≡ line.old.items ++ bytes_text bytes.now) }
+{
+    for byte in bytes {
+        push_byte(line, *byte)?;
+    }
+    Ok(())
+}
+
+// Adds a byte: layout and the reverse solidus behind a reverse solidus, and what is no visible character by its number.
+fn push_byte(line: &mut Vec<u8>, byte: u8) -> Result<(), AllocError>
+    ensures { OnOk result (line.new.items ≡ line.old.items ++ byte_text byte) }
+{
+    match byte {
+        b'\t' => line.extend_from_slice(b"\\t"),
+        b'\n' => line.extend_from_slice(b"\\n"),
+        b'\r' => line.extend_from_slice(b"\\r"),
+        b'\\' => line.extend_from_slice(b"\\\\"),
+        _ if byte < 32 || byte > 126 => push_number_16(line, byte),
+        _ => line.extend_from_slice(&[byte]),
+    }
+}
+
+// Adds a byte by its number to the base 16.
+fn push_number_16(line: &mut Vec<u8>, byte: u8) -> Result<(), AllocError>
+    ensures { OnOk result (line.new.items ≡ line.old.items ++ number_16 byte) }
+{
+    let high = DIGITS[usize::from(byte / 16)];
+    let low = DIGITS[usize::from(byte % 16)];
+    line.extend_from_slice(&[b'\\', b'x', high, low])
+}
