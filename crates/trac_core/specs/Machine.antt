@@ -129,9 +129,10 @@ pub record Takes (m : MachineState) (old new : Stream) (taken : Text) : Type 0 w
   pub consumed : old.bytes ≡ taken ++ new.bytes
   pub few : length taken + size m.memory ≤ m.room + 2
 
--- a machine whose run is over gives the same answer again and counts nothing
+-- a machine whose run is over gives the same answer again, and stays as it is
 pub record StaysOver (old : MachineState) (answer : Option Fate) (new : MachineState) : Type 0 where
   pub again : answer ≡ old.fate
+  pub same : new ≡ old
   pub steps : new.steps ≡ old.steps
   pub peak : new.peak ≡ old.peak
 
