@@ -68,6 +68,7 @@ pub record Counts (old new : MachineState) (more needed : ℕ) : Type 0 where
 -- the allowance is used up: nothing happens
 pub record StopsAtAllowance (old new : Moment) : Type 0 where
   pub used_up : old.machine.steps ≡ old.machine.allowance
+  pub memory : new.machine.memory ≡ old.machine.memory
   pub counts : Counts old.machine new.machine 0 0
   pub source : new.source ≡ old.source
   pub written : new.written ≡ old.written
