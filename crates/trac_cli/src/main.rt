@@ -9,20 +9,22 @@ ghost use Rattle.trac_cli.specs.Lines.{refusal_status, status_of};
 mod buffered;
 mod devices;
 mod lines;
+mod output;
 mod serve;
 mod settings;
 mod words;
 
-use buffered::{BufferedReader, BufferedWriter};
+use buffered::BufferedReader;
 use clap::error::ErrorKind;
 use lines::{Line, fault_line, memory_line, report_line, status};
+use output::Output;
 use serve::{NoMemory, serve};
 use settings::Settings;
 use std::io::Write;
 use std::process::ExitCode;
 use std::rt::Env;
 use std::{env, io};
-use trac_core::{ReadSource, Report, WriteSink};
+use trac_core::{ReadSource, Report};
 use words::settings_from;
 
 // The status where the words can't be used.
@@ -81,7 +83,7 @@ fn error_status(kind: ErrorKind) -> u8
 // Runs the script, and gives the status.
 fn run(rt: &HostRuntime, settings: &Settings) -> u8 {
     let mut source = ReadSource::new(BufferedReader::new(rt.stdin()));
-    let mut sink = WriteSink::new(BufferedWriter::new(rt.stdout()));
+    let mut sink = Output::new(rt.stdout());
     match serve(rt.alloc(), settings, &mut source, &mut sink) {
         Ok(report) => ended(rt, settings, &report),
         Err(NoMemory) => {

@@ -68,6 +68,7 @@ pub record Counts (old new : MachineState) (more needed : ℕ) : Type 0 where
 -- the allowance is used up: nothing happens
 pub record StopsAtAllowance (old new : Moment) : Type 0 where
   pub used_up : old.machine.steps ≡ old.machine.allowance
+  pub memory : new.machine.memory ≡ old.machine.memory
   pub counts : Counts old.machine new.machine 0 0
   pub source : new.source ≡ old.source
   pub written : new.written ≡ old.written
@@ -129,9 +130,10 @@ pub record Takes (m : MachineState) (old new : Stream) (taken : Text) : Type 0 w
   pub consumed : old.bytes ≡ taken ++ new.bytes
   pub few : length taken + size m.memory ≤ m.room + 2
 
--- a machine whose run is over gives the same answer again and counts nothing
+-- a machine whose run is over gives the same answer again, and stays as it is
 pub record StaysOver (old : MachineState) (answer : Option Fate) (new : MachineState) : Type 0 where
   pub again : answer ≡ old.fate
+  pub same : new ≡ old
   pub steps : new.steps ≡ old.steps
   pub peak : new.peak ≡ old.peak
 

@@ -165,6 +165,27 @@ impl Write for FakeWriter<'_> {
     }
 }
 
+/// A writer that counts its flushes, of which the one of this number, counted from 1, fails.
+#[derive(Drop)]
+struct FlushedWriter<'a> {
+    flushes: &'a mut u32,
+    bad_flush: u32,
+}
+
+impl Write for FlushedWriter<'_> {
+    fn write(&mut self, buf: &[u8]) -> io::Result<usize> {
+        Ok(buf.len())
+    }
+
+    fn flush(&mut self) -> io::Result<()> {
+        *self.flushes = self.flushes.saturating_add(1);
+        if *self.flushes == self.bad_flush {
+            return Err(io::Error::from(io::ErrorKind::Other));
+        }
+        Ok(())
+    }
+}
+
 #[test]
 fn sources_that_fail(rt: HostRuntime) {
     for place in 0..12u32 {
@@ -411,6 +432,23 @@ fn readers_and_writers_that_fail(rt: HostRuntime) -> Result<(), Fail> {
         assert!(rt; taken.as_slice() == &b"hello"[..(k as usize - 1).min(5)]);
     }
     Ok(())
+}
+
+#[test]
+fn flushes_of_a_writer(rt: HostRuntime) {
+    let mut flushes = 0;
+    let mut sink = WriteSink::new(FlushedWriter {
+        flushes: &mut flushes,
+        bad_flush: 2,
+    });
+    assert_eq!(rt; sink.put(b'a'), Ok(()));
+    assert_eq!(rt; sink.flush(), Ok(()));
+    assert_eq!(rt; sink.put(b'b'), Ok(()));
+    assert_eq!(rt; sink.flush(), Err(SinkFailed));
+    assert_eq!(rt; sink.failures(), 1);
+    assert_eq!(rt; sink.flush(), Ok(()));
+    drop(sink);
+    assert_eq!(rt; flushes, 3);
 }
 
 #[test]

@@ -1,0 +1,65 @@
+//! The program's sink: a writer behind its buffer.
+ghost use Rattle.std.specs.Prelude.{◌≡◌, ℕ, ◌+◌, ◌-◌, ◌^◌, ◌<◌, [], true, IsSome, unwrap_or, OnOk};
+ghost use Rattle.trac_core.specs.Devices.{failures_of, after_put};
+ghost use Rattle.trac_cli.specs.Buffered.{behind};
+
+use crate::buffered::BufferedWriter;
+use std::io::Write;
+use trac_core::{Sink, SinkFailed};
+
+/// A sink over a writer behind a buffer, by writes of one byte. It is flushed where nothing waits in the buffer and the
+/// writer was flushed after its last write. An error, or a write of no byte, is a failure. This processor's own choice.
+#[derive(Drop)]
+pub struct Output<W> {
+    writer: BufferedWriter<W>,
+    failures: u64,
+}
+
+impl<W: Write> Output<W> {
+    /// A sink that writes to the writer.
+    pub fn new(writer: W) -> Output<W>
+        ensures tells { IsSome (W.contents writer) → ⟦<Output<W> as Sink>⟧.tells result }
+        ensures written { ⟦<Output<W> as Sink>⟧.written result ≡ unwrap_or (W.contents writer) [] }
+        ensures none { ⟦<Output<W> as Sink>⟧.failure_count result ≡ 0 }
+    {
+        Output {
+            writer: BufferedWriter::new(writer),
+            failures: 0,
+        }
+    }
+}
+
+impl<W: Write> Sink for Output<W> {
+    ghost tells = { λ s. IsSome (behind s.writer.bytes s.writer.start s.writer.end (W.contents s.writer.device.writer)) };
+
+    ghost written = { λ s. unwrap_or (behind s.writer.bytes s.writer.start s.writer.end (W.contents s.writer.device.writer)) [] };
+
+    ghost flushed = { λ s. (s.writer.start ≡ s.writer.end) × (s.writer.device.is_flushed ≡ true) };
+
+    ghost failure_count = { λ s. s.failures };
+
+    #[inline]
+    fn put(&mut self, byte: u8) -> Result<(), SinkFailed> {
+        match self.writer.write(&[byte]) {
+            Ok(1) => Ok(()),
+            _ => {
+                self.failures += 1;
+                Err(SinkFailed)
+            }
+        }
+    }
+
+    fn flush(&mut self) -> Result<(), SinkFailed> {
+        match self.writer.flush() {
+            Ok(()) => Ok(()),
+            Err(_) => {
+                self.failures += 1;
+                Err(SinkFailed)
+            }
+        }
+    }
+
+    fn failures(&self) -> u64 {
+        self.failures
+    }
+}
