@@ -1,3 +1,5 @@
 pub mod Texts
 pub mod Failures
-pub mod FreeWords
+pub mod OptionReads
+pub mod TraceReads
+pub mod DefaultRows

@@ -1,6 +1,5 @@
 //! The settings of a trace.
-ghost use Rattle.std.specs.Prelude.{◌≡◌, ◌≤◌};
-ghost use Rattle.trac_trace.specs.Ranges.{within};
+ghost use Rattle.trac_trace.specs.Ranges.{AreInRange};
 
 /// The most cells of a workspace, this processor's own choice.
 pub const MOST_CELLS: u32 = 16_777_216;
@@ -13,19 +12,5 @@ pub const MOST_STEPS: u64 = 1_000_000_000_000;
 pub struct Settings {
     pub cells: u32,
     pub steps: u64,
-    ghost cells_range: { (1 ≤ cells) × (cells ≤ 16777216) },
-    ghost steps_range: { (1 ≤ steps) × (steps ≤ 1000000000000) },
-}
-
-impl Settings {
-    /// Settings of so many cells and steps, where each that is out of its range is the nearest in it.
-    pub fn new(cells: u32, steps: u64) -> Settings
-        ensures cells { result.cells ≡ within 1 16777216 cells }
-        ensures steps { result.steps ≡ within 1 1000000000000 steps }
-    {
-        Settings {
-            cells: cells.clamp(1, MOST_CELLS),
-            steps: steps.clamp(1, MOST_STEPS),
-        }
-    }
+    ghost ranges: { AreInRange cells steps },
 }

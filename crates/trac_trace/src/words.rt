@@ -1,7 +1,7 @@
 //! The program's words, read by clap.
 ghost use Rattle.std.specs.Prelude.{◌≡◌, IfOk, IfErr, map, string_bytes, true, false};
-ghost use Rattle.clap.specs.Words.{FailsBy, app_of, fault_of, kind_of, rule_of, takes};
-ghost use Rattle.trac_trace.specs.CommandLine.{number_option, trace_command};
+ghost use Rattle.clap.specs.Words.{FailsBy, app_of, fault_of, kind_of, matches_of, rule_of, takes};
+ghost use Rattle.trac_trace.specs.CommandLine.{AreValuesOf, HasDefaults, number_option, trace_command};
 
 use crate::settings::{MOST_CELLS, MOST_STEPS, Settings};
 use clap::builder::ValueParser;
@@ -9,22 +9,19 @@ use clap::error::ErrorKind;
 use clap::{Arg, ArgAction, Command, Error, value_parser};
 use std::alloc::{AllocError, Global};
 
-const DEFAULT_CELLS: u32 = 65_536;
-
-const DEFAULT_STEPS: u64 = 1000;
-
 /// Reads the settings from the program's words, its name first: `trac_trace [--cells N] [--steps N]`, with 65536 cells and
 /// 1000 steps where the words don't say. The error is clap's, for words that it refuses, numbers out of range among them, for
 /// help, or for want of memory. The command is this processor's own choice.
 pub fn settings_from(alloc: Global, words: Vec<String>) -> Result<Settings, Error>
+    ensures taken { IfOk result (AreValuesOf (matches_of trace_command (map string_bytes words.items))) }
+    ensures defaults { IfOk result (HasDefaults (map string_bytes words.items)) }
     ensures passes { IfErr result (λ e. takes trace_command (map string_bytes words.items) ≡ true → kind_of e ≡ ErrorKind.OutOfMemory) }
     ensures kinds { FailsBy (fault_of trace_command (map string_bytes words.items)) result }
 {
     let matches = command(alloc)?.try_get_matches_from(words.as_slice())?;
-    Ok(Settings::new(
-        matches.get_one::<u32>("cells").unwrap_or(DEFAULT_CELLS),
-        matches.get_one::<u64>("steps").unwrap_or(DEFAULT_STEPS),
-    ))
+    let cells = matches.get_one::<u32>("cells").unwrap();
+    let steps = matches.get_one::<u64>("steps").unwrap();
+    Ok(Settings { cells, steps })
 }
 
 // The command `trac_trace [--cells N] [--steps N]`.

@@ -1,6 +1,5 @@
 //! What a caller who drives a machine step by step may look at.
-ghost use Rattle.std.specs.Prelude.{◌≡◌, ◌≢◌, All, slice_get, Some};
-ghost use Rattle.trac_forms.specs.Contents.{IsByte};
+ghost use Rattle.std.specs.Prelude.{◌≡◌, slice_get, Some};
 ghost use Rattle.trac_forms.specs.FlatForms.{text_of_cells};
 ghost use Rattle.trac_core.specs.State.{size};
 ghost use Rattle.trac_core.specs.Flat.{neutral_of};
