@@ -175,6 +175,9 @@ fn numbered(work: &Work, mut arguments: Arguments, number: u32) -> (u32, u32)
 {
     let mut part = (arguments.end, arguments.end);
     for _taken in 0..number {
+        if arguments.is_empty() {
+            return (arguments.end, arguments.end);
+        }
         part = arguments.next(work);
     }
     part

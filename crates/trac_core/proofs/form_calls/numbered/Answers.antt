@@ -1,8 +1,8 @@
-use Rattle.std.proofs.Common.{◌≡◌, ◌+◌, ◌∷◌, [], drop, refl, sym, ap, ◌∙◌, arith, add-one}
-use Rattle.std.proofs.lemmas.List.{get_or-drop, drop-drop}
+use Rattle.std.proofs.Common.{◌≡◌, ◌+◌, ◌-◌, ◌<◌, ◌∷◌, [], length, drop, refl, sym, ap, ◌∙◌, arith, add-one}
+use Rattle.std.proofs.lemmas.List.{get_or-drop, get_or_past, drop-drop, length-drop}
 use Rattle.trac_core.specs.State.{argument}
 use Rattle.trac_core.specs.Calls.{texts}
-use Rattle.trac_core.proofs.ArgumentLemmas.{null-part, null-text}
+use Rattle.trac_core.proofs.ArgumentLemmas.{null-part, null-text, none-left}
 use Rattle.trac_core.proofs.form_calls.numbered.Goals as goal
 
 pub loop-taken-init : goal.loop-taken-init
@@ -33,3 +33,14 @@ pub returns-clause-text : goal.returns-clause-text
 returns-clause-text c =
     let all : c.loop-taken._taken ≡ c.args.number = omega arith in
     c.loop-taken.invariant.text ∙ ap (argument ([] ∷ texts c.args.work.now c.args.arguments)) all
+
+-- no argument is left, so that of the number is missing
+pub returns-then-is_empty-clause-text : goal.returns-then-is_empty-clause-text
+returns-then-is_empty-clause-text c =
+    let given = texts c.args.work.now c.args.arguments in
+    let left = c.loop-taken.arguments in
+    let taken = c.loop-taken._taken in
+    let past : left.end < left.from = grind (arith, c.is_empty.ensures) in
+    let none : drop taken given ≡ [] = sym c.loop-taken.invariant.rest ∙ none-left c.args.work.now left past in
+    let few : length given - taken ≡ 0 = sym (length-drop taken given) ∙ ap length none in
+    null-text c.args.work.now.neutral left.end ∙ sym (get_or_past ([] ∷ given) c.args.number [] (omega (arith, c.loop-taken-test.true)))
