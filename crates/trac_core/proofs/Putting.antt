@@ -34,7 +34,7 @@ put-more old now new whole text left rest put split more sound =
       whole_is = append_assoc put.done text rest ∙ ap (λ t. put.done ++ t) (sym split) ∙ put.whole_is;
     }
 
-used-put : (old now : Contents) (whole left : Text) (put : HasPut old now whole left) → used now + length left ≡ used old + length whole
+pub used-put : (old now : Contents) (whole left : Text) (put : HasPut old now whole left) → used now + length left ≡ used old + length whole
 used-put old now whole left put =
     let e = ap used put.stands in
     omega (arith, e, ap length put.whole_is, length-append put.done left, length-append old.neutral (flat_text put.done), length-map put.done Byte)
@@ -44,6 +44,12 @@ pub put-full : (old now : Contents) (whole text left rest : Text) → HasPut old
 put-full old now whole text left rest put split full =
     let room : now.room ≡ old.room = ap (λ (w : Contents). w.room) put.stands in
     omega (arith, used-put old now whole left put, ap length split, length-append text rest)
+
+-- where none is left the whole stands
+pub put-whole : (old now : Contents) (whole : Text) → HasPut old now whole [] → now ≡ record old { neutral = old.neutral ++ flat_text whole }
+put-whole old now whole put =
+    let all : put.done ≡ whole = sym (append-nil put.done) ∙ put.whole_is in
+    put.stands ∙ ap (λ text. record old { neutral = old.neutral ++ flat_text text }) all
 
 -- where none is left the value stands
 pub put-all : (f : Function) (args : List Text) (old now : Contents) (whole : Text) → HasPut old now whole [] → Valued f args old.forms whole false old.forms → IsValue f args old now false whole

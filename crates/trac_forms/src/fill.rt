@@ -1,0 +1,110 @@
+//! Whole forms, their gaps filled, put at the end of neutral (Mooers 1966).
+ghost use Rattle.std.specs.Prelude.{◌≡◌, ◌+◌, ◌≤◌, ◌<◌, ◌↔◌, ◌++◌, ◌∷◌, ℕ, true, false, length, take, drop, map, get_or, slice_range, IsTrue, All};
+ghost use Rattle.std.specs.Bool.{OnTrue, OnFalse};
+ghost use Rattle.trac_space.specs.Lists.{used as cells_used};
+ghost use Rattle.trac_forms.specs.Text.{Text};
+ghost use Rattle.trac_forms.specs.Form.{fill};
+ghost use Rattle.trac_forms.specs.FlatForms.{flat_text};
+ghost use Rattle.trac_forms.specs.Contents.{used, body_at, AreTextParts, part_texts, IsSound};
+ghost use Rattle.trac_forms.specs.Gaps.{is_byte_cell, byte_cell_at, gap_ordinal};
+ghost use Rattle.trac_forms.specs.Stored.{item_of};
+
+use crate::item::FormId;
+use crate::search::is_character;
+use crate::store::{head, place_of};
+use crate::work::Work;
+use trac_space::{Cell, Space};
+
+impl<'a> Work<'a> {
+    /// Puts the items of the form's body from place `from` on at the end of neutral, each gap of
+    /// ordinal k replaced by the k-th of the parts of neutral, from 1, and by nothing where there is
+    /// none. False where they don't fit.
+    pub fn fill_body(&mut self, form: FormId, from: u32, parts: &[(u32, u32)]) -> bool
+        requires known { form.0 < length self.old.forms }
+        requires within { from ≤ length (body_at self.old.forms form.0) }
+        requires parts { AreTextParts self.old.neutral parts.now }
+        ensures put { let text = fill (part_texts self.old.neutral parts.now) (drop from (body_at self.old.forms form.0)) in
+            IsTrue result ↔ (used self.old + length text ≤ self.old.room) }
+        ensures last { let text = fill (part_texts self.old.neutral parts.now) (drop from (body_at self.old.forms form.0)) in
+            OnTrue result (self.new ≡ record self.old { neutral = self.old.neutral ++ flat_text text }) }
+        ensures full { OnFalse result (self.new ≡ self.old) }
+        ensures sound { IsSound self.new }
+    {
+        let before = self.space.neutral_len();
+        let start = place_of(&self.space, self.last, self.start, form.0);
+        let body = start + 3 + head(&self.space, start);
+        let end = body + head(&self.space, start + 1);
+        let filled = fill_cells(&mut self.space, body + from, end, parts);
+        if !filled {
+            self.space.cut_neutral(before);
+        }
+        filled
+    }
+}
+
+// Puts the items in the store from place `from` up to `end` at the end of neutral, each gap replaced
+// by the part of its number. False where they don't fit; then some of them may stand there.
+fn fill_cells(space: &mut Space, from: u32, end: u32, parts: &[(u32, u32)]) -> bool
+    requires order { from ≤ end }
+    requires within { end ≤ length space.old.store }
+    requires bounded { length space.old.store ≤ 16777216 }
+    requires parts { AreTextParts space.old.neutral parts.now }
+    ensures put { let text = fill (part_texts space.old.neutral parts.now) (map item_of (slice_range space.old.store from end)) in
+        IsTrue result ↔ (cells_used space.old + length text ≤ space.old.room) }
+    ensures last { let text = fill (part_texts space.old.neutral parts.now) (map item_of (slice_range space.old.store from end)) in
+        OnTrue result (space.new ≡ record space.old { neutral = space.old.neutral ++ flat_text text }) }
+    ensures some { OnFalse result ((done : Text) × (space.new ≡ record space.old { neutral = space.old.neutral ++ flat_text done })) }
+{
+    let mut at = from;
+    loop {
+        let gap = at + characters(space.store_part(at, end));
+        if !space.copy_store(at, gap) {
+            return false;
+        }
+        if gap == end {
+            return true;
+        }
+        let part = numbered(parts, ordinal(space, gap));
+        if !space.copy_neutral(part.0, part.1) {
+            return false;
+        }
+        at = gap + 1;
+    }
+}
+
+// How many characters begin the cells.
+fn characters(cells: &[Cell]) -> u32
+    requires { length cells.now ≤ 16777216 }
+    ensures within { result ≤ length cells.now }
+    ensures bytes { All (λ cell. is_byte_cell cell ≡ true) (take result cells.now) }
+    ensures stop { result < length cells.now → byte_cell_at cells.now result ≡ false }
+{
+    for (i, cell) in cells.iter().enumerate() {
+        if !is_character(cell) {
+            return i as u32;
+        }
+    }
+    cells.len() as u32
+}
+
+// The ordinal of the gap at place `i` of the store, 0 of any other cell.
+#[inline]
+fn ordinal(space: &Space, i: u32) -> u32
+    ensures { result ≡ gap_ordinal space.now.store i }
+{
+    match space.store_at(i) {
+        Some(Cell::Gap(ordinal)) => ordinal,
+        _ => 0,
+    }
+}
+
+// The part of this number, from 1; a null one where there is none.
+#[inline]
+fn numbered(parts: &[(u32, u32)], number: u32) -> (u32, u32)
+    ensures { result ≡ get_or ((0, 0) ∷ parts.now) number (0, 0) }
+{
+    match number.checked_sub(1) {
+        Some(i) => parts.get(i as usize).copied().unwrap_or((0, 0)),
+        None => (0, 0),
+    }
+}
