@@ -73,7 +73,7 @@ goes_on-passes m middle source written allowed fits pass =
       read_all = λ reads. absurd (let none = pass.reads (ending source.bytes) written in cc);
     }
 
-peak_after-same : (n cells same peak : ℕ) → same ≡ cells → peak_after n same (max peak cells) ≡ peak_after (suc n) cells peak
+peak_after-same : (n cells same peak : ℕ) → same ≤ cells → peak_after n same (max peak cells) ≡ peak_after (suc n) cells peak
 peak_after-same zero cells same peak e = refl
 peak_after-same (suc n) cells same peak e = omega arith
 
@@ -86,10 +86,10 @@ along-passes (suc n) room bytes before m target source written room_is fits allo
     let middle = passes.0 in
     let pass = passes.1.0 in
     let next = one_passed middle m in
-    let size_is = pass.keeps_size in
+    let smaller = pass.no_larger in
     let here = along-more room bytes before [] (moment m source written) (moment next source written) room_is refl along (goes_on-passes m middle source written (omega arith) fits pass) in
     let later = along-passes n room bytes before next target source written room_is (omega arith) (omega arith) passes.1.1 here in
     let steps : m.steps + 1 + n ≡ m.steps + suc n = omega arith in
-    let peak = peak_after-same n (size m.memory) (size middle) m.peak size_is in
+    let peak = peak_after-same n (size m.memory) (size middle) m.peak smaller in
     subst (λ p. SomeAlong room bytes before (moment (record m { memory = target; steps = m.steps + suc n; peak = p }) source written)) peak
     (subst (λ k. SomeAlong room bytes before (moment (record m { memory = target; steps = k; peak = peak_after n (size middle) (max m.peak (size m.memory)) }) source written)) steps later)

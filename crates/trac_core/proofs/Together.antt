@@ -1,5 +1,5 @@
--- Steps of one rule in a row: ordinary characters are added one by one.
-use Rattle.std.proofs.Common.{◌≡◌, ◌≢◌, ℕ, zero, suc, ◌≤◌, Bool, true, false, ◌||◌, max, List, [], ◌∷◌, ◌++◌, length, take, drop, All, Some, slice_get, refl, sym, ap, ◌∙◌, subst, arith, append_assoc, append-nil, length-append}
+-- Steps in a row: ordinary characters are added one by one, and so are the steps of any rule that performs no call.
+use Rattle.std.proofs.Common.{◌≡◌, ◌≢◌, ℕ, zero, suc, ◌≤◌, ◌+◌, Bool, true, false, ◌||◌, max, List, [], ◌∷◌, ◌++◌, length, take, drop, All, Some, slice_get, refl, sym, ap, ◌∙◌, subst, arith, append_assoc, append-nil, length-append}
 use Rattle.std.specs.Prelude.{◌==◌}
 use Rattle.std.proofs.lemmas.List.{length-drop}
 use Rattle.std.proofs.lemmas.List.Elements.{All-head, All-tail}
@@ -7,6 +7,7 @@ use Rattle.trac_space.specs.declared.cell.Cell.{Cell}
 use Rattle.trac_space.specs.declared.cell.Cell.TheVariants.{Byte, Call, Comma, Gap, Head}
 use Rattle.trac_forms.specs.FlatForms.{text_of_cells}
 use Rattle.trac_forms.specs.Contents.{Contents, used, IsByte}
+use Rattle.trac_core.specs.State.{Memory}
 use Rattle.trac_core.specs.Rule.{is_layout}
 use Rattle.trac_core.specs.Flat.{memory_of}
 use Rattle.trac_core.specs.Attempts.{Scans}
@@ -26,13 +27,13 @@ ordinary-not : (c b : ℕ) → IsOrdinary c → is_special b ≡ true → c ≢ 
 ordinary-not c b h special e = let f : is_special b ≡ false = subst IsOrdinary e h in cc
 
 -- a step over the contents of a workspace, as one over the memory that they stand for
-pub passes-scans : (meta : ℕ) (old new : Contents) → Scans old new (used old) → used new ≡ used old → Passes (memory_of meta old) (memory_of meta new)
+pub passes-scans : (meta : ℕ) (old new : Contents) → Scans old new (used old) → used new ≤ used old → Passes (memory_of meta old) (memory_of meta new)
 passes-scans meta old new scans same =
     record {
       goes = scans.goes meta;
       needs = λ input output. scans.needs meta input output ∙ sym (size-used meta old);
       reads = scans.reads meta;
-      keeps_size = size-used meta new ∙ same ∙ sym (size-used meta old);
+      no_larger = omega (arith, same, size-used meta new, size-used meta old);
     }
 
 -- the contents with the first n cells of active at the end of neutral
@@ -53,7 +54,7 @@ characters-pass meta (suc n) w bytes within ordinary = go w.active refl (charact
         let long : length w.active ≡ suc (length rest) = ap length is in
         let more = length-drop 1 w.active in
         let pushed = length-append w.neutral (Byte c ∷ []) in
-        let same : used next ≡ used w = omega arith in
+        let same : used next ≤ used w = omega arith in
         let after : drop 1 w.active ≡ rest = ap (drop 1) is in
         let others : PassesTimes n (memory_of meta next) (memory_of meta (moved n next)) =
         later next (subst (All IsByte) (sym after) (All-tail IsByte (Byte c) rest bytes)) (omega arith)
@@ -67,6 +68,18 @@ characters-pass meta (suc n) w bytes within ordinary = go w.active refl (charact
     go (Comma ∷ rest) is later bytes within ordinary = absurd (All-head IsByte Comma rest bytes)
     go (Gap k ∷ rest) is later bytes within ordinary = absurd (All-head IsByte (Gap k) rest bytes)
     go (Head k ∷ rest) is later bytes within ordinary = absurd (All-head IsByte (Head k) rest bytes)
+
+-- one step, and some and then others
+pub passes-once : (old new : Memory) → Passes old new → PassesTimes 1 old new
+passes-once old new pass = (new, (pass, refl))
+
+pub passes-then : (n k : ℕ) (old middle new : Memory) → PassesTimes n old middle → PassesTimes k middle new → PassesTimes (n + k) old new
+passes-then zero k old middle new first second =
+    let none : 0 + k ≡ k = omega arith in
+    subst (λ i. PassesTimes i old new) (sym none) (subst (λ m. PassesTimes k m new) (sym first) second)
+passes-then (suc n) k old middle new first second =
+    let more : suc n + k ≡ suc (n + k) = omega arith in
+    subst (λ i. PassesTimes i old new) (sym more) (first.0, (first.1.0, passes-then n k first.0 middle new first.1.1 second))
 
 pub peak_after-some : (n needed peak : ℕ) → n ≢ 0 → max peak needed ≡ peak_after n needed peak
 peak_after-some zero needed peak some = absurd (some refl)

@@ -1,5 +1,5 @@
--- Steps of one rule in a row, which are done at once.
-use Rattle.std.specs.Prelude.{◌≡◌, ℕ, zero, suc, max, Bool, false, ◌||◌, ◌==◌, ◌+◌}
+-- Steps that perform no call in a row, which are done at once.
+use Rattle.std.specs.Prelude.{◌≡◌, ℕ, zero, suc, max, Bool, false, ◌||◌, ◌==◌, ◌+◌, ◌≤◌}
 use Rattle.trac_forms.specs.Text.{Text}
 use Rattle.trac_core.specs.State.{Input, Memory, size}
 use Rattle.trac_core.specs.Rule.{is_layout}
@@ -13,19 +13,19 @@ is_special c = is_layout c || (c == 35) || (c == 40) || (c == 41) || (c == 44)
 abbrev pub IsOrdinary : ℕ → Type 0
 IsOrdinary c = is_special c ≡ false
 
--- a step that reads and prints nothing leads from one memory to another of the same size, and needs that many cells
+-- a step that reads and prints nothing leads from one memory to another that isn't larger, and needs the cells of the first
 pub record Passes (old new : Memory) : Type 0 where
   pub goes : (input : Input) (output : Text) → step (state_with old input output) ≡ Next (state_with new input output)
   pub needs : (input : Input) (output : Text) → need (state_with old input output) ≡ size old
   pub reads : (input : Input) (output : Text) → reads_to_end (state_with old input output) ≡ false
-  pub keeps_size : size new ≡ size old
+  pub no_larger : size new ≤ size old
 
 -- so many of them, one after the other
 abbrev pub PassesTimes : ℕ → Memory → Memory → Type 0
 PassesTimes zero old new = old ≡ new
 PassesTimes (suc n) old new = (middle : Memory) × (Passes old middle × PassesTimes n middle new)
 
--- the peak after so many steps that need this many cells each
+-- the peak after so many steps, of which the first needs this many cells and none needs more
 abbrev pub peak_after : ℕ → ℕ → ℕ → ℕ
 peak_after zero needed peak = peak
 peak_after (suc n) needed peak = max peak needed

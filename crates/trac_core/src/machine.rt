@@ -9,8 +9,7 @@ ghost use Rattle.trac_core.specs.Together.{PassesTimes, passed, peak_after};
 
 use crate::call::advance;
 use crate::device::{Sink, Source};
-use crate::scan;
-use crate::scan::Attempt;
+use crate::scan::{Attempt, scan_on};
 use std::marker::Model;
 use trac_forms::{Cell, Work};
 
@@ -150,19 +149,18 @@ impl<'a> Machine<'a> {
         self.count(attempt)
     }
 
-    /// Makes the steps by which the ordinary characters at the front of the active string are added, all at once, as far as
-    /// the allowance goes.
-    fn add_characters(&mut self)
+    /// Makes steps that perform no call, as far as the allowance goes.
+    fn scan_on(&mut self)
         ensures passes { (n : ℕ) × ((memory : Memory) × PassesTimes n self.old.memory memory × (self.new ≡ passed n memory self.old)) }
         ensures limits { KeepsLimits self.new }
     {
         let need = self.work.used();
         let left = self.allowance - self.steps;
-        let count = scan::add_characters(&mut self.work, left);
+        let count = scan_on(&mut self.work, left);
         if count == 0 {
             return;
         }
-        self.steps += u64::from(count);
+        self.steps += count;
         self.peak = peak_after(count, need, self.peak);
     }
 
@@ -206,7 +204,7 @@ impl<'a> Machine<'a> {
         ensures peak { result.peak ≤ self.entry.room }
     {
         loop {
-            self.add_characters();
+            self.scan_on();
             if let Some(fate) = self.step(source, sink) {
                 return Report {
                     fate,
@@ -218,8 +216,8 @@ impl<'a> Machine<'a> {
     }
 }
 
-/// The peak after so many steps that need this many cells each.
-fn peak_after(count: u32, need: u32, peak: u32) -> u32
+/// The peak after so many steps, of which the first needs this many cells and none needs more.
+fn peak_after(count: u64, need: u32, peak: u32) -> u32
     ensures { result ≡ peak_after count need peak }
 {
     if count == 0 { peak } else { peak.max(need) }

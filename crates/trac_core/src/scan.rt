@@ -68,9 +68,72 @@ pub(crate) fn scan(work: &mut Work) -> Attempt
     Attempt { fate: None, need }
 }
 
+/// Steps that perform no call, one after the other, at most so many. Gives how many they were. It stops where a right
+/// parenthesis closes a call, and where the active string is empty; it may stop before.
+pub(crate) fn scan_on(work: &mut Work, most: u64) -> u64
+    requires sound { IsSound work.old }
+    ensures passes { (meta : ℕ) → PassesTimes result (memory_of meta work.old) (memory_of meta work.new) }
+    ensures few { result ≤ most }
+    ensures room { work.new.room ≡ work.old.room }
+    ensures sound { IsSound work.new }
+{
+    let mut count = 0;
+    for _run in 0..work.active_len() {
+        let more = pass(work, most - count);
+        if more == 0 {
+            return count;
+        }
+        count += more;
+    }
+    count
+}
+
+/// The steps of the rule that fits the beginning of the active string, at most so many: all of a run of ordinary characters at
+/// once, and one of another rule. Gives how many they were, none where that rule performs a call.
+#[inline]
+fn pass(work: &mut Work, most: u64) -> u64
+    requires sound { IsSound work.old }
+    ensures passes { (meta : ℕ) → PassesTimes result (memory_of meta work.old) (memory_of meta work.new) }
+    ensures few { result ≤ most }
+    ensures room { work.new.room ≡ work.old.room }
+    ensures sound { IsSound work.new }
+{
+    if most == 0 {
+        return 0;
+    }
+    match character(work, 0) {
+        None => return 0,
+        Some(b'\t' | b'\n' | b'\r') => delete_layout(work),
+        Some(b'(') => protect(work),
+        Some(b')') => return close_none(work),
+        Some(b',') => begin_argument(work),
+        Some(b'#') => number_sign(work),
+        Some(_) => return add_characters(work, most),
+    }
+    1
+}
+
+/// The step by which a right parenthesis is deleted that closes no call. Gives 1, and 0 where it closes one.
+#[inline]
+fn close_none(work: &mut Work) -> u64
+    requires closes { slice_get (text_of_cells work.old.active) 0 ≡ Some 41 }
+    requires sound { IsSound work.old }
+    ensures passes { (meta : ℕ) → PassesTimes result (memory_of meta work.old) (memory_of meta work.new) }
+    ensures few { result ≤ 1 }
+    ensures room { work.new.room ≡ work.old.room }
+    ensures sound { IsSound work.new }
+{
+    if work.last_call().is_some() {
+        return 0;
+    }
+    delete_parenthesis(work);
+    1
+}
+
 /// The steps by which the ordinary characters at the front of the active string are added, at most so many, all at once.
 /// Gives how many they were.
-pub(crate) fn add_characters(work: &mut Work, most: u64) -> u32
+#[inline]
+fn add_characters(work: &mut Work, most: u64) -> u64
     requires sound { IsSound work.old }
     ensures passes { (meta : ℕ) → PassesTimes result (memory_of meta work.old) (memory_of meta work.new) }
     ensures few { result ≤ most }
@@ -80,10 +143,8 @@ pub(crate) fn add_characters(work: &mut Work, most: u64) -> u32
     let all = work.active_len();
     let most = most.min(u64::from(all)) as u32;
     let count = ordinary_characters(work.active_part(0, most));
-    if count > 0 {
-        work.active_to_neutral(count);
-    }
-    count
+    work.active_to_neutral(count);
+    u64::from(count)
 }
 
 /// How many ordinary characters begin the cells.
@@ -135,6 +196,7 @@ fn load_idling(work: &mut Work) -> Attempt
 fn delete_layout(work: &mut Work)
     requires { (c : ℕ) × ((slice_get (text_of_cells work.old.active) 0 ≡ Some c) × (is_layout c ≡ true)) }
     ensures scans { Scans work.old work.new (used work.old) }
+    ensures no_larger { used work.new ≤ used work.old }
     ensures room { work.new.room ≡ work.old.room }
     ensures sound { IsSound work.new }
 {
@@ -146,6 +208,7 @@ fn delete_parenthesis(work: &mut Work)
     requires closes { slice_get (text_of_cells work.old.active) 0 ≡ Some 41 }
     requires none { ClosesNone work.old }
     ensures scans { Scans work.old work.new (used work.old) }
+    ensures no_larger { used work.new ≤ used work.old }
     ensures room { work.new.room ≡ work.old.room }
     ensures sound { IsSound work.new }
 {
@@ -158,6 +221,7 @@ fn protect(work: &mut Work)
     requires sound { IsSound work.old }
     requires first { slice_get (text_of_cells work.old.active) 0 ≡ Some 40 }
     ensures scans { Scans work.old work.new (used work.old) }
+    ensures no_larger { used work.new ≤ used work.old }
     ensures room { work.new.room ≡ work.old.room }
     ensures sound { IsSound work.new }
 {
@@ -199,6 +263,7 @@ fn begin_argument(work: &mut Work)
     requires sound { IsSound work.old }
     requires first { slice_get (text_of_cells work.old.active) 0 ≡ Some 44 }
     ensures scans { Scans work.old work.new (used work.old) }
+    ensures no_larger { used work.new ≤ used work.old }
     ensures room { work.new.room ≡ work.old.room }
     ensures sound { IsSound work.new }
 {
@@ -213,6 +278,7 @@ fn number_sign(work: &mut Work)
     requires sound { IsSound work.old }
     requires first { slice_get (text_of_cells work.old.active) 0 ≡ Some 35 }
     ensures scans { Scans work.old work.new (used work.old) }
+    ensures no_larger { used work.new ≤ used work.old }
     ensures room { work.new.room ≡ work.old.room }
     ensures sound { IsSound work.new }
 {

@@ -8,8 +8,8 @@ use Rattle.trac_core.proofs.Scanning.{take-text}
 use Rattle.trac_core.proofs.Together.{characters-pass}
 use Rattle.trac_core.proofs.scan.add_characters.Goals as goal
 
-pub returns-then-count-gt0-clause-passes : goal.returns-then-count-gt0-clause-passes
-returns-then-count-gt0-clause-passes c = λ meta.
+pub returns-clause-passes : goal.returns-clause-passes
+returns-clause-passes c = λ meta.
     let old = c.args.work.now in
     let n = c.ordinary_characters-count.result in
     let most = c.min-most.result in
@@ -23,5 +23,6 @@ returns-then-count-gt0-clause-passes c = λ meta.
     let within : n ≤ most = omega (arith, c.ordinary_characters-count.ensures.within) in
     let inside : n ≤ length old.active = omega (arith, c.ordinary_characters-count.ensures.within) in
     let same : take n (text_of_cells cells) ≡ take n (text_of_cells old.active) = ap (take n) text ∙ take-take n most (text_of_cells old.active) within in
-    subst (λ w. PassesTimes n (memory_of meta old) (memory_of meta w)) (sym c.active_to_neutral.ensures.moved)
-    (characters-pass meta n old c.requires.sound.active inside (subst (All IsOrdinary) same c.ordinary_characters-count.ensures.ordinary))
+    subst (λ k. PassesTimes k (memory_of meta old) (memory_of meta c.active_to_neutral.new.self)) (sym c.from-2.ensures)
+    (subst (λ w. PassesTimes n (memory_of meta old) (memory_of meta w)) (sym c.active_to_neutral.ensures.moved)
+    (characters-pass meta n old c.requires.sound.active inside (subst (All IsOrdinary) same c.ordinary_characters-count.ensures.ordinary)))

@@ -1,0 +1,23 @@
+use Rattle.std.proofs.Common.{◌≡◌, ◌+◌, ◌∙◌, subst, arith}
+use Rattle.trac_core.specs.Together.{PassesTimes}
+use Rattle.trac_core.specs.Flat.{memory_of}
+use Rattle.trac_core.proofs.Together.{passes-then}
+use Rattle.trac_core.proofs.scan.scan_on.Goals as goal
+
+pub loop-run-preserved : goal.loop-run-preserved
+loop-run-preserved c =
+    let i = c.loop-run.invariant in
+    let h = c.pass-more.ensures in
+    record {
+      passes = λ meta. passes-then c.loop-run.count c.pass-more.result (memory_of meta c.args.work.now) (memory_of meta c.loop-run.work) (memory_of meta c.pass-more.new.work) (i.passes meta) (h.passes meta);
+      few = omega (arith, i.few, h.few);
+      room = h.room ∙ i.room;
+      sound = h.sound;
+    }
+
+pub returns-then-more-eq0-clause-passes : goal.returns-then-more-eq0-clause-passes
+returns-then-more-eq0-clause-passes c = λ meta.
+    let old = memory_of meta c.args.work.now in
+    let new = memory_of meta c.pass-more.new.work in
+    let none : c.loop-run.count + c.pass-more.result ≡ c.loop-run.count = omega (arith, c.if-more-eq0.true) in
+    subst (λ k. PassesTimes k old new) none (passes-then c.loop-run.count c.pass-more.result old (memory_of meta c.loop-run.work) new (c.loop-run.invariant.passes meta) (c.pass-more.ensures.passes meta))

@@ -1,0 +1,15 @@
+use Rattle.std.proofs.Common.{◌≡◌, ℕ, ◌≤◌}
+use Rattle.trac_forms.specs.Contents.{IsSound}
+use Rattle.trac_core.specs.Flat.{memory_of}
+use Rattle.trac_core.specs.Together.{PassesTimes}
+use Rattle.trac_core.proofs.scan.scan_on.Given as goal
+
+-- the steps so far
+abbrev pub invariant-loop-run : goal.invariant-loop-run
+invariant-loop-run l =
+    record {
+      passes : (meta : ℕ) → PassesTimes l.count (memory_of meta l.fn.work) (memory_of meta l.work);
+      few : l.count ≤ l.most;
+      room : l.work.room ≡ l.fn.work.room;
+      sound : IsSound l.work;
+    }
