@@ -16,6 +16,9 @@ use trac_forms::{Cell, Mode, Work};
 /// The idling procedure, which reads and scans a string and prints what is left of it (Mooers 1966).
 const IDLING: &[u8; 11] = b"#(ps,#(rs))";
 
+/// What an arm reads that is never reached: nothing, so that the compiler makes no test for it.
+const NO_BYTE: [u8; 0] = [];
+
 /// What the try of a step came to, and the cells that it needed.
 #[derive(Clone, Copy, Debug, PartialEq, Eq)]
 pub(crate) struct Attempt {
@@ -109,7 +112,7 @@ fn byte_in(cell: &Cell) -> u8
 {
     match cell {
         Cell::Byte(byte) => *byte,
-        _ => unreachable!(),
+        _ => NO_BYTE[0],
     }
 }
 

@@ -1,5 +1,5 @@
 -- What stands where a form begins, in a slice of the whole store.
-use Rattle.std.proofs.Common.{◌≡◌, ℕ, ◌+◌, ◌-◌, ◌<◌, ◌≤◌, List, length, take, drop, map, All, get_or, slice_range, slice_get, Some, sym, ap, ◌∙◌, arith}
+use Rattle.std.proofs.Common.{◌≡◌, ℕ, ◌+◌, ◌-◌, ◌<◌, ◌≤◌, List, length, take, drop, map, All, get_or, slice_range, slice_get, Some, sym, ap, ◌∙◌, subst, arith}
 use Rattle.std.specs.Option.{option_map}
 use Rattle.std.proofs.lemmas.Option.{slice_get-map, slice_get-get_or}
 use Rattle.std.proofs.lemmas.List.{take-map, drop-map, length-map, get_or-map, get_or-take, get_or-drop}
@@ -8,9 +8,11 @@ use Rattle.std.proofs.lemmas.List.Elements.{All-map}
 use Rattle.trac_space.specs.declared.cell.Cell.{Cell}
 use Rattle.trac_space.specs.declared.cell.Cell.TheVariants.{Byte, Call, Comma, Gap, Head}
 use Rattle.trac_space.specs.Cells.{seen}
-use Rattle.trac_forms.specs.FlatForms.{flat_forms, flat_text}
+use Rattle.trac_forms.specs.FlatForms.{flat_forms, flat_text, text_of_cells}
 use Rattle.trac_forms.specs.Contents.{form_at, IsByte}
 use Rattle.trac_forms.specs.Stored.{forms_in, start_of, head_number}
+use Rattle.trac_forms.proofs.FlatLemmas.{Byte-character_of}
+use Rattle.trac_forms.proofs.Gaps.{bytes-seen}
 use Rattle.trac_forms.proofs.Places.{stands, head_cells}
 
 -- a cell that is seen as a head or as a byte is one
@@ -82,3 +84,11 @@ part-last cells from n some within =
     let long = length-between cells from (from + n) within in
     get_or-map seen (slice_range cells from (from + n)) (n - 1) (Byte 0) (Byte 0) (omega arith)
     ∙ ap seen (get_or-take (from + n - from) (drop from cells) (n - 1) (Byte 0) (omega arith) ∙ get_or-drop from cells (n - 1) (Byte 0) ∙ ap (λ i. get_or cells i (Byte 0)) place)
+
+-- cells that are seen as bytes are bytes, and are seen as their text
+pub bytes-of-seen : (cells : List Cell) → All IsByte (map seen cells) → All IsByte cells
+bytes-of-seen cells h = λ k d within.
+    byte-seen (get_or cells k d) (subst IsByte (get_or-map seen cells k d d within) (h k d (omega (arith, length-map cells seen))))
+
+pub seen-text : (cells : List Cell) → All IsByte (map seen cells) → flat_text (text_of_cells cells) ≡ map seen cells
+seen-text cells h = ap flat_text (sym (bytes-seen cells)) ∙ Byte-character_of (map seen cells) h

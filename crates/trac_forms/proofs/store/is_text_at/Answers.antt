@@ -4,11 +4,10 @@ use Rattle.std.proofs.lemmas.List.{length-map, get_or-map}
 use Rattle.trac_space.specs.declared.cell.Cell.{Cell}
 use Rattle.trac_space.specs.declared.cell.Cell.TheVariants.{Byte}
 use Rattle.trac_space.specs.Cells.{seen}
-use Rattle.trac_forms.specs.FlatForms.{character_of}
+use Rattle.trac_forms.specs.FlatForms.{character_of, text_of_cells, flat_text}
 use Rattle.trac_forms.specs.Contents.{IsByte}
-use Rattle.trac_forms.specs.Gaps.{begins_cells}
-use Rattle.trac_forms.proofs.Finding.{byte-seen, part-last, part-length}
-use Rattle.trac_forms.proofs.Gaps.{begins-seen, begins_decides, character_of-seen}
+use Rattle.trac_forms.proofs.Finding.{byte-seen, bytes-of-seen, seen-text, part-last, part-length}
+use Rattle.trac_forms.proofs.Gaps.{bytes-seen, character_of-seen}
 use Rattle.trac_forms.proofs.store.is_text_at.Goals as goal
 use Rattle.trac_forms.proofs.store.is_text_at.Goals.{then-len-text-via-then-len-text, then-len-text-via-else-len-text+then-byte_in-last}
 
@@ -48,10 +47,22 @@ returns-then-len-text c =
       ],
     )
 
+pub is_text-requires : goal.is_text-requires
+is_text-requires c =
+    let part = slice_range c.args.cells.now c.args.from (c.args.from + c.args.len) in
+    record {
+      cell_bytes = bytes-of-seen part c.requires.part_bytes;
+      bytes = bytes-of-seen c.args.text.now c.requires.bytes;
+      same = omega (arith, length-map part seen, part-length c.args.cells.now c.args.from c.args.len c.requires.within, c.if-len-text.false);
+    }
+
 pub returns : goal.returns
 returns c =
     let part = slice_range c.args.cells.now c.args.from (c.args.from + c.args.len) in
     let text = c.args.text.now in
-    let same : c.begins.result ≡ begins_cells (map character_of (map seen text)) (map seen part) = c.begins.ensures ∙ begins-seen text part in
-    let lens : length (map seen part) ≡ length (map seen text) = omega (arith, part-length c.args.cells.now c.args.from c.args.len c.requires.within, length-map text seen, c.if-len-text.false) in
-    rw same (begins_decides (map seen part) (map seen text) lens c.requires.bytes)
+    let cell_is = seen-text part c.requires.part_bytes in
+    let text_is = seen-text text c.requires.bytes in
+    (
+      λ t. sym cell_is ∙ ap flat_text (c.is_text.ensures.0 t) ∙ text_is,
+      λ e. c.is_text.ensures.1 (sym (bytes-seen part) ∙ ap text_of_cells e ∙ bytes-seen text),
+    )
