@@ -1,8 +1,8 @@
 //! The scanner: the rules that perform no call.
 ghost use Rattle.std.specs.Prelude.{◌≡◌, ◌≢◌, ℕ, ◌+◌, ◌<◌, ◌≤◌, [], ◌∷◌, length, take, drop, slice_get, MatchOption, IsTrue, ◌↔◌, None, Some, true, false, ◌++◌, All};
 ghost use Rattle.trac_space.specs.Calls.{IsLastCall};
-ghost use Rattle.trac_forms.specs.FlatForms.{text_of_cells};
-ghost use Rattle.trac_forms.specs.Contents.{used, IsSound};
+ghost use Rattle.trac_forms.specs.FlatForms.{character_of, text_of_cells};
+ghost use Rattle.trac_forms.specs.Contents.{used, IsByte, IsSound};
 ghost use Rattle.trac_core.specs.Protected.{protected};
 ghost use Rattle.trac_core.specs.Rule.{is_layout};
 ghost use Rattle.trac_core.specs.Attempts.{Scans, Scanned, ClosesNone};
@@ -15,6 +15,9 @@ use trac_forms::{Cell, Mode, Work};
 
 /// The idling procedure, which reads and scans a string and prints what is left of it (Mooers 1966).
 const IDLING: &[u8; 11] = b"#(ps,#(rs))";
+
+/// What an arm reads that is never reached: nothing, so that the compiler makes no test for it.
+const NO_BYTE: [u8; 0] = [];
 
 /// What the try of a step came to, and the cells that it needed.
 #[derive(Clone, Copy, Debug, PartialEq, Eq)]
@@ -149,24 +152,46 @@ fn add_characters(work: &mut Work, most: u64) -> u64
 
 /// How many ordinary characters begin the cells.
 fn ordinary_characters(cells: &[Cell]) -> u32
-    requires { length cells.now ≤ 16777216 }
+    requires few { length cells.now ≤ 16777216 }
+    requires bytes { All IsByte cells.now }
     ensures within { result ≤ length cells.now }
     ensures ordinary { All IsOrdinary (take result (text_of_cells cells.now)) }
 {
     for (i, cell) in cells.iter().enumerate() {
-        if is_special(character_of(cell)) {
+        if is_special(byte_in(cell)) {
             return i as u32;
         }
     }
     cells.len() as u32
 }
 
-/// Whether a character has a rule of its own.
+/// The character of a cell that is one.
+#[inline]
+fn byte_in(cell: &Cell) -> u8
+    requires { IsByte cell.now }
+    ensures { result ≡ character_of cell.now }
+{
+    match cell {
+        Cell::Byte(byte) => *byte,
+        _ => NO_BYTE[0],
+    }
+}
+
+/// Whether a character has a rule of its own. An arm for each makes one test of a bit of them.
 #[inline]
 fn is_special(character: u8) -> bool
     ensures { result ≡ is_special character }
 {
-    matches!(character, b'\t' | b'\n' | b'\r' | b'#' | b'(' | b')' | b',')
+    match character {
+        b'\t' => true,
+        b'\n' => true,
+        b'\r' => true,
+        b'#' => true,
+        b'(' => true,
+        b')' => true,
+        b',' => true,
+        _ => false,
+    }
 }
 
 /// The active string is empty: the neutral string is cleared, and the idling procedure becomes the active string.
@@ -238,21 +263,23 @@ fn protect(work: &mut Work)
 
 /// Where the right parenthesis stands that matches a left one before the cells.
 fn matching(cells: &[Cell]) -> Option<u32>
-    requires { length cells.now ≤ 16777216 }
+    requires few { length cells.now ≤ 16777216 }
+    requires bytes { All IsByte cells.now }
     ensures { MatchOption result (protected (text_of_cells cells.now) ≡ None)
         (λ place. (place < length cells.now) × (protected (text_of_cells cells.now) ≡ Some (take place (text_of_cells cells.now), drop (place + 1) (text_of_cells cells.now)))) }
 {
     let mut depth = 0u32;
     for (i, cell) in cells.iter().enumerate() {
-        match character_of(cell) {
-            b'(' => depth += 1,
-            b')' => {
-                if depth == 0 {
-                    return Some(i as u32);
-                }
-                depth -= 1;
-            }
-            _ => {}
+        let character = byte_in(cell);
+        if character < b'(' || character > b')' {
+            continue;
+        }
+        if character == b'(' {
+            depth += 1;
+        } else if depth == 0 {
+            return Some(i as u32);
+        } else {
+            depth -= 1;
         }
     }
     None

@@ -1,12 +1,19 @@
-use Rattle.std.proofs.Common.{◌≡◌, ◌-◌, ◌≤◌, length, take, All, sym, ap, ◌∙◌, subst, arith}
+use Rattle.std.proofs.Common.{◌≡◌, ◌-◌, ◌≤◌, length, take, drop, All, sym, ap, ◌∙◌, subst, arith}
 use Rattle.std.proofs.lemmas.List.{length-take, length-map, take-take}
+use Rattle.std.proofs.lemmas.List.Elements.{All-take, All-drop}
+use Rattle.trac_forms.specs.Contents.{IsByte}
 use Rattle.trac_forms.specs.FlatForms.{text_of_cells, character_of}
 use Rattle.trac_core.specs.Flat.{memory_of}
 use Rattle.trac_core.specs.Together.{IsOrdinary, PassesTimes}
-use Rattle.trac_core.proofs.ArgumentLemmas.{text_of_cells-seen}
+use Rattle.trac_core.proofs.ArgumentLemmas.{text_of_cells-seen, bytes-seen}
 use Rattle.trac_core.proofs.Scanning.{take-text}
 use Rattle.trac_core.proofs.Together.{characters-pass}
 use Rattle.trac_core.proofs.scan.add_characters.Goals as goal
+
+pub ordinary_characters-count-requires-clause-bytes : goal.ordinary_characters-count-requires-clause-bytes
+ordinary_characters-count-requires-clause-bytes c =
+    let active = c.args.work.now.active in
+    bytes-seen c.active_part.result.now (subst (All IsByte) (sym c.active_part.ensures) (All-take IsByte (c.min-most.result - 0) (drop 0 active) (All-drop IsByte 0 active c.requires.sound.active)))
 
 pub returns-clause-passes : goal.returns-clause-passes
 returns-clause-passes c = λ meta.

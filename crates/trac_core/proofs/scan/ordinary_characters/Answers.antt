@@ -12,6 +12,6 @@ loop-i-preserved c =
     let text = text_of_cells cells in
     let i = c.loop-i.i in
     let long : length text ≡ length cells = length-map cells character_of in
-    let here : c.character_of.result ≡ get_or text i 0 = c.character_of.ensures ∙ sym (get_or-map character_of cells i (Byte 0) 0 c.loop-i-test.true) in
+    let here : c.byte_in.result ≡ get_or text i 0 = c.byte_in.ensures ∙ sym (get_or-map character_of cells i (Byte 0) 0 c.loop-i-test.true) in
     let ordinary : IsOrdinary (get_or text i 0) = subst IsOrdinary here (sym c.is_special.ensures ∙ c.if-is_special.false) in
     subst (All IsOrdinary) (sym (take_more text i 0 (omega arith))) (All-push IsOrdinary (take i text) (get_or text i 0) c.loop-i.invariant ordinary)

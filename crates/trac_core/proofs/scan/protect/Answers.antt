@@ -1,10 +1,16 @@
-use Rattle.std.proofs.Common.{◌≡◌, ◌+◌, ◌++◌, take, drop, slice_range, map, Some, None, sym, ap, ◌∙◌, subst}
+use Rattle.std.proofs.Common.{◌≡◌, ◌+◌, ◌++◌, take, drop, All, ◌-◌, slice_range, map, Some, None, sym, ap, ◌∙◌, subst}
 use Rattle.trac_space.specs.Cells.{seen}
-use Rattle.trac_forms.specs.Contents.{Contents}
+use Rattle.std.proofs.lemmas.List.Elements.{All-take, All-drop}
+use Rattle.trac_forms.specs.Contents.{Contents, IsByte}
 use Rattle.trac_core.specs.Protected.{protected}
-use Rattle.trac_core.proofs.ArgumentLemmas.{text_of_cells-seen}
+use Rattle.trac_core.proofs.ArgumentLemmas.{text_of_cells-seen, bytes-seen}
 use Rattle.trac_core.proofs.Scanning.{scans-protected, scans-unmatched, text-after}
 use Rattle.trac_core.proofs.scan.protect.Goals as goal
+
+pub matching-requires-clause-bytes : goal.matching-requires-clause-bytes
+matching-requires-clause-bytes c =
+    let active = c.args.work.now.active in
+    bytes-seen c.active_part.result.now (subst (All IsByte) (sym c.active_part.ensures) (All-take IsByte (c.active_len.result - 1) (drop 1 active) (All-drop IsByte 1 active c.requires.sound.active)))
 
 pub returns-in-Some-clause-scans : goal.returns-in-Some-clause-scans
 returns-in-Some-clause-scans c =

@@ -1,15 +1,44 @@
-use Rattle.std.proofs.Common.{◌≡◌, length, map, ◌∙◌, arith}
-use Rattle.std.proofs.lemmas.List.{length-map}
-use Rattle.trac_space.specs.Cells.{seen}
-use Rattle.trac_forms.specs.FlatForms.{character_of}
-use Rattle.trac_forms.specs.Gaps.{begins_cells}
-use Rattle.trac_forms.proofs.Gaps.{begins-seen, begins_decides}
+use Rattle.std.proofs.Common.{◌≡◌, ℕ, ◌<◌, List, length, get_or, sym, ap, refl, ◌∙◌, arith}
+use Rattle.std.proofs.lemmas.Bool.{false≢true}
+use Rattle.std.proofs.lemmas.List.{length-map, get_or-map, take_all, take_more_same}
+use Rattle.trac_space.specs.declared.cell.Cell.{Cell}
+use Rattle.trac_space.specs.declared.cell.Cell.TheVariants.{Byte}
+use Rattle.trac_forms.specs.FlatForms.{character_of, text_of_cells}
 use Rattle.trac_forms.proofs.store.is_text.Goals as goal
+
+-- the character at a place
+read : (cells : List Cell) (i c : ℕ) → i < length cells → c ≡ character_of (get_or cells i (Byte 0)) → get_or (text_of_cells cells) i 0 ≡ c
+read cells i c within is = get_or-map character_of cells i (Byte 0) 0 within ∙ sym is
+
+pub byte_in-requires : goal.byte_in-requires
+byte_in-requires c = c.requires.cell_bytes c.loop-i.i (Byte 0) (omega (arith, c.requires.same))
+
+pub byte_in-requires-in-loop-i : goal.byte_in-requires-in-loop-i
+byte_in-requires-in-loop-i c = c.requires.bytes c.loop-i.i (Byte 0) (omega arith)
+
+pub returns-then-byte_in : goal.returns-then-byte_in
+returns-then-byte_in c =
+    let i = c.loop-i.i in
+    let ra = read c.args.cells.now i c.byte_in.result (omega (arith, c.requires.same)) c.byte_in.ensures in
+    let rb = read c.args.text.now i c.byte_in-in-loop-i.result (omega arith) c.byte_in-in-loop-i.ensures in
+    ((λ t. absurd (false≢true t)), (λ same. absurd (c.if-byte_in.true (sym ra ∙ ap (λ t. get_or t i 0) same ∙ rb))))
+
+pub loop-i-preserved : goal.loop-i-preserved
+loop-i-preserved c =
+    let i = c.loop-i.i in
+    let a = c.args.cells.now in
+    let b = c.args.text.now in
+    let ra = read a i c.byte_in.result (omega (arith, c.requires.same)) c.byte_in.ensures in
+    let rb = read b i c.byte_in-in-loop-i.result (omega arith) c.byte_in-in-loop-i.ensures in
+    let la = length-map a character_of in
+    let lb = length-map b character_of in
+    take_more_same (text_of_cells a) (text_of_cells b) i 0 (omega (arith, la, c.requires.same)) (omega (arith, lb)) c.loop-i.invariant (ra ∙ c.if-byte_in.false ∙ sym rb)
 
 pub returns : goal.returns
 returns c =
-    let cells = c.args.cells.now in
-    let text = c.args.text.now in
-    let same : c.begins.result ≡ begins_cells (map character_of (map seen text)) (map seen cells) = c.begins.ensures ∙ begins-seen text cells in
-    let lens : length (map seen cells) ≡ length (map seen text) = omega (arith, length-map cells seen, length-map text seen) in
-    rw same (begins_decides (map seen cells) (map seen text) lens c.requires.bytes)
+    let i = c.loop-i.i in
+    let a = c.args.cells.now in
+    let b = c.args.text.now in
+    let la = length-map a character_of in
+    let lb = length-map b character_of in
+    ((λ t. sym (take_all i (text_of_cells a) (omega (arith, la, c.requires.same))) ∙ c.loop-i.invariant ∙ take_all i (text_of_cells b) (omega (arith, lb))), (λ same. refl))

@@ -1,6 +1,8 @@
-use Rattle.std.proofs.Common.{◌≡◌, ℕ, ◌+◌, ◌≤◌, List, ◌++◌, ◌-◌, length, take, replicate, sym, ap, ◌∙◌, arith}
+use Rattle.std.proofs.Common.{◌≡◌, ℕ, ◌+◌, ◌*◌, ◌/◌, ◌<◌, ◌≤◌, List, ◌++◌, ◌-◌, length, take, replicate, sym, ap, ◌∙◌, arith}
+use Rattle.std.proofs.Math.Nat.{mod-lt}
 use Rattle.std.proofs.Math.Seq.{take-length}
-use Rattle.std.proofs.lemmas.List.{take-replicate, replicate-append-replicate, length-replicate}
+use Rattle.std.proofs.lemmas.Nat.{div-add-mod'}
+use Rattle.std.proofs.lemmas.List.{take-replicate, replicate-append-replicate, length-replicate, length-take-le}
 use Rattle.trac_space.specs.declared.cell.Cell.{Cell}
 use Rattle.trac_space.specs.declared.cell.Cell.TheVariants.{Byte}
 use Rattle.trac_space.proofs.block.put_blanks.Goals as goal
@@ -13,25 +15,51 @@ more-blank was part n before blank within =
     ∙ ap (λ cells. replicate (length was) (Byte 0) ++ cells) (take-replicate n (length part) (Byte 0) within)
     ∙ replicate-append-replicate (length was) n (Byte 0)
 
-pub loop-block-preserved : goal.loop-block-preserved
-loop-block-preserved c =
-    let was = c.loop-block.block.items in
+-- after all whole parts there is room for less than one
+few-left : (len cells was now n k : ℕ) → 0 < n → was ≤ cells → len ≡ was → (cells - len) / n ≤ k → k ≤ (cells - len) / n → now ≡ was + k * n → (now ≤ cells) × (cells - now ≤ n)
+few-left len cells was now n k some fewer len_is past within parts =
+    let all : k ≡ (cells - len) / n = omega arith in
+    let times = ap (λ q. q * n) all in
+    let split = div-add-mod' (cells - len) n in
+    let rest = mod-lt (cells - len) some in
+    (omega arith, omega arith)
+
+pub loop-part-preserved : goal.loop-part-preserved
+loop-part-preserved c =
+    let was = c.loop-part.block.items in
     let part = c.args.part.now in
     let now = c.extend_from_slice.new.self.items in
     let n = length part in
     let made : now ≡ was ++ part = c.in_ok-extend_from_slice.ensures.items in
-    let all = made ∙ ap (λ cells. was ++ cells) (sym (take-length part)) ∙ more-blank was part n c.loop-block.invariant.blank c.requires.blank (omega arith) in
+    let all = made ∙ ap (λ cells. was ++ cells) (sym (take-length part)) ∙ more-blank was part n c.loop-part.invariant.blank c.requires.blank (omega arith) in
     let long : length now ≡ length was + n = ap length all ∙ length-replicate (length was + n) (Byte 0) in
+    let parts = c.loop-part.invariant.parts in
     record {
-      blank = all ∙ ap (λ k. replicate k (Byte 0)) (omega arith);
-      fewer = omega arith;
+      blank = all ∙ ap (λ k. replicate k (Byte 0)) (sym long);
+      parts = omega arith;
     }
+
+pub slice_bounds-extend_from_slice-count : goal.slice_bounds-extend_from_slice-count
+slice_bounds-extend_from_slice-count c =
+    let before = c.len.ensures in
+    let few = few-left c.len.result c.args.cells (length c.args.block.now.items) (length c.loop-part.block.items) (length c.args.part.now) c.loop-part._part c.requires.some c.requires.fewer (omega (arith, before)) c.loop-part-test.false c.loop-part.auto._part-end c.loop-part.invariant.parts in
+    let len = c.len-2.ensures in
+    omega (arith, few.0)
+
+pub slice_bounds-extend_from_slice-length : goal.slice_bounds-extend_from_slice-length
+slice_bounds-extend_from_slice-length c =
+    let before = c.len.ensures in
+    let few = few-left c.len.result c.args.cells (length c.args.block.now.items) (length c.loop-part.block.items) (length c.args.part.now) c.loop-part._part c.requires.some c.requires.fewer (omega (arith, before)) c.loop-part-test.false c.loop-part.auto._part-end c.loop-part.invariant.parts in
+    let len = c.len-2.ensures in
+    sym (length-take-le (c.args.cells - c.len-2.result) c.args.part.now (omega (arith, few.1)))
 
 pub returns : goal.returns
 returns c =
-    let was = c.loop-block.block.items in
+    let was = c.loop-part.block.items in
     let part = c.args.part.now in
     let n = c.args.cells - c.len-2.result in
     let len = c.len-2.ensures in
-    let all = c.in_ok-extend_from_slice-2.ensures.items ∙ more-blank was part n c.loop-block.invariant.blank c.requires.blank (omega arith) in
-    all ∙ ap (λ k. replicate k (Byte 0)) (omega arith)
+    let before = c.len.ensures in
+    let few = few-left c.len.result c.args.cells (length c.args.block.now.items) (length was) (length part) c.loop-part._part c.requires.some c.requires.fewer (omega (arith, before)) c.loop-part-test.false c.loop-part.auto._part-end c.loop-part.invariant.parts in
+    let all = c.in_ok-extend_from_slice-2.ensures.items ∙ more-blank was part n c.loop-part.invariant.blank c.requires.blank (omega (arith, few.1)) in
+    all ∙ ap (λ k. replicate k (Byte 0)) (omega (arith, few.0))

@@ -1,15 +1,11 @@
-use Rattle.std.proofs.Common.{◌≡◌, replicate, ◌-◌, ◌≤◌, length}
+use Rattle.std.proofs.Common.{◌≡◌, replicate, ◌+◌, ◌*◌, length}
 use Rattle.trac_space.specs.declared.cell.Cell.TheVariants.{Byte}
 use Rattle.trac_space.proofs.block.put_blanks.Given as goal
 
--- what is put so far are blank cells, and no more than there will be
-abbrev pub invariant-loop-block : goal.invariant-loop-block
-invariant-loop-block l =
+-- what is put so far are blank cells, so many parts of them
+abbrev pub invariant-loop-part : goal.invariant-loop-part
+invariant-loop-part l =
     record {
       blank : l.block.items ≡ replicate (length l.block.items) (Byte 0);
-      fewer : length l.block.items ≤ l.cells;
+      parts : length l.block.items ≡ length l.initial.block.items + l._part * length l.part;
     }
-
--- the cells that are left
-abbrev pub decreases-loop-block : goal.decreases-loop-block
-decreases-loop-block l = l.cells - length l.block.items
