@@ -31,8 +31,9 @@ pub(crate) struct Attempt {
 pub(crate) fn character(work: &Work, place: u32) -> Option<u8>
     ensures { result ≡ slice_get (text_of_cells work.now.active) place }
 {
+    prove!(work.used() <= work.room());
     match work.active_at(place) {
-        Some(cell) => Some(character_of(&cell)),
+        Some(cell) => Some(byte_in(&cell)),
         None => None,
     }
 }
@@ -72,7 +73,7 @@ pub(crate) fn scan(work: &mut Work) -> Attempt
 }
 
 /// Steps that perform no call, one after the other, at most so many. Gives how many they were. It stops where a right
-/// parenthesis closes a call, and where the active string is empty; it may stop before.
+/// parenthesis closes a call, and where the active string is empty.
 pub(crate) fn scan_on(work: &mut Work, most: u64) -> u64
     requires sound { IsSound work.old }
     ensures passes { (meta : ℕ) → PassesTimes result (memory_of meta work.old) (memory_of meta work.new) }
@@ -81,14 +82,13 @@ pub(crate) fn scan_on(work: &mut Work, most: u64) -> u64
     ensures sound { IsSound work.new }
 {
     let mut count = 0;
-    for _run in 0..work.active_len() {
+    loop {
         let more = pass(work, most - count);
         if more == 0 {
             return count;
         }
         count += more;
     }
-    count
 }
 
 /// The steps of the rule that fits the beginning of the active string, at most so many: all of a run of ordinary characters at
@@ -98,6 +98,7 @@ fn pass(work: &mut Work, most: u64) -> u64
     requires sound { IsSound work.old }
     ensures passes { (meta : ℕ) → PassesTimes result (memory_of meta work.old) (memory_of meta work.new) }
     ensures few { result ≤ most }
+    ensures shorter { result ≢ 0 → length work.new.active < length work.old.active }
     ensures room { work.new.room ≡ work.old.room }
     ensures sound { IsSound work.new }
 {
@@ -123,6 +124,7 @@ fn close_none(work: &mut Work) -> u64
     requires sound { IsSound work.old }
     ensures passes { (meta : ℕ) → PassesTimes result (memory_of meta work.old) (memory_of meta work.new) }
     ensures few { result ≤ 1 }
+    ensures shorter { result ≢ 0 → length work.new.active < length work.old.active }
     ensures room { work.new.room ≡ work.old.room }
     ensures sound { IsSound work.new }
 {
@@ -140,6 +142,7 @@ fn add_characters(work: &mut Work, most: u64) -> u64
     requires sound { IsSound work.old }
     ensures passes { (meta : ℕ) → PassesTimes result (memory_of meta work.old) (memory_of meta work.new) }
     ensures few { result ≤ most }
+    ensures shorter { result ≢ 0 → length work.new.active < length work.old.active }
     ensures room { work.new.room ≡ work.old.room }
     ensures sound { IsSound work.new }
 {
@@ -222,6 +225,7 @@ fn delete_layout(work: &mut Work)
     requires { (c : ℕ) × ((slice_get (text_of_cells work.old.active) 0 ≡ Some c) × (is_layout c ≡ true)) }
     ensures scans { Scans work.old work.new (used work.old) }
     ensures no_larger { used work.new ≤ used work.old }
+    ensures shorter { length work.new.active < length work.old.active }
     ensures room { work.new.room ≡ work.old.room }
     ensures sound { IsSound work.new }
 {
@@ -234,6 +238,7 @@ fn delete_parenthesis(work: &mut Work)
     requires none { ClosesNone work.old }
     ensures scans { Scans work.old work.new (used work.old) }
     ensures no_larger { used work.new ≤ used work.old }
+    ensures shorter { length work.new.active < length work.old.active }
     ensures room { work.new.room ≡ work.old.room }
     ensures sound { IsSound work.new }
 {
@@ -247,6 +252,7 @@ fn protect(work: &mut Work)
     requires first { slice_get (text_of_cells work.old.active) 0 ≡ Some 40 }
     ensures scans { Scans work.old work.new (used work.old) }
     ensures no_larger { used work.new ≤ used work.old }
+    ensures shorter { length work.new.active < length work.old.active }
     ensures room { work.new.room ≡ work.old.room }
     ensures sound { IsSound work.new }
 {
@@ -286,11 +292,13 @@ fn matching(cells: &[Cell]) -> Option<u32>
 }
 
 /// A comma is deleted. Where a call is open, a new argument of the innermost begins.
+#[inline]
 fn begin_argument(work: &mut Work)
     requires sound { IsSound work.old }
     requires first { slice_get (text_of_cells work.old.active) 0 ≡ Some 44 }
     ensures scans { Scans work.old work.new (used work.old) }
     ensures no_larger { used work.new ≤ used work.old }
+    ensures shorter { length work.new.active < length work.old.active }
     ensures room { work.new.room ≡ work.old.room }
     ensures sound { IsSound work.new }
 {
@@ -301,11 +309,13 @@ fn begin_argument(work: &mut Work)
 }
 
 /// A number sign opens a call with a left parenthesis after it, or after a second one; any other is added.
+#[inline]
 fn number_sign(work: &mut Work)
     requires sound { IsSound work.old }
     requires first { slice_get (text_of_cells work.old.active) 0 ≡ Some 35 }
     ensures scans { Scans work.old work.new (used work.old) }
     ensures no_larger { used work.new ≤ used work.old }
+    ensures shorter { length work.new.active < length work.old.active }
     ensures room { work.new.room ≡ work.old.room }
     ensures sound { IsSound work.new }
 {

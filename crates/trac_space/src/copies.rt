@@ -25,6 +25,34 @@ pub(crate) fn copy_cells(cells: &mut [Cell], start: usize, end: usize, to: usize
     }
 }
 
+// The same, for moves that mostly are of one cell.
+#[inline]
+pub(crate) fn copy_one_or_more(cells: &mut [Cell], start: usize, end: usize, to: usize)
+    requires order { start ≤ end }
+    requires within { end ≤ length cells.old }
+    requires room { to + (end - start) ≤ length cells.old }
+    ensures len { length cells.new ≡ length cells.old }
+    ensures after { cells.new ≡ copy_within cells.old start end to }
+{
+    if end - start == 1 {
+        cells[to] = cells[start];
+    } else {
+        copy_more(cells, start, end, to);
+    }
+}
+
+// The same, not repeated where it is called.
+#[inline(never)]
+fn copy_more(cells: &mut [Cell], start: usize, end: usize, to: usize)
+    requires order { start ≤ end }
+    requires within { end ≤ length cells.old }
+    requires room { to + (end - start) ≤ length cells.old }
+    ensures len { length cells.new ≡ length cells.old }
+    ensures after { cells.new ≡ copy_within cells.old start end to }
+{
+    copy_cells(cells, start, end, to);
+}
+
 // The same. Where the two places are apart, or far enough from one another, the cells go as blocks of memory.
 #[inline(never)]
 fn copy_long(cells: &mut [Cell], start: usize, end: usize, to: usize)

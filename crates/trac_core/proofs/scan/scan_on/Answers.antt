@@ -4,12 +4,12 @@ use Rattle.trac_core.specs.Flat.{memory_of}
 use Rattle.trac_core.proofs.Together.{passes-then}
 use Rattle.trac_core.proofs.scan.scan_on.Goals as goal
 
-pub loop-run-preserved : goal.loop-run-preserved
-loop-run-preserved c =
-    let i = c.loop-run.invariant in
+pub loop-most-preserved : goal.loop-most-preserved
+loop-most-preserved c =
+    let i = c.loop-most.invariant in
     let h = c.pass-more.ensures in
     record {
-      passes = λ meta. passes-then c.loop-run.count c.pass-more.result (memory_of meta c.args.work.now) (memory_of meta c.loop-run.work) (memory_of meta c.pass-more.new.work) (i.passes meta) (h.passes meta);
+      passes = λ meta. passes-then c.loop-most.count c.pass-more.result (memory_of meta c.args.work.now) (memory_of meta c.loop-most.work) (memory_of meta c.pass-more.new.work) (i.passes meta) (h.passes meta);
       few = omega (arith, i.few, h.few);
       room = h.room ∙ i.room;
       sound = h.sound;
@@ -19,5 +19,5 @@ pub returns-then-more-eq0-clause-passes : goal.returns-then-more-eq0-clause-pass
 returns-then-more-eq0-clause-passes c = λ meta.
     let old = memory_of meta c.args.work.now in
     let new = memory_of meta c.pass-more.new.work in
-    let none : c.loop-run.count + c.pass-more.result ≡ c.loop-run.count = omega (arith, c.if-more-eq0.true) in
-    subst (λ k. PassesTimes k old new) none (passes-then c.loop-run.count c.pass-more.result old (memory_of meta c.loop-run.work) new (c.loop-run.invariant.passes meta) (c.pass-more.ensures.passes meta))
+    let none : c.loop-most.count + c.pass-more.result ≡ c.loop-most.count = omega (arith, c.if-more-eq0.true) in
+    subst (λ k. PassesTimes k old new) none (passes-then c.loop-most.count c.pass-more.result old (memory_of meta c.loop-most.work) new (c.loop-most.invariant.passes meta) (c.pass-more.ensures.passes meta))

@@ -1,15 +1,19 @@
-use Rattle.std.proofs.Common.{◌≡◌, ℕ, ◌≤◌}
+use Rattle.std.proofs.Common.{◌≡◌, ℕ, ◌≤◌, length}
 use Rattle.trac_forms.specs.Contents.{IsSound}
 use Rattle.trac_core.specs.Flat.{memory_of}
 use Rattle.trac_core.specs.Together.{PassesTimes}
 use Rattle.trac_core.proofs.scan.scan_on.Given as goal
 
 -- the steps so far
-abbrev pub invariant-loop-run : goal.invariant-loop-run
-invariant-loop-run l =
+abbrev pub invariant-loop-most : goal.invariant-loop-most
+invariant-loop-most l =
     record {
       passes : (meta : ℕ) → PassesTimes l.count (memory_of meta l.fn.work) (memory_of meta l.work);
       few : l.count ≤ l.most;
       room : l.work.room ≡ l.fn.work.room;
       sound : IsSound l.work;
     }
+
+-- the active string
+abbrev pub decreases-loop-most : goal.decreases-loop-most
+decreases-loop-most l = length l.work.active

@@ -12,7 +12,7 @@ returns c =
     let s = c.self.inside in
     let within = rw (← c.self.view_is) at c.requires.within in
     let size = active_len s.cells.now s.store s.neutral s.active c.self.invariant.fits in
-    let moved = parts-to_neutral s.cells.now s.store s.neutral s.active c.self.invariant.fits c.args.n _ c.copy_cells.new.cells (omega arith) (omega arith) c.copy_cells.ensures.after in
+    let moved = parts-to_neutral s.cells.now s.store s.neutral s.active c.self.invariant.fits c.args.n _ c.copy_one_or_more.new.cells (omega arith) (omega arith) c.copy_one_or_more.ensures.after in
     record { moved = rw (← c.self.view_is) (ap seen_lists moved ∙ simp (map-append, take-map, drop-map)) }
 
 -- no call mark stands in what is moved
@@ -22,8 +22,8 @@ invariant_of-self c =
     let h = c.self.invariant in
     let within = rw (← c.self.view_is) at c.requires.within in
     let size = active_len s.cells.now s.store s.neutral s.active h.fits in
-    let moved = parts-to_neutral s.cells.now s.store s.neutral s.active h.fits c.args.n _ c.copy_cells.new.cells (omega arith) (omega arith) c.copy_cells.ensures.after in
-    let len : length c.copy_cells.new.cells ≡ length s.cells.now = ap (λ p. p.room) moved in
+    let moved = parts-to_neutral s.cells.now s.store s.neutral s.active h.fits c.args.n _ c.copy_one_or_more.new.cells (omega arith) (omega arith) c.copy_one_or_more.ensures.after in
+    let len : length c.copy_one_or_more.new.cells ≡ length s.cells.now = ap (λ p. p.room) moved in
     let more = ap (λ p. p.neutral) moved in
     let neutral = take s.neutral (drop s.store s.cells.now) in
     let part = take c.args.n (drop (length s.cells.now - s.active) s.cells.now) in
