@@ -38,8 +38,7 @@ returns-then-len-text c =
     let text = c.args.text.now in
     let from = c.args.from in
     let len = c.args.len in
-    let within = c.requires.within in
-    (
+    let within = c.requires.within in (
       λ e. absurd (false≢true e),
       λ e. elim c.then-len-text.branch [
         | then-len-text-via-then-len-text w ↦ absurd (omega (arith, w.if-len-text.true, ap length e, part-length cells from len within, length-map text seen))
@@ -61,8 +60,7 @@ returns c =
     let part = slice_range c.args.cells.now c.args.from (c.args.from + c.args.len) in
     let text = c.args.text.now in
     let cell_is = seen-text part c.requires.part_bytes in
-    let text_is = seen-text text c.requires.bytes in
-    (
+    let text_is = seen-text text c.requires.bytes in (
       λ t. sym cell_is ∙ ap flat_text (c.is_text.ensures.0 t) ∙ text_is,
       λ e. c.is_text.ensures.1 (sym (bytes-seen part) ∙ ap text_of_cells e ∙ bytes-seen text),
     )
