@@ -43,3 +43,4 @@ pub mod Behind
 pub mod Parting
 pub mod Displaying
 pub mod Rows
+pub mod Running

@@ -40,7 +40,15 @@ impl Source for FakeSource<'_> {
 
     ghost stream = { λ _. record { bytes = []; ended = false } };
 
+    ghost held = { λ _. [] };
+
     ghost failure_count = { λ s. s.failures };
+
+    fn ahead(&self) -> &[u8] {
+        &[]
+    }
+
+    fn skip(&mut self, _count: usize) {}
 
     fn next(&mut self) -> Next {
         self.calls = self.calls.saturating_add(1);
