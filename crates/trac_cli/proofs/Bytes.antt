@@ -1,5 +1,5 @@
 -- Known bytes in front of a reader and behind a writer.
-use Rattle.std.proofs.Common.{Bool, unwrap_or, ◌≡◌, ◌∙◌, ◌+◌, ◌-◌, ◌≤◌, ◌<◌, ◌++◌, ◌∷◌, ap, ap₂, refl, ℕ, List, [], get_or, length, take, drop, Option, Some, None, sym, arith, append_assoc, length-take}
+use Rattle.std.proofs.Common.{Bool, IsSome, unwrap_or, ◌≡◌, ◌∙◌, ◌+◌, ◌-◌, ◌≤◌, ◌<◌, ◌++◌, ◌∷◌, ap, ap₂, refl, ℕ, List, [], get_or, length, take, drop, Option, Some, None, sym, arith, append_assoc, length-take}
 use Rattle.std.specs.Prelude.{slice_range}
 use lib.Seq.{take-add}
 use Rattle.std.proofs.lemmas.List.{drop-append-le, drop-drop, drop_at}
@@ -60,6 +60,14 @@ appends_behind (Some xs) before after more e = ap (λ ys. xs ++ ys) e ∙ sym (a
 pub at_end : (rest : Option (List ℕ)) (waiting : List ℕ) → waiting ≡ [] → IsAtEnd rest → IsAtEnd (prepend_known waiting rest)
 at_end None waiting none ended = tt
 at_end (Some xs) waiting none ended = ap₂ (λ (ys zs : List ℕ). ys ++ zs) none ended
+
+-- what stands behind a writer that keeps what was appended
+pub appended_known : (old mid new : Option (List ℕ)) (xs : List ℕ) → Appends old mid xs → Keeps mid new → IsSome old
+    → unwrap_or new [] ≡ unwrap_or old [] ++ xs
+appended_known None mid new xs took kept some = absurd cc
+appended_known (Some ys) None new xs took kept some = absurd took
+appended_known (Some ys) (Some zs) None xs took kept some = absurd kept
+appended_known (Some ys) (Some zs) (Some ws) xs took kept some = kept ∙ took
 
 -- one byte written into a place for one
 pub one_given : (buf : List ℕ) (v : ℕ) → length buf ≡ 1 → take 1 (set buf 0 v) ≡ v ∷ []

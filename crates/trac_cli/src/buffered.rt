@@ -184,7 +184,6 @@ impl<W: Write> BufferedWriter<W> {
     }
 
     // Takes some bytes, once there is room.
-    #[cold]
     #[inline(never)]
     fn write_part(&mut self, buf: &[u8]) -> io::Result<usize>
         ensures bound { WritesAtMost result buf.now }

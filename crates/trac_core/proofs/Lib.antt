@@ -44,3 +44,4 @@ pub mod Parting
 pub mod Displaying
 pub mod Rows
 pub mod Running
+pub mod Sinking

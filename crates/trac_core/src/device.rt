@@ -1,7 +1,7 @@
 //! What a machine reads from and writes to.
 ghost use Rattle.std.specs.Prelude.{◌≡◌, ◌≢◌, ℕ, ◌+◌, ◌-◌, ◌^◌, ◌<◌, ◌≤◌, List, [], length, drop, false, OnOk};
 ghost use Rattle.std.specs.Io.{StartsWith};
-ghost use Rattle.trac_core.specs.Devices.{Stream, Gives, failures_of_next, failures_of, after_put};
+ghost use Rattle.trac_core.specs.Devices.{Stream, Gives, failures_of_next, failures_of, after_put, Prints};
 
 mod read_source;
 mod slice_sink;
@@ -90,6 +90,19 @@ pub trait Sink {
         ensures writes { tells self.old → written self.new ≡ after_put (written self.old) byte result }
         ensures told { tells self.old → tells self.new }
         ensures counts { failure_count self.new ≡ failure_count self.old + failures_of result };
+
+    /// Takes bytes in their order. An error appends a first part of them.
+    fn put_all(&mut self, bytes: &[u8]) -> Result<(), SinkFailed>
+        requires { failure_count self.old < 2 ^ 64 - 1 }
+        ensures prints { tells self.old → Prints result (written self.old) bytes.now (written self.new) }
+        ensures told { tells self.old → tells self.new }
+        ensures counts { failure_count self.new ≡ failure_count self.old + failures_of result }
+    {
+        for byte in bytes {
+            self.put(*byte)?;
+        }
+        Ok(())
+    }
 
     /// Sends on what was taken. It appends nothing.
     fn flush(&mut self) -> Result<(), SinkFailed>

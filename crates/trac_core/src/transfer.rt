@@ -3,13 +3,18 @@ ghost use Rattle.std.specs.Prelude.{◌≡◌, ◌≢◌, ℕ, ◌+◌, ◌-◌,
 ghost use Rattle.trac_forms.specs.Text.{Text};
 ghost use Rattle.trac_forms.specs.FlatForms.{character_of, text_of_cells};
 ghost use Rattle.trac_forms.specs.Contents.{used, IsSound};
-ghost use Rattle.trac_core.specs.Devices.{failures_of};
+ghost use Rattle.trac_core.specs.Devices.{failures_of, Prints};
 ghost use Rattle.trac_core.specs.Transfer.{Reads, Streams, StreamsTo, failures_of_read, has_meta};
 
 use crate::device::{Next, Sink, SinkFailed, Source};
 use crate::values::text::character_of;
 use memchr::memchr;
 use trac_forms::{Cell, Work};
+
+// How many characters a run has at most that goes to a sink.
+const RUN: usize = 256;
+// How many characters are too few for that.
+const FEW: usize = 16;
 
 /// How a text ended that was read.
 #[derive(Clone, Copy, Debug, PartialEq, Eq)]
@@ -99,10 +104,63 @@ pub(crate) fn print_text<O: Sink>(text: &[Cell], sink: &mut O) -> Result<(), Sin
     if text.is_empty() {
         return Ok(());
     }
-    for cell in text {
-        if let Err(failed) = sink.put(character_of(cell)) {
-            return Err(failed);
-        }
+    if let Err(failed) = put_characters(text, sink) {
+        return Err(failed);
     }
     sink.flush()
+}
+
+// Puts the characters of cells into a sink, those of a longer text in runs.
+fn put_characters<O: Sink>(text: &[Cell], sink: &mut O) -> Result<(), SinkFailed>
+    requires { O.failure_count sink.old < 2 ^ 64 - 1 }
+    ensures prints { O.tells sink.old → Prints result (O.written sink.old) (text_of_cells text.now) (O.written sink.new) }
+    ensures told { O.tells sink.old → O.tells sink.new }
+    ensures counts { O.failure_count sink.new ≡ O.failure_count sink.old + failures_of result }
+{
+    if text.len() < FEW {
+        put_each(text, sink)
+    } else {
+        put_runs(text, &mut [0; RUN], sink)
+    }
+}
+
+// The same, one by one.
+fn put_each<O: Sink>(text: &[Cell], sink: &mut O) -> Result<(), SinkFailed>
+    requires { O.failure_count sink.old < 2 ^ 64 - 1 }
+    ensures prints { O.tells sink.old → Prints result (O.written sink.old) (text_of_cells text.now) (O.written sink.new) }
+    ensures told { O.tells sink.old → O.tells sink.new }
+    ensures counts { O.failure_count sink.new ≡ O.failure_count sink.old + failures_of result }
+{
+    for cell in text {
+        sink.put(character_of(cell))?;
+    }
+    Ok(())
+}
+
+// The same, in runs that go through `run`.
+fn put_runs<O: Sink>(text: &[Cell], run: &mut [u8], sink: &mut O) -> Result<(), SinkFailed>
+    requires counts { O.failure_count sink.old < 2 ^ 64 - 1 }
+    requires some { 0 < length run.old }
+    ensures prints { O.tells sink.old → Prints result (O.written sink.old) (text_of_cells text.now) (O.written sink.new) }
+    ensures told { O.tells sink.old → O.tells sink.new }
+    ensures counts { O.failure_count sink.new ≡ O.failure_count sink.old + failures_of result }
+{
+    let mut done = 0;
+    while done < text.len() {
+        let count = run.len().min(text.len() - done);
+        write_characters(&text[done..done + count], run);
+        sink.put_all(&run[..count])?;
+        done += count;
+    }
+    Ok(())
+}
+
+// Makes the first bytes the characters of cells.
+fn write_characters(cells: &[Cell], bytes: &mut [u8])
+    requires { length cells.now ≤ length bytes.old }
+    ensures { take (length cells.now) bytes.new ≡ text_of_cells cells.now }
+{
+    for (i, cell) in cells.iter().enumerate() {
+        bytes[i] = character_of(cell);
+    }
 }
