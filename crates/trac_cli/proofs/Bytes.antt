@@ -1,13 +1,15 @@
 -- Known bytes in front of a reader and behind a writer.
-use Rattle.std.proofs.Common.{◌≡◌, ◌∙◌, ◌+◌, ◌-◌, ◌≤◌, ◌<◌, ◌++◌, ◌∷◌, ap, ap₂, refl, ℕ, List, [], get_or, length, take, drop, Option, Some, None, sym, arith, append_assoc, length-take}
+use Rattle.std.proofs.Common.{Bool, IsSome, unwrap_or, ◌≡◌, ◌∙◌, ◌+◌, ◌-◌, ◌≤◌, ◌<◌, ◌++◌, ◌∷◌, ap, ap₂, refl, ℕ, List, [], get_or, length, take, drop, Option, Some, None, sym, arith, append_assoc, length-take}
 use Rattle.std.specs.Prelude.{slice_range}
 use lib.Seq.{take-add}
-use Rattle.std.proofs.lemmas.List.{drop-append-le, drop-drop}
+use Rattle.std.proofs.lemmas.List.{drop-append-le, drop-drop, drop_at}
+use Rattle.std.proofs.lemmas.List.Edits.{length-between}
 use Rattle.std.proofs.Math.ListN.{set}
 use Rattle.std.proofs.Math.Seq.{drop-cons}
 use Rattle.std.proofs.lemmas.Slice.{between_is, take-put_mid}
 use borrow.Rule.Slice.PartMut.{put_mid}
 use Rattle.std.specs.Io.KnownBytes.{Appends, Consumes, IsAtEnd, Keeps, append_known, prepend_known}
+use Rattle.trac_core.specs.Slices.{IfTells}
 
 -- a part is its front and the rest
 pub part_split : (xs : List ℕ) (a n b : ℕ) → a + n ≤ b → slice_range xs a b ≡ slice_range xs a (a + n) ++ slice_range xs (a + n) b
@@ -59,6 +61,14 @@ pub at_end : (rest : Option (List ℕ)) (waiting : List ℕ) → waiting ≡ [] 
 at_end None waiting none ended = tt
 at_end (Some xs) waiting none ended = ap₂ (λ (ys zs : List ℕ). ys ++ zs) none ended
 
+-- what stands behind a writer that keeps what was appended
+pub appended_known : (old mid new : Option (List ℕ)) (xs : List ℕ) → Appends old mid xs → Keeps mid new → IsSome old
+    → unwrap_or new [] ≡ unwrap_or old [] ++ xs
+appended_known None mid new xs took kept some = absurd cc
+appended_known (Some ys) None new xs took kept some = absurd took
+appended_known (Some ys) (Some zs) None xs took kept some = absurd kept
+appended_known (Some ys) (Some zs) (Some ws) xs took kept some = kept ∙ took
+
 -- one byte written into a place for one
 pub one_given : (buf : List ℕ) (v : ℕ) → length buf ≡ 1 → take 1 (set buf 0 v) ≡ v ∷ []
 one_given [] v one = absurd (omega arith)
@@ -73,3 +83,15 @@ part_first xs a b some inside =
     let here : a < length xs = omega arith in
     let one : slice_range xs a (a + 1) ≡ get_or xs a 0 ∷ [] = ap (λ k. take k (drop a xs)) size ∙ ap (take 1) (drop-cons xs a 0 here) in
     split ∙ ap (λ (ys : List ℕ). ys ++ slice_range xs (a + 1) b) one
+
+-- what is read ahead, once some of it is given up
+pub skipped_known : (bytes : List ℕ) (start count end : ℕ) (rest : Option (List ℕ)) (has_ended : Bool) → start + count ≤ end → end ≤ length bytes
+    → IfTells (prepend_known (slice_range bytes start end) rest) has_ended
+    → unwrap_or (prepend_known (slice_range bytes (start + count) end) rest) [] ≡ drop count (unwrap_or (prepend_known (slice_range bytes start end) rest) [])
+skipped_known bytes start count end None has_ended within inside tells = absurd tells
+skipped_known bytes start count end (Some more) has_ended within inside tells =
+    let front = slice_range bytes start (start + count) in
+    let back = slice_range bytes (start + count) end in
+    let size : length front ≡ count = omega (arith, length-between bytes start (start + count) (omega arith)) in
+    sym (ap (λ xs. drop count (xs ++ more)) (part_split bytes start count end within)
+    ∙ ap (drop count) (append_assoc front back more) ∙ drop_at front (back ++ more) count size)

@@ -1,5 +1,5 @@
 //! Buffers of fixed size in front of a reader and behind a writer.
-ghost use Rattle.std.specs.Prelude.{◌≡◌, ◌+◌, ◌≤◌, ◌<◌, [], length, take, true, false, IfErr, IfOk, OnErr, OnOk};
+ghost use Rattle.std.specs.Prelude.{◌≡◌, ◌+◌, ◌≤◌, ◌<◌, [], length, take, slice_range, true, false, IfErr, IfOk, OnErr, OnOk};
 ghost use Rattle.std.specs.IoError.{error_kind};
 ghost use Rattle.std.specs.Io.{ReadsAtMost, WritesAtMost};
 ghost use Rattle.std.specs.Io.KnownBytes.{Appends, IsAtEnd, Keeps, ReadConsumes, WriteAppends};
@@ -36,6 +36,25 @@ impl<R: Read> BufferedReader<R> {
             start: 0,
             end: 0,
         }
+    }
+
+    /// The bytes that are read and not yet given.
+    #[inline]
+    pub fn held(&self) -> &[u8]
+        ensures { result.now ≡ slice_range self.now.bytes self.now.start self.now.end }
+    {
+        &self.bytes[self.start..self.end]
+    }
+
+    /// Gives up the first `count` of those bytes.
+    #[inline]
+    pub fn skip(&mut self, count: usize)
+        requires { self.old.start + count ≤ self.old.end }
+        ensures start { self.new.start ≡ self.old.start + count }
+        ensures held { (self.new.bytes ≡ self.old.bytes) × (self.new.end ≡ self.old.end) }
+        ensures device { self.new.device ≡ self.old.device }
+    {
+        self.start += count;
     }
 
     // Reads once where nothing is held.
@@ -165,7 +184,6 @@ impl<W: Write> BufferedWriter<W> {
     }
 
     // Takes some bytes, once there is room.
-    #[cold]
     #[inline(never)]
     fn write_part(&mut self, buf: &[u8]) -> io::Result<usize>
         ensures bound { WritesAtMost result buf.now }

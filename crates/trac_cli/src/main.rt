@@ -8,14 +8,15 @@ ghost use Rattle.trac_cli.specs.Lines.{refusal_status, status_of};
 
 mod buffered;
 mod devices;
+mod input;
 mod lines;
 mod output;
 mod serve;
 mod settings;
 mod words;
 
-use buffered::BufferedReader;
 use clap::error::ErrorKind;
+use input::Input;
 use lines::{Line, fault_line, memory_line, report_line, status};
 use output::Output;
 use serve::{NoMemory, serve};
@@ -24,7 +25,7 @@ use std::io::Write;
 use std::process::ExitCode;
 use std::rt::Env;
 use std::{env, io};
-use trac_core::{ReadSource, Report};
+use trac_core::Report;
 use words::settings_from;
 
 // The status where the words can't be used.
@@ -82,7 +83,7 @@ fn error_status(kind: ErrorKind) -> u8
 
 // Runs the script, and gives the status.
 fn run(rt: &HostRuntime, settings: &Settings) -> u8 {
-    let mut source = ReadSource::new(BufferedReader::new(rt.stdin()));
+    let mut source = Input::new(rt.stdin());
     let mut sink = Output::new(rt.stdout());
     match serve(rt.alloc(), settings, &mut source, &mut sink) {
         Ok(report) => ended(rt, settings, &report),

@@ -1,13 +1,13 @@
 //! The program's sink: a writer behind its buffer.
 ghost use Rattle.std.specs.Prelude.{◌≡◌, ℕ, ◌+◌, ◌-◌, ◌^◌, ◌<◌, [], true, IsSome, unwrap_or, OnOk};
-ghost use Rattle.trac_core.specs.Devices.{failures_of, after_put};
+ghost use Rattle.trac_core.specs.Devices.{failures_of, after_put, Prints};
 ghost use Rattle.trac_cli.specs.Buffered.{behind};
 
 use crate::buffered::BufferedWriter;
 use std::io::Write;
 use trac_core::{Sink, SinkFailed};
 
-/// A sink over a writer behind a buffer, by writes of one byte. It is flushed where nothing waits in the buffer and the
+/// A sink over a writer behind a buffer, by writes of one byte or of a run. It is flushed where nothing waits in the buffer and the
 /// writer was flushed after its last write. An error, or a write of no byte, is a failure. This processor's own choice.
 #[derive(Drop)]
 pub struct Output<W> {
@@ -47,6 +47,20 @@ impl<W: Write> Sink for Output<W> {
                 Err(SinkFailed)
             }
         }
+    }
+
+    fn put_all(&mut self, bytes: &[u8]) -> Result<(), SinkFailed> {
+        let mut taken = 0;
+        while taken < bytes.len() {
+            match self.writer.write(&bytes[taken..]) {
+                Ok(count) => taken += count,
+                Err(_) => {
+                    self.failures += 1;
+                    return Err(SinkFailed);
+                }
+            }
+        }
+        Ok(())
     }
 
     fn flush(&mut self) -> Result<(), SinkFailed> {

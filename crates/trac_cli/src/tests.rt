@@ -1,7 +1,9 @@
 //! What no clause says: the texts, the statuses and the command's answers to words that are written out.
 use crate::buffered::{BufferedReader, BufferedWriter};
 use crate::error_status;
+use crate::input::Input;
 use crate::lines::{fault_line, memory_line, report_line, status};
+use crate::output::Output;
 use crate::serve::{NoMemory, serve};
 use crate::settings::Settings;
 use crate::words::settings_from;
@@ -11,7 +13,7 @@ use std::io;
 use std::io::{Read, Write};
 use std::process::Abort;
 use std::test::Fail;
-use trac_core::{Fate, Next, Report, SliceSink, SliceSource, Source};
+use trac_core::{Fate, Next, Report, Sink, SliceSink, SliceSource, Source};
 
 fn words(alloc: Global, texts: &[&str]) -> Result<Vec<String>, Fail> {
     let mut words = Vec::new(alloc);
@@ -373,5 +375,60 @@ fn a_write_of_no_byte_is_a_failure(rt: HostRuntime) -> Result<(), Fail> {
     assert!(rt; buffered.flush().is_err());
     assert!(rt; buffered.flush().is_err());
     assert!(rt; taken.is_empty());
+    Ok(())
+}
+
+#[test]
+fn reads_in_runs(rt: HostRuntime) -> Result<(), Fail> {
+    let rows = [
+        (20_000, usize::MAX, 0),
+        (20_000, 5_000, 3),
+        (10, 3, 1),
+        (0, 1, 0),
+    ];
+    for (len, most, fails_at) in rows {
+        let text = pattern(rt.alloc(), len)?;
+        let mut source = Input::new(FakeReader {
+            rest: &text,
+            most,
+            reads: 0,
+            fails_at,
+        });
+        let mut seen = Vec::new(rt.alloc());
+        for _ in 0..30_000 {
+            let ahead = source.ahead();
+            let run = ahead.len() / 2;
+            seen.extend_from_slice(&ahead[..run])?;
+            source.skip(run);
+            assert!(rt; source.failures() <= 1);
+            match source.next() {
+                Next::Byte(byte) => seen.push(byte)?,
+                Next::End => break,
+                Next::Failed => {}
+            }
+        }
+        assert!(rt; seen == text);
+        assert_eq!(rt; source.failures(), u64::from(fails_at > 0));
+        assert!(rt; source.ahead().is_empty());
+    }
+    Ok(())
+}
+
+#[test]
+fn writes_in_runs(rt: HostRuntime) -> Result<(), Fail> {
+    let text = pattern(rt.alloc(), 20_000)?;
+    for (most, fails_at, kept) in [(5_000, 0, 20_000), (5_000, 2, 8_192)] {
+        let mut taken = Vec::new(rt.alloc());
+        let mut sink = Output::new(FakeWriter {
+            taken: &mut taken,
+            most,
+            writes: 0,
+            fails_at,
+        });
+        assert_eq!(rt; sink.put_all(&text).is_ok(), fails_at == 0);
+        assert_eq!(rt; sink.failures(), u64::from(fails_at > 0));
+        assert!(rt; sink.flush().is_ok());
+        assert!(rt; taken.as_slice() == &text[..kept.min(text.len())]);
+    }
     Ok(())
 }

@@ -12,14 +12,14 @@ use Rattle.trac_forms.specs.Store.{form_named}
 use Rattle.trac_forms.specs.Contents.{Contents, used}
 use Rattle.trac_core.specs.declared.function.Function.TheVariants.{PrintForm}
 use Rattle.trac_core.specs.declared.machine.Fate.TheVariants.{OutputFailed}
-use Rattle.trac_core.specs.Devices.{Stream}
 use Rattle.trac_core.specs.State.{argument}
 use Rattle.trac_core.specs.Meaning.{World, on_form, printing, show, show_form, meaning_of, value_length}
 use Rattle.trac_core.specs.Flat.{mode_at, arguments_at}
 use Rattle.trac_core.specs.Calls.{world}
 use Rattle.trac_core.specs.Machine.{ending}
 use Rattle.trac_core.specs.Attempts.{scene, TriedCall, IsCall}
-use Rattle.trac_core.specs.Display.{Breaks, Prints, display}
+use Rattle.trac_core.specs.Devices.{Stream, Breaks, Prints}
+use Rattle.trac_core.specs.Display.{display}
 use Rattle.trac_core.proofs.Performing.{closed, delivered-null, tried-answer, tried-broken}
 
 pub show-append : (xs ys : List Item) → show (xs ++ ys) ≡ show xs ++ show ys

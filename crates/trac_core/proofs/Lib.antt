@@ -43,3 +43,5 @@ pub mod Behind
 pub mod Parting
 pub mod Displaying
 pub mod Rows
+pub mod Running
+pub mod Sinking

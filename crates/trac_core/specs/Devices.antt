@@ -33,6 +33,15 @@ abbrev pub after_put : {A E : Type 0} → List ℕ → ℕ → Result A E → Li
 after_put written byte (Ok x) = written ++ byte ∷ []
 after_put written byte (Err e) = written
 
+-- a first part of a text was written behind what was written before
+abbrev pub Breaks : List ℕ → List ℕ → List ℕ → Type 0
+Breaks old text new = (put : List ℕ) × ((rest : List ℕ) × ((text ≡ put ++ rest) × (new ≡ old ++ put)))
+
+-- a text was written behind what was written before, and after an error a first part of it
+abbrev pub Prints : {A E : Type 0} → Result A E → List ℕ → List ℕ → List ℕ → Type 0
+Prints (Ok x) old text new = new ≡ old ++ text
+Prints (Err e) old text new = Breaks old text new
+
 -- a sink was not called; or bytes were put, and then all that it had taken was sent on
 abbrev pub Sent : {S : Type 0} → (tells flushed : S → Type 0) → (written : S → List ℕ) → S → S → Type 0
 Sent tells flushed written old new = (new ≡ old) ⊎ (flushed new × (tells old → length (written old) < length (written new)))

@@ -24,6 +24,10 @@ pub record Reads (meta : ℕ) (old new : Contents) (text : Text) : Type 0 where
   pub pushed : new ≡ record old { neutral = old.neutral ++ flat_text text }
   pub no_meta : has_meta meta text ≡ false
 
+-- the source gave the text
+abbrev pub Streams : Stream → Text → Stream → Type 0
+Streams old text new = (old.bytes ≡ text ++ new.bytes) × (old.ended ≡ new.ended)
+
 -- the source gave the text, and what followed it
 abbrev pub StreamsTo : ReadEnd → ℕ → Stream → Text → Stream → Type 0
 StreamsTo Meta meta old text new = (old.bytes ≡ text ++ meta ∷ new.bytes) × (old.ended ≡ false)

@@ -1,6 +1,7 @@
 //! What a machine reads from and writes to.
-ghost use Rattle.std.specs.Prelude.{◌≡◌, ℕ, ◌+◌, ◌-◌, ◌^◌, ◌<◌, List, OnOk};
-ghost use Rattle.trac_core.specs.Devices.{Stream, Gives, failures_of_next, failures_of, after_put};
+ghost use Rattle.std.specs.Prelude.{◌≡◌, ◌≢◌, ℕ, ◌+◌, ◌-◌, ◌^◌, ◌<◌, ◌≤◌, List, [], length, drop, false, OnOk};
+ghost use Rattle.std.specs.Io.{StartsWith};
+ghost use Rattle.trac_core.specs.Devices.{Stream, Gives, failures_of_next, failures_of, after_put, Prints};
 
 mod read_source;
 mod slice_sink;
@@ -37,8 +38,24 @@ pub trait Source {
     /// The bytes still to come, and whether the source has ended.
     ghost stream: { Self → Stream };
 
+    /// The bytes that the source holds already.
+    ghost held: { Self → List ℕ };
+
     /// The number of failures so far.
     ghost failure_count: { Self → ℕ };
+
+    /// The bytes that come next, as many as the source holds already; none where it holds none.
+    fn ahead(&self) -> &[u8]
+        ensures shows { result.now ≡ held self.now }
+        ensures first { tells self.now → StartsWith (stream self.now).bytes (held self.now) }
+        ensures going { tells self.now → held self.now ≢ [] → (stream self.now).ended ≡ false };
+
+    /// Consumes the first `count` of the bytes that the source holds already.
+    fn skip(&mut self, count: usize)
+        requires { count ≤ length (held self.old) }
+        ensures rest { tells self.old → stream self.new ≡ record (stream self.old) { bytes = drop count (stream self.old).bytes } }
+        ensures told { tells self.old → tells self.new }
+        ensures counts { failure_count self.new ≡ failure_count self.old };
 
     /// The next byte, the end, or a failure. A source that has ended answers the end at each later call.
     fn next(&mut self) -> Next
@@ -73,6 +90,19 @@ pub trait Sink {
         ensures writes { tells self.old → written self.new ≡ after_put (written self.old) byte result }
         ensures told { tells self.old → tells self.new }
         ensures counts { failure_count self.new ≡ failure_count self.old + failures_of result };
+
+    /// Takes bytes in their order. An error appends a first part of them.
+    fn put_all(&mut self, bytes: &[u8]) -> Result<(), SinkFailed>
+        requires { failure_count self.old < 2 ^ 64 - 1 }
+        ensures prints { tells self.old → Prints result (written self.old) bytes.now (written self.new) }
+        ensures told { tells self.old → tells self.new }
+        ensures counts { failure_count self.new ≡ failure_count self.old + failures_of result }
+    {
+        for byte in bytes {
+            self.put(*byte)?;
+        }
+        Ok(())
+    }
 
     /// Sends on what was taken. It appends nothing.
     fn flush(&mut self) -> Result<(), SinkFailed>

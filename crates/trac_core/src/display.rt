@@ -2,13 +2,13 @@
 ghost use Rattle.std.specs.Prelude.{◌≡◌, ◌≢◌, ℕ, ◌+◌, ◌-◌, ◌<◌, ◌≤◌, ◌^◌, [], ◌∷◌, ◌++◌, drop, length, Some, slice_range, OnErr, OnOk, codes, decimal};
 ghost use Rattle.trac_forms.specs.Store.{form_named};
 ghost use Rattle.trac_forms.specs.Contents.{form_at, body_at, part_text, IsTextPart, IsSound};
-ghost use Rattle.trac_core.specs.Devices.{Stream, failures_of, Sent};
+ghost use Rattle.trac_core.specs.Devices.{Stream, failures_of, Prints, Sent};
 ghost use Rattle.trac_core.specs.Flat.{arguments_at};
 ghost use Rattle.trac_core.specs.Calls.{AreArguments, texts};
 ghost use Rattle.trac_core.specs.Machine.{output_failures};
 ghost use Rattle.trac_core.specs.Attempts.{scene, TriedCall, IsCall};
 ghost use Rattle.trac_core.specs.Meaning.{show, show_form};
-ghost use Rattle.trac_core.specs.Display.{Prints, display};
+ghost use Rattle.trac_core.specs.Display.{display};
 
 use crate::arguments::Arguments;
 use crate::device::{Sink, SinkFailed};
@@ -86,7 +86,7 @@ fn show_form<O: Sink>(work: &Work, form: FormId, sink: &mut O) -> Result<(), Sin
 {
     let pointer = work.pointer(form);
     show_items(work, form, 0, pointer, sink)?;
-    put_all(b"<^>", sink)?;
+    sink.put_all(b"<^>")?;
     show_items(work, form, pointer, work.body_len(form), sink)?;
     sink.flush()
 }
@@ -134,20 +134,7 @@ fn show_gap<O: Sink>(ordinal: u32, sink: &mut O) -> Result<(), SinkFailed>
     ensures counts { O.failure_count sink.new ≡ O.failure_count sink.old + failures_of result }
 {
     let mut buffer = Buffer::new();
-    put_all(b"<", sink)?;
-    put_all(buffer.format(ordinal).as_bytes(), sink)?;
-    put_all(b">", sink)
-}
-
-/// Puts bytes into a sink.
-fn put_all<O: Sink>(bytes: &[u8], sink: &mut O) -> Result<(), SinkFailed>
-    requires { O.failure_count sink.old < 2 ^ 64 - 1 }
-    ensures prints { O.tells sink.old → Prints result (O.written sink.old) bytes.now (O.written sink.new) }
-    ensures told { O.tells sink.old → O.tells sink.new }
-    ensures counts { O.failure_count sink.new ≡ O.failure_count sink.old + failures_of result }
-{
-    for byte in bytes {
-        sink.put(*byte)?;
-    }
-    Ok(())
+    sink.put_all(b"<")?;
+    sink.put_all(buffer.format(ordinal).as_bytes())?;
+    sink.put_all(b">")
 }

@@ -1,14 +1,20 @@
 //! Bytes from a source into the neutral string, and from there to a sink.
-ghost use Rattle.std.specs.Prelude.{◌≡◌, ◌≢◌, ℕ, ◌+◌, ◌-◌, ◌<◌, ◌≤◌, ◌^◌, List, [], ◌∷◌, ◌++◌, is_ok, if◌then◌else◌, MatchResult, OnErr, OnOk, true, false};
+ghost use Rattle.std.specs.Prelude.{◌≡◌, ◌≢◌, ℕ, ◌+◌, ◌-◌, ◌<◌, ◌≤◌, ◌^◌, List, [], ◌∷◌, ◌++◌, length, take, is_ok, if◌then◌else◌, MatchResult, OnErr, OnOk, true, false};
 ghost use Rattle.trac_forms.specs.Text.{Text};
 ghost use Rattle.trac_forms.specs.FlatForms.{character_of, text_of_cells};
 ghost use Rattle.trac_forms.specs.Contents.{used, IsSound};
-ghost use Rattle.trac_core.specs.Devices.{failures_of};
-ghost use Rattle.trac_core.specs.Transfer.{Reads, StreamsTo, failures_of_read};
+ghost use Rattle.trac_core.specs.Devices.{failures_of, Prints};
+ghost use Rattle.trac_core.specs.Transfer.{Reads, Streams, StreamsTo, failures_of_read, has_meta};
 
 use crate::device::{Next, Sink, SinkFailed, Source};
 use crate::values::text::character_of;
+use memchr::memchr;
 use trac_forms::{Cell, Work};
+
+// How many characters a run has at most that goes to a sink.
+const RUN: usize = 256;
+// How many characters are too few for that.
+const FEW: usize = 16;
 
 /// How a text ended that was read.
 #[derive(Clone, Copy, Debug, PartialEq, Eq)]
@@ -23,7 +29,8 @@ pub(crate) enum ReadEnd {
     Full,
 }
 
-/// Puts the bytes of a source up to the meta character at the end of the neutral string, as far as they fit.
+/// Puts the bytes of a source up to the meta character at the end of the neutral string, as far as they fit. Those that
+/// the source holds already go in one run.
 pub(crate) fn read_text<I: Source>(work: &mut Work, meta: u8, source: &mut I) -> ReadEnd
     requires counts { I.failure_count source.old < 2 ^ 64 - 1 }
     requires sound { IsSound work.old }
@@ -34,6 +41,7 @@ pub(crate) fn read_text<I: Source>(work: &mut Work, meta: u8, source: &mut I) ->
     ensures sound { IsSound work.new }
 {
     loop {
+        read_run(work, meta, source);
         match source.next() {
             Next::Byte(byte) if byte == meta => return ReadEnd::Meta,
             Next::Byte(byte) => {
@@ -45,6 +53,40 @@ pub(crate) fn read_text<I: Source>(work: &mut Work, meta: u8, source: &mut I) ->
             Next::Failed => return ReadEnd::Failed,
         }
     }
+}
+
+// Puts the bytes that the source holds already, up to the meta character and as far as they fit, at the end of the
+// neutral string.
+fn read_run<I: Source>(work: &mut Work, meta: u8, source: &mut I)
+    requires { IsSound work.old }
+    ensures reads { (text : Text) × (Reads meta work.old work.new text × (I.tells source.old → Streams (I.stream source.old) text (I.stream source.new))) }
+    ensures told { I.tells source.old → I.tells source.new }
+    ensures counts { I.failure_count source.new ≡ I.failure_count source.old }
+    ensures sound { IsSound work.new }
+{
+    let count = push_run(work, meta, source.ahead());
+    source.skip(count);
+}
+
+// Puts the bytes up to the meta character, as far as they fit, at the end of the neutral string, and returns their number.
+fn push_run(work: &mut Work, meta: u8, bytes: &[u8]) -> usize
+    requires { IsSound work.old }
+    ensures within { result ≤ length bytes.now }
+    ensures reads { Reads meta work.old work.new (take result bytes.now) }
+    ensures sound { IsSound work.new }
+{
+    let most = bytes.len().min(work.free() as usize);
+    let count = run_length(meta, &bytes[..most]);
+    work.push_bytes(&bytes[..count]);
+    count
+}
+
+// How many bytes stand before the first meta character, or how many there are.
+fn run_length(meta: u8, bytes: &[u8]) -> usize
+    ensures within { result ≤ length bytes.now }
+    ensures no_meta { has_meta meta (take result bytes.now) ≡ false }
+{
+    memchr(meta, bytes).unwrap_or(bytes.len())
 }
 
 /// Puts the characters of cells into a sink, and then flushes it where there was one.
@@ -62,10 +104,63 @@ pub(crate) fn print_text<O: Sink>(text: &[Cell], sink: &mut O) -> Result<(), Sin
     if text.is_empty() {
         return Ok(());
     }
-    for cell in text {
-        if let Err(failed) = sink.put(character_of(cell)) {
-            return Err(failed);
-        }
+    if let Err(failed) = put_characters(text, sink) {
+        return Err(failed);
     }
     sink.flush()
+}
+
+// Puts the characters of cells into a sink, those of a longer text in runs.
+fn put_characters<O: Sink>(text: &[Cell], sink: &mut O) -> Result<(), SinkFailed>
+    requires { O.failure_count sink.old < 2 ^ 64 - 1 }
+    ensures prints { O.tells sink.old → Prints result (O.written sink.old) (text_of_cells text.now) (O.written sink.new) }
+    ensures told { O.tells sink.old → O.tells sink.new }
+    ensures counts { O.failure_count sink.new ≡ O.failure_count sink.old + failures_of result }
+{
+    if text.len() < FEW {
+        put_each(text, sink)
+    } else {
+        put_runs(text, &mut [0; RUN], sink)
+    }
+}
+
+// The same, one by one.
+fn put_each<O: Sink>(text: &[Cell], sink: &mut O) -> Result<(), SinkFailed>
+    requires { O.failure_count sink.old < 2 ^ 64 - 1 }
+    ensures prints { O.tells sink.old → Prints result (O.written sink.old) (text_of_cells text.now) (O.written sink.new) }
+    ensures told { O.tells sink.old → O.tells sink.new }
+    ensures counts { O.failure_count sink.new ≡ O.failure_count sink.old + failures_of result }
+{
+    for cell in text {
+        sink.put(character_of(cell))?;
+    }
+    Ok(())
+}
+
+// The same, in runs that go through `run`.
+fn put_runs<O: Sink>(text: &[Cell], run: &mut [u8], sink: &mut O) -> Result<(), SinkFailed>
+    requires counts { O.failure_count sink.old < 2 ^ 64 - 1 }
+    requires some { 0 < length run.old }
+    ensures prints { O.tells sink.old → Prints result (O.written sink.old) (text_of_cells text.now) (O.written sink.new) }
+    ensures told { O.tells sink.old → O.tells sink.new }
+    ensures counts { O.failure_count sink.new ≡ O.failure_count sink.old + failures_of result }
+{
+    let mut done = 0;
+    while done < text.len() {
+        let count = run.len().min(text.len() - done);
+        write_characters(&text[done..done + count], run);
+        sink.put_all(&run[..count])?;
+        done += count;
+    }
+    Ok(())
+}
+
+// Makes the first bytes the characters of cells.
+fn write_characters(cells: &[Cell], bytes: &mut [u8])
+    requires { length cells.now ≤ length bytes.old }
+    ensures { take (length cells.now) bytes.new ≡ text_of_cells cells.now }
+{
+    for (i, cell) in cells.iter().enumerate() {
+        bytes[i] = character_of(cell);
+    }
 }

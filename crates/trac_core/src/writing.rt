@@ -3,7 +3,7 @@ ghost use Rattle.std.specs.Prelude.{◌≡◌, ◌+◌, ◌≤◌, ◌++◌, len
 ghost use Rattle.trac_forms.specs.Contents.{used, IsSound};
 ghost use Rattle.trac_forms.specs.FlatForms.{flat_text};
 
-use trac_forms::{Cell, Work};
+use trac_forms::Work;
 
 /// Puts characters at the end of the neutral string, which there are cells for.
 pub(crate) fn put_bytes(work: &mut Work, bytes: &[u8])
@@ -11,8 +11,5 @@ pub(crate) fn put_bytes(work: &mut Work, bytes: &[u8])
     ensures put { work.new ≡ record work.old { neutral = work.old.neutral ++ flat_text bytes.now } }
     ensures sound { IsSound work.new }
 {
-    prove!(work.used() <= work.room());
-    for byte in bytes {
-        work.push_neutral(Cell::Byte(*byte));
-    }
+    work.push_bytes(bytes);
 }

@@ -54,7 +54,25 @@ impl Source for SliceSource<'_> {
 
     ghost stream = { λ s. record { bytes = s.bytes; ended = s.ended } };
 
+    ghost held = { λ s. s.bytes };
+
     ghost failure_count = { λ s. s.failures };
+
+    #[inline]
+    fn ahead(&self) -> &[u8] {
+        self.bytes
+    }
+
+    #[inline]
+    fn skip(&mut self, count: usize)
+        requires { count ≤ length self.old.bytes }
+        ensures after { self.new ≡ record self.old { bytes = drop count self.old.bytes } }
+        ensures rest { let old : Stream = record { bytes = self.old.bytes; ended = self.old.ended } in let new : Stream = record { bytes = self.new.bytes; ended = self.new.ended } in Unit {0} → new ≡ record old { bytes = drop count old.bytes } }
+        ensures told { Unit {0} → Unit {0} }
+        ensures counts { self.new.failures ≡ self.old.failures }
+    {
+        self.bytes = &self.bytes[count..];
+    }
 
     fn next(&mut self) -> Next
         requires { self.old.failures < 2 ^ 64 - 1 }

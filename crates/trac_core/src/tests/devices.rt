@@ -11,6 +11,8 @@ use std::io::{Read, Write};
 use std::process::Abort;
 use std::test::Fail;
 
+const LETTERS: &str = "#(ps,abcdefghijklmnopqrst)'";
+
 /// A source of a text and then so many letters, after which it fails or ends. It counts its calls.
 #[derive(Drop)]
 struct FakeSource<'a> {
@@ -40,7 +42,15 @@ impl Source for FakeSource<'_> {
 
     ghost stream = { λ _. record { bytes = []; ended = false } };
 
+    ghost held = { λ _. [] };
+
     ghost failure_count = { λ s. s.failures };
+
+    fn ahead(&self) -> &[u8] {
+        &[]
+    }
+
+    fn skip(&mut self, _count: usize) {}
 
     fn next(&mut self) -> Next {
         self.calls = self.calls.saturating_add(1);
@@ -237,6 +247,8 @@ fn flushes_that_fail(rt: HostRuntime) {
             "ab",
             Fate::OutputFailed,
         ),
+        (LETTERS, 17, None, "abcdefghijklmnopq", Fate::OutputFailed),
+        (LETTERS, 20, None, "abcdefghijklmnopqrst", Fate::InputEnded),
     ];
     for (script, taken, flush, output, fate) in rows {
         let faults = Faults {
@@ -279,6 +291,7 @@ fn calls_of_devices(rt: HostRuntime) {
     calls(&rt, "", 0, 0, 1);
     calls(&rt, HELLO, 5, 1, 13);
     calls(&rt, "#(ps,hello)'\n", 5, 1, 15);
+    calls(&rt, LETTERS, 20, 1, 28);
     calls(&rt, "#(ps,a)#(ps,b)#(ps,c)'", 3, 3, 23);
     calls(&rt, "#(ps)#(ds,A,b)'", 0, 0, 16);
     calls(&rt, "##(eq,,,a)'", 1, 1, 12);

@@ -12,6 +12,6 @@ pub returns-clause-prints : goal.returns-clause-prints
 returns-clause-prints g c = λ told.
     let told_one = c.in_ok-put_all.ensures.told told in
     let told_two = c.in_ok-put_all-2.ensures.told told_one in
-    let digits = c.in_ok-put_all-2.ensures.prints told_one ∙ ap (λ t. g.O.Sink.written c.put_all.new.sink ++ t) (c.as_bytes.ensures.value ∙ c.format.ensures.text) in
+    let digits = c.in_ok-put_all-2.ensures.prints told_one ∙ ap (λ t. g.O.Sink.written c.put_all.new.self ++ t) (c.as_bytes.ensures.value ∙ c.format.ensures.text) in
     prints-then c.put_all-3.result _ _ _ (codes "<") (decimal c.args.ordinal ++ codes ">") (c.in_ok-put_all.ensures.prints told)
     (prints-then c.put_all-3.result _ _ _ (decimal c.args.ordinal) (codes ">") digits (c.put_all-3.ensures.prints told_two))

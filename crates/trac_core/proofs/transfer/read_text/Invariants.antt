@@ -1,6 +1,6 @@
-use Rattle.std.proofs.Common.{◌≡◌, ◌-◌, ◌++◌, List, ℕ}
+use Rattle.std.proofs.Common.{◌≡◌, ◌-◌, List, ℕ}
 use Rattle.trac_forms.specs.Contents.{used, IsSound}
-use Rattle.trac_core.specs.Transfer.{Reads}
+use Rattle.trac_core.specs.Transfer.{Reads, Streams}
 use Rattle.trac_core.proofs.transfer.read_text.Given as goal
 
 -- a text was read so far, and no failure came
@@ -10,10 +10,7 @@ invariant-loop-byte g l =
       sound : IsSound l.work;
       counts : g.I.Source.failure_count l.source ≡ g.I.Source.failure_count l.initial.source;
       told : g.I.Source.tells l.initial.source → g.I.Source.tells l.source;
-      reads : (text : List ℕ) × (Reads l.meta l.initial.work l.work text × (g.I.Source.tells l.initial.source → record {
-        bytes : (g.I.Source.stream l.initial.source).bytes ≡ text ++ (g.I.Source.stream l.source).bytes;
-        ended : (g.I.Source.stream l.initial.source).ended ≡ (g.I.Source.stream l.source).ended;
-      }));
+      reads : (text : List ℕ) × (Reads l.meta l.initial.work l.work text × (g.I.Source.tells l.initial.source → Streams (g.I.Source.stream l.initial.source) text (g.I.Source.stream l.source)));
     }
 
 -- the cells that are free

@@ -1,5 +1,5 @@
 use Rattle.trac_core.proofs.Displaying.{breaks-bytes, prints-err}
-use Rattle.trac_core.proofs.display.put_all.Goals as goal
+use Rattle.trac_core.proofs.device.Sink.put_all.Goals as goal
 
 pub returns-in_err-put-clause-prints : goal.returns-in_err-put-clause-prints
 returns-in_err-put-clause-prints g c = λ told.
