@@ -128,11 +128,13 @@ fn close_none(work: &mut Work) -> u64
     ensures room { work.new.room ≡ work.old.room }
     ensures sound { IsSound work.new }
 {
-    if work.last_call().is_some() {
-        return 0;
+    match work.last_call() {
+        Some(_) => 0,
+        None => {
+            delete_parenthesis(work);
+            1
+        }
     }
-    delete_parenthesis(work);
-    1
 }
 
 /// The steps by which the ordinary characters at the front of the active string are added, at most so many, all at once.
