@@ -265,21 +265,8 @@ pub idling-need : (old : Contents) → old.active ≡ [] → (meta : ℕ) (input
 idling-need old none = (scans-idling old none).needs
 
 -- a mark or a character takes the place of characters of the active string
-pub push-after-drop : (old left new : Contents) (n : ℕ) (done : Bool) (cell : Cell) → IsSound old → 0 < n → n ≤ length old.active → left ≡ record old { active = drop n old.active } → (IsTrue done ↔ (used left < left.room)) → OnTrue done (new ≡ record left { neutral = left.neutral ++ cell ∷ [] }) → new ≡ record old { active = drop n old.active; neutral = old.neutral ++ cell ∷ [] }
-push-after-drop old left new n done cell sound some within left_is tells put =
-    let long = length-drop n old.active in
-    let fits = sound.fits in
-    let active : length left.active ≡ length (drop n old.active) = ap (λ (w : Contents). length w.active) left_is in
-    let neutral : length left.neutral ≡ length old.neutral = ap (λ (w : Contents). length w.neutral) left_is in
-    let forms : cells left.forms ≡ cells old.forms = ap (λ (w : Contents). cells w.forms) left_is in
-    let room : left.room ≡ old.room = ap (λ (w : Contents). w.room) left_is in
-    let done_is : done ≡ true = tells.1 (omega arith) in
-    let made : new ≡ record left { neutral = left.neutral ++ cell ∷ [] } = go done done_is put in
-    made ∙ ap (λ (w : Contents). record w { neutral = w.neutral ++ cell ∷ [] }) left_is
-  where
-    go : (b : Bool) → b ≡ true → OnTrue b (new ≡ record left { neutral = left.neutral ++ cell ∷ [] }) → new ≡ record left { neutral = left.neutral ++ cell ∷ [] }
-    go true e h = h
-    go false e h = absurd cc
+pub put-after-drop : (old left new : Contents) (n : ℕ) (cell : Cell) → left ≡ record old { active = drop n old.active } → new ≡ record left { neutral = left.neutral ++ cell ∷ [] } → new ≡ record old { active = drop n old.active; neutral = old.neutral ++ cell ∷ [] }
+put-after-drop old left new n cell left_is put = put ∙ ap (λ (w : Contents). record w { neutral = w.neutral ++ cell ∷ [] }) left_is
 
 -- what a search for a mark has told
 pub last-some : (o : Option ℕ) (P : Type 0) (Q : ℕ → Type 0) → is_some o ≡ true → MatchOption o P Q → (place : ℕ) × Q place

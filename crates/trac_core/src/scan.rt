@@ -306,7 +306,7 @@ fn begin_argument(work: &mut Work)
 {
     work.drop_active(1);
     if work.last_call().is_some() {
-        let _ = work.push_neutral(Cell::Comma);
+        work.put_neutral(Cell::Comma);
     }
 }
 
@@ -338,7 +338,7 @@ fn begin_call(work: &mut Work, characters: u32, mode: Mode)
     ensures sound { IsSound work.new }
 {
     work.drop_active(characters);
-    let _ = work.push_neutral(Cell::Call(mode, 0));
+    work.put_neutral(Cell::Call(mode, 0));
 }
 
 /// The first character of the active string goes to the end of the neutral one.
@@ -349,7 +349,7 @@ fn put_first(work: &mut Work, byte: u8)
     ensures sound { IsSound work.new }
 {
     work.drop_active(1);
-    let _ = work.push_neutral(Cell::Byte(byte));
+    work.put_neutral(Cell::Byte(byte));
 }
 
 /// Any other character is added.

@@ -2,17 +2,15 @@ use Rattle.std.proofs.Common.{sym, ap, ◌∙◌, subst, arith}
 use Rattle.trac_space.specs.Cells.{NoCall}
 use Rattle.trac_space.specs.Calls.{IsLastCall}
 use Rattle.trac_forms.specs.Contents.{Contents}
-use Rattle.trac_core.proofs.Scanning.{scans-comma, scans-comma-none, push-after-drop, some-active, last-some, last-none}
+use Rattle.trac_core.proofs.Scanning.{scans-comma, scans-comma-none, put-after-drop, last-some, last-none}
 use Rattle.trac_core.proofs.scan.begin_argument.Goals as goal
 
 pub returns-then-is_some-clause-scans : goal.returns-then-is_some-clause-scans
 returns-then-is_some-clause-scans c =
     let old = c.args.work.now in
-    let some = some-active old.active 44 c.requires.first in
     let last = last-some c.last_call.result _ _ (sym c.is_some.ensures ∙ c.if-is_some.true) c.last_call.ensures in
     let same = ap (λ (w : Contents). w.neutral) c.drop_active.ensures.rest in
-    rw (push-after-drop old c.drop_active.new.self c.push_neutral.new.self 1 c.push_neutral.result _ c.requires.sound (omega arith) (omega arith)
-    c.drop_active.ensures.rest c.push_neutral.ensures.pushed c.push_neutral.ensures.last)
+    rw (put-after-drop old c.drop_active.new.self c.put_neutral.new.self 1 _ c.drop_active.ensures.rest c.put_neutral.ensures.last)
     (scans-comma old last.0 c.requires.first (subst (λ n. IsLastCall n last.0) same last.1))
 
 pub returns-else-is_some-clause-scans : goal.returns-else-is_some-clause-scans
