@@ -65,12 +65,21 @@ fn before_comma(cells: &[Cell]) -> u32
     requires { length cells.now ≤ 16777216 }
     ensures { result ≡ before_comma cells.now }
 {
-    for (i, cell) in cells.iter().enumerate() {
-        if let Cell::Comma = cell {
+    let mut i = 0;
+    // Two in a turn: the turn costs more than a look.
+    while i + 1 < cells.len() {
+        if let Cell::Comma = cells[i] {
             return i as u32;
         }
+        if let Cell::Comma = cells[i + 1] {
+            return i as u32 + 1;
+        }
+        i += 2;
     }
-    cells.len() as u32
+    match cells.get(i) {
+        Some(Cell::Comma) | None => i as u32,
+        Some(_) => i as u32 + 1,
+    }
 }
 
 /// The cells of a part of the neutral string that is a text.

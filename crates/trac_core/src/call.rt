@@ -230,6 +230,7 @@ fn value_of(work: &mut Work, function: Function, arguments: Arguments) -> Made
 
 /// The call whose mark stands at the place leaves, and its value, which stands from another place on, goes before the
 /// active string or stays.
+#[inline]
 pub(crate) fn deliver(work: &mut Work, place: u32, from: u32, forced: bool)
     requires order { place < from }
     requires within { from ≤ length work.old.neutral }
