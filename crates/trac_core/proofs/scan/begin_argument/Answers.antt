@@ -1,4 +1,4 @@
-use Rattle.std.proofs.Common.{sym, ap, ◌∙◌, subst, arith}
+use Rattle.std.proofs.Common.{sym, ap, ◌∙◌, subst}
 use Rattle.trac_space.specs.Cells.{NoCall}
 use Rattle.trac_space.specs.Calls.{IsLastCall}
 use Rattle.trac_forms.specs.Contents.{Contents}
