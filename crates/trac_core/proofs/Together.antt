@@ -1,4 +1,5 @@
--- Steps in a row: ordinary characters are added one by one, and so are the steps of any rule that performs no call.
+-- Steps in a row: ordinary characters are added one by one, layout characters deleted, and the steps of any rule that
+-- performs no call follow one another.
 use Rattle.std.proofs.Common.{◌≡◌, ◌≢◌, ℕ, zero, suc, ◌≤◌, ◌+◌, Bool, true, false, ◌||◌, max, List, [], ◌∷◌, ◌++◌, length, take, drop, All, Some, slice_get, refl, sym, ap, ◌∙◌, subst, arith, append_assoc, append-nil, length-append}
 use Rattle.std.specs.Prelude.{◌==◌}
 use Rattle.std.proofs.lemmas.List.{length-drop}
@@ -11,9 +12,9 @@ use Rattle.trac_core.specs.State.{Memory}
 use Rattle.trac_core.specs.Rule.{is_layout}
 use Rattle.trac_core.specs.Flat.{memory_of}
 use Rattle.trac_core.specs.Attempts.{Scans}
-use Rattle.trac_core.specs.Together.{is_special, IsOrdinary, Passes, PassesTimes, peak_after}
+use Rattle.trac_core.specs.Together.{is_special, IsOrdinary, IsLayout, Passes, PassesTimes, peak_after}
 use Rattle.trac_core.proofs.FlatLemmas.{size-used}
-use Rattle.trac_core.proofs.Scanning.{scans-other}
+use Rattle.trac_core.proofs.Scanning.{scans-other, scans-layout}
 
 -- no rule of its own
 ordinary-layout : (c : ℕ) → IsOrdinary c → is_layout c ≡ false
@@ -68,6 +69,35 @@ characters-pass meta (suc n) w bytes within ordinary = go w.active refl (charact
     go (Comma ∷ rest) is later bytes within ordinary = absurd (All-head IsByte Comma rest bytes)
     go (Gap k ∷ rest) is later bytes within ordinary = absurd (All-head IsByte (Gap k) rest bytes)
     go (Head k ∷ rest) is later bytes within ordinary = absurd (All-head IsByte (Head k) rest bytes)
+
+-- the contents without the first n cells of active
+abbrev pub dropped : ℕ → Contents → Contents
+dropped n w = record w { active = drop n w.active }
+
+pub layouts-pass : (meta n : ℕ) (w : Contents) → All IsByte w.active → n ≤ length w.active → All IsLayout (take n (text_of_cells w.active)) → PassesTimes n (memory_of meta w) (memory_of meta (dropped n w))
+layouts-pass meta zero w bytes within layout = refl
+layouts-pass meta (suc n) w bytes within layout = go w.active refl (layouts-pass meta n) bytes within layout
+  where
+    go : (active : List Cell) → w.active ≡ active → ((w : Contents) → All IsByte w.active → n ≤ length w.active → All IsLayout (take n (text_of_cells w.active)) → PassesTimes n (memory_of meta w) (memory_of meta (dropped n w))) → All IsByte active → suc n ≤ length active → All IsLayout (take (suc n) (text_of_cells active)) → PassesTimes (suc n) (memory_of meta w) (memory_of meta (dropped (suc n) w))
+    go [] is later bytes within layout = absurd (omega arith)
+    go (Byte c ∷ rest) is later bytes within layout =
+        let first : slice_get (text_of_cells w.active) 0 ≡ Some c = ap (λ cells. slice_get (text_of_cells cells) 0) is in
+        let next : Contents = dropped 1 w in
+        let scans = scans-layout w c first (All-head IsLayout c (take n (text_of_cells rest)) layout) in
+        let long : length w.active ≡ suc (length rest) = ap length is in
+        let more = length-drop 1 w.active in
+        let fewer : used next ≤ used w = omega arith in
+        let after : drop 1 w.active ≡ rest = ap (drop 1) is in
+        let others : PassesTimes n (memory_of meta next) (memory_of meta (dropped n next)) =
+        later next (subst (All IsByte) (sym after) (All-tail IsByte (Byte c) rest bytes)) (omega arith)
+        (subst (λ cells. All IsLayout (take n (text_of_cells cells))) (sym after) (All-tail IsLayout c (take n (text_of_cells rest)) layout)) in
+        let end : dropped n next ≡ dropped (suc n) w =
+        ap (λ cells. record w { active = drop n cells }) after ∙ ap (λ cells. record w { active = drop (suc n) cells }) (sym is) in
+        (memory_of meta next, (passes-scans meta w next scans fewer, subst (λ v. PassesTimes n (memory_of meta next) (memory_of meta v)) end others))
+    go (Call mode k ∷ rest) is later bytes within layout = absurd (All-head IsByte (Call mode k) rest bytes)
+    go (Comma ∷ rest) is later bytes within layout = absurd (All-head IsByte Comma rest bytes)
+    go (Gap k ∷ rest) is later bytes within layout = absurd (All-head IsByte (Gap k) rest bytes)
+    go (Head k ∷ rest) is later bytes within layout = absurd (All-head IsByte (Head k) rest bytes)
 
 -- one step, and some and then others
 pub passes-once : (old new : Memory) → Passes old new → PassesTimes 1 old new

@@ -1,5 +1,5 @@
 -- Steps that perform no call in a row, which are done at once.
-use Rattle.std.specs.Prelude.{◌≡◌, ℕ, zero, suc, max, Bool, false, ◌||◌, ◌==◌, ◌+◌, ◌≤◌}
+use Rattle.std.specs.Prelude.{◌≡◌, ℕ, zero, suc, max, Bool, true, false, ◌||◌, ◌==◌, ◌+◌, ◌≤◌}
 use Rattle.trac_forms.specs.Text.{Text}
 use Rattle.trac_core.specs.State.{Input, Memory, size}
 use Rattle.trac_core.specs.Rule.{is_layout}
@@ -12,6 +12,10 @@ is_special c = is_layout c || (c == 35) || (c == 40) || (c == 41) || (c == 44)
 
 abbrev pub IsOrdinary : ℕ → Type 0
 IsOrdinary c = is_special c ≡ false
+
+-- a character that is deleted
+abbrev pub IsLayout : ℕ → Type 0
+IsLayout c = is_layout c ≡ true
 
 -- a step that reads and prints nothing leads from one memory to another that isn't larger, and needs the cells of the first
 pub record Passes (old new : Memory) : Type 0 where

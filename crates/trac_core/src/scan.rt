@@ -7,7 +7,7 @@ ghost use Rattle.trac_core.specs.Protected.{protected};
 ghost use Rattle.trac_core.specs.Rule.{is_layout};
 ghost use Rattle.trac_core.specs.Attempts.{Scans, Scanned, ClosesNone};
 ghost use Rattle.trac_core.specs.Flat.{memory_of};
-ghost use Rattle.trac_core.specs.Together.{is_special, IsOrdinary, PassesTimes};
+ghost use Rattle.trac_core.specs.Together.{is_special, IsOrdinary, IsLayout, PassesTimes};
 
 use crate::machine::Fate;
 use crate::values::text::character_of;
@@ -91,8 +91,8 @@ pub(crate) fn scan_on(work: &mut Work, most: u64) -> u64
     }
 }
 
-/// The steps of the rule that fits the beginning of the active string, at most so many: all of a run of ordinary characters at
-/// once, and one of another rule. Gives how many they were, none where that rule performs a call.
+/// The steps of the rule that fits the beginning of the active string, at most so many: all of a run of ordinary characters, or
+/// of layout characters, at once, and one of another rule. Gives how many they were, none where that rule performs a call.
 #[inline]
 fn pass(work: &mut Work, most: u64) -> u64
     requires sound { IsSound work.old }
@@ -107,7 +107,7 @@ fn pass(work: &mut Work, most: u64) -> u64
     }
     match character(work, 0) {
         None => return 0,
-        Some(b'\t' | b'\n' | b'\r') => delete_layout(work),
+        Some(b'\t' | b'\n' | b'\r') => return delete_layouts(work, most),
         Some(b'(') => protect(work),
         Some(b')') => return close_none(work),
         Some(b',') => begin_argument(work),
@@ -148,11 +148,62 @@ fn add_characters(work: &mut Work, most: u64) -> u64
     ensures room { work.new.room ≡ work.old.room }
     ensures sound { IsSound work.new }
 {
-    let all = work.active_len();
-    let most = most.min(u64::from(all)) as u32;
-    let count = ordinary_characters(work.active_part(0, most));
+    let count = ordinary_characters(front(work, most));
     work.active_to_neutral(count);
     u64::from(count)
+}
+
+/// The steps by which the layout characters at the front of the active string are deleted, at most so many, all at once.
+/// Gives how many they were.
+#[inline]
+fn delete_layouts(work: &mut Work, most: u64) -> u64
+    requires sound { IsSound work.old }
+    ensures passes { (meta : ℕ) → PassesTimes result (memory_of meta work.old) (memory_of meta work.new) }
+    ensures few { result ≤ most }
+    ensures shorter { result ≢ 0 → length work.new.active < length work.old.active }
+    ensures room { work.new.room ≡ work.old.room }
+    ensures sound { IsSound work.new }
+{
+    let count = layout_characters(front(work, most));
+    work.drop_active(count);
+    u64::from(count)
+}
+
+/// The first cells of the active string, at most so many.
+#[inline]
+fn front<'a>(work: &'a Work, most: u64) -> &'a [Cell]
+    requires sound { IsSound work.now }
+    ensures text { text_of_cells result.now ≡ take (length result.now) (text_of_cells work.now.active) }
+    ensures few { length result.now ≤ most }
+    ensures within { length result.now ≤ length work.now.active }
+    ensures bounded { length result.now ≤ 16777216 }
+    ensures bytes { All IsByte result.now }
+{
+    let all = work.active_len();
+    work.active_part(0, most.min(u64::from(all)) as u32)
+}
+
+/// How many layout characters begin the cells.
+fn layout_characters(cells: &[Cell]) -> u32
+    requires few { length cells.now ≤ 16777216 }
+    requires bytes { All IsByte cells.now }
+    ensures within { result ≤ length cells.now }
+    ensures layout { All IsLayout (take result (text_of_cells cells.now)) }
+{
+    for (i, cell) in cells.iter().enumerate() {
+        if !is_layout(byte_in(cell)) {
+            return i as u32;
+        }
+    }
+    cells.len() as u32
+}
+
+/// Whether a character is a tab, a line feed or a carriage return.
+#[inline]
+fn is_layout(character: u8) -> bool
+    ensures { result ≡ is_layout character }
+{
+    matches!(character, b'\t' | b'\n' | b'\r')
 }
 
 /// How many ordinary characters begin the cells.

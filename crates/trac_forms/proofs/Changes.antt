@@ -36,7 +36,7 @@ defined-stored s t u count last start a b from to rest_count begins h name_in te
     let counted_all = length_push rest form in
     let first = take_at rest (form ∷ []) (length rest) refl in
     let place : begins ≡ start_of all (length rest) = begin ∙ ap (λ v. length v.store) gone ∙ ap (λ fs. length (flat_forms fs)) (sym first) in
-    restored s u all (rest_count + 1) rest_count begins h.sound (IsStore-defined name text forms h.sound.forms) room is (omega arith) (place ∙ ap (start_of all) (sym counted))
+    restored s u all (rest_count + 1) rest_count begins h.sound (IsStore-defined name text forms h.sound.forms) room is (omega arith) (omega arith) (place ∙ ap (start_of all) (sym counted))
 
 -- the store is still as long as what stands before the gaps
 pub gapped-long : (s t : Lists) (from : ℕ) (gapped rest : List Cell) → from ≤ length s.store → t ≡ record s { store = take from s.store ++ gapped ++ rest } → from ≤ length t.store
@@ -66,4 +66,4 @@ segmented-stored s t u v count last begins k start name body end a b ordinal h w
     let fewer : form_cells new ≤ form_cells form = omega (arith, shorter, to_is) in
     let less = cells-set forms k new within fewer in
     let used = used-stored s h.whole in
-    (is, restored s v (set forms k new) count k start h.sound (IsStore-set forms k new refl (omega arith) h.sound.forms) (omega (arith, ap length h.whole, h.sound.fits)) is (omega (arith, h.count_is, length-set forms k new)) (start_is ∙ sym (start_of-set forms k new)))
+    (is, restored s v (set forms k new) count k start h.sound (IsStore-set forms k new refl (omega arith) h.sound.forms) (omega (arith, ap length h.whole, h.sound.fits)) is (omega (arith, h.count_is, length-set forms k new)) (omega (arith, h.count_is, within)) (start_is ∙ sym (start_of-set forms k new)))

@@ -257,6 +257,12 @@ module _ (old now : Lists) (given : List Text) (at end n : ℕ) (whole : Text) (
       let long = length-between old.store at (at + n) (omega (arith, run-few old.store at end n cells order within shown_old few bytes)) in
       filled-full old now whole (text_of_cells (slice_range old.store at (at + n))) _ _ put run-split (omega (arith, full, size, long))
 
+  -- and so many cells fewer are free
+  pub run-free : (mid : Lists) → mid ≡ record now { neutral = now.neutral ++ slice_range now.store at (at + n) } → (free : ℕ) → free + used now ≡ now.room → at + n - at ≤ free → free - (at + n - at) + used mid ≡ mid.room
+  run-free mid is free before enough =
+      let long = length-between now.store at (at + n) (omega (arith, run-few old.store at end n cells order within shown_old few bytes, ap length store_is)) in
+      omega (arith, before, enough, ap used is, ap (λ (w : Lists). w.room) is, length-append now.neutral (slice_range now.store at (at + n)), long)
+
 -- the gap behind it is filled
 module _ (old now : Lists) (parts : List (ℕ × ℕ)) (gap end : ℕ) (whole : Text) (are : AreTextParts old.neutral parts) (put : Filled old now whole (filled (part_texts old.neutral parts) (slice_range old.store gap end))) (less : gap < end) (within : end ≤ length old.store) (stop : is_byte_cell (get_or old.store gap Comma) ≡ false) (a b : ℕ) (part_is : (a, b) ≡ get_or ((0, 0) ∷ parts) (gap_ordinal now.store gap) (0, 0)) where
   number : gap_ordinal now.store gap ≡ gap_ordinal old.store gap
@@ -293,3 +299,9 @@ module _ (old now : Lists) (parts : List (ℕ × ℕ)) (gap end : ℕ) (whole : 
       let size = length-map (slice_range old.neutral a b) character_of in
       let long = length-between old.neutral a b is_part.within in
       filled-full old now whole (part_text old.neutral a b) _ _ put gap-split (omega (arith, full, size, long))
+
+  -- and so many cells fewer are free
+  pub gap-free : (new : Lists) → new ≡ record now { neutral = now.neutral ++ slice_range now.neutral a b } → (free : ℕ) → free + used now ≡ now.room → b - a ≤ free → free - (b - a) + used new ≡ new.room
+  gap-free new is free before enough =
+      let long = length-between now.neutral a b gap-part.within in
+      omega (arith, before, enough, ap used is, ap (λ (w : Lists). w.room) is, length-append now.neutral (slice_range now.neutral a b), long)

@@ -56,18 +56,23 @@ fn fill_cells(space: &mut Space, from: u32, end: u32, parts: &[(u32, u32)]) -> b
     ensures some { OnFalse result ((done : Text) × (space.new ≡ record space.old { neutral = space.old.neutral ++ flat_text done })) }
 {
     let mut at = from;
+    let mut free = space.free();
     loop {
         let gap = at + characters(space.store_part(at, end));
-        if !space.copy_store(at, gap) {
+        if free < gap - at {
             return false;
         }
+        free -= gap - at;
+        space.put_from_store(at, gap);
         if gap == end {
             return true;
         }
         let part = numbered(parts, ordinal(space, gap));
-        if !space.copy_neutral(part.0, part.1) {
+        if free < part.1 - part.0 {
             return false;
         }
+        free -= part.1 - part.0;
+        space.put_from_neutral(part.0, part.1);
         at = gap + 1;
     }
 }
@@ -98,13 +103,11 @@ fn ordinal(space: &Space, i: u32) -> u32
     }
 }
 
-// The part of this number, from 1; a null one where there is none.
+// The part of this number, from 1; a null one where there is none. No list has a place as high as that before 0.
 #[inline]
 fn numbered(parts: &[(u32, u32)], number: u32) -> (u32, u32)
     ensures { result ≡ get_or ((0, 0) ∷ parts.now) number (0, 0) }
 {
-    match number.checked_sub(1) {
-        Some(i) => parts.get(i as usize).copied().unwrap_or((0, 0)),
-        None => (0, 0),
-    }
+    let place = (number as usize).wrapping_sub(1);
+    parts.get(place).copied().unwrap_or((0, 0))
 }

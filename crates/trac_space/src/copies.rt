@@ -1,13 +1,15 @@
 //! Moves of cells within a block.
-ghost use Rattle.std.specs.Prelude.{◌≡◌, ◌+◌, ◌-◌, ◌≤◌, ◌⊎◌, length};
+ghost use Rattle.std.specs.Prelude.{◌≡◌, ◌+◌, ◌-◌, ◌≤◌, ◌<◌, ◌⊎◌, length};
 ghost use Rattle.std.specs.List.{copy_within};
 
 use crate::cell::Cell;
 
-// How many cells a long move takes at once.
+// How many cells a long move takes at once where they don't overlap their new place.
 const PART: usize = 256;
-// How far a long move has to go for that.
-const FAR: usize = 64;
+// How many where they do: these go through cells beside the block.
+const BESIDE: usize = 64;
+// How many cells are too few for that.
+const FEW: usize = 24;
 
 // As `copy_within`. A short move goes cell by cell.
 #[inline]
@@ -53,7 +55,7 @@ fn copy_more(cells: &mut [Cell], start: usize, end: usize, to: usize)
     copy_cells(cells, start, end, to);
 }
 
-// The same. Where the two places are apart, or far enough from one another, the cells go as blocks of memory.
+// The same. Where the two places are apart, or there are cells enough, they go as blocks of memory.
 #[inline(never)]
 fn copy_long(cells: &mut [Cell], start: usize, end: usize, to: usize)
     requires order { start ≤ end }
@@ -64,12 +66,12 @@ fn copy_long(cells: &mut [Cell], start: usize, end: usize, to: usize)
 {
     if end <= to || to + (end - start) <= start {
         copy_apart(cells, start, end, to);
-    } else if start + FAR <= to {
-        copy_up(cells, start, end, to);
-    } else if to + FAR <= start {
-        copy_down(cells, start, end, to);
-    } else {
+    } else if end - start < FEW {
         cells.copy_within(start..end, to);
+    } else if start <= to {
+        copy_up(cells, start, end, to);
+    } else {
+        copy_down(cells, start, end, to);
     }
 }
 
@@ -93,40 +95,60 @@ fn copy_apart(cells: &mut [Cell], start: usize, end: usize, to: usize)
     }
 }
 
-// The same, to a place far enough behind: the last part first.
-#[inline(never)]
+// The same, to a place behind: the last part first.
 fn copy_up(cells: &mut [Cell], start: usize, end: usize, to: usize)
     requires order { start ≤ end }
     requires room { to + (end - start) ≤ length cells.old }
-    requires far { start + 64 ≤ to }
+    requires behind { start ≤ to }
     ensures len { length cells.new ≡ length cells.old }
     ensures after { cells.new ≡ copy_within cells.old start end to }
 {
-    let part = PART.min(to - start);
+    let mut beside = [Cell::Byte(0); BESIDE];
+    let part = (to - start).clamp(BESIDE, PART);
     let mut left = end - start;
     while left > 0 {
         let last = left;
         left -= part.min(left);
-        copy_apart(cells, start + left, start + last, to + left);
+        copy_part(cells, start + left, start + last, to + left, &mut beside);
     }
 }
 
-// The same, to a place far enough before: the first part first.
-#[inline(never)]
+// The same, to a place before: the first part first.
 fn copy_down(cells: &mut [Cell], start: usize, end: usize, to: usize)
     requires order { start ≤ end }
     requires within { end ≤ length cells.old }
-    requires far { to + 64 ≤ start }
+    requires before { to ≤ start }
     ensures len { length cells.new ≡ length cells.old }
     ensures after { cells.new ≡ copy_within cells.old start end to }
 {
-    let part = PART.min(start - to);
+    let mut beside = [Cell::Byte(0); BESIDE];
+    let part = (start - to).clamp(BESIDE, PART);
     let all = end - start;
     let mut done = 0;
     while done < all {
         let first = done;
         done += part.min(all - done);
-        copy_apart(cells, start + first, start + done, to + first);
+        copy_part(cells, start + first, start + done, to + first, &mut beside);
+    }
+}
+
+// The same for one part, which goes through the cells `beside` where they are enough.
+#[inline]
+fn copy_part(cells: &mut [Cell], start: usize, end: usize, to: usize, beside: &mut [Cell])
+    requires order { start ≤ end }
+    requires within { end ≤ length cells.old }
+    requires room { to + (end - start) ≤ length cells.old }
+    requires apart { length beside.old < end - start → (end ≤ to) ⊎ (to + (end - start) ≤ start) }
+    ensures len { length cells.new ≡ length cells.old }
+    ensures after { cells.new ≡ copy_within cells.old start end to }
+    ensures beside { length beside.new ≡ length beside.old }
+{
+    let n = end - start;
+    if n <= beside.len() {
+        beside[..n].copy_from_slice(&cells[start..end]);
+        cells[to..to + n].copy_from_slice(&beside[..n]);
+    } else {
+        copy_apart(cells, start, end, to);
     }
 }
 

@@ -9,6 +9,3 @@ returns-in-Some-eq44-clause-passes c = λ meta. passes-once _ _ (passes-scans me
 
 pub returns-in-Some-eq35-clause-passes : goal.returns-in-Some-eq35-clause-passes
 returns-in-Some-eq35-clause-passes c = λ meta. passes-once _ _ (passes-scans meta c.args.work.now c.number_sign.new.work c.number_sign.ensures.scans c.number_sign.ensures.no_larger)
-
-pub returns-in-Some-eq9-clause-passes : goal.returns-in-Some-eq9-clause-passes
-returns-in-Some-eq9-clause-passes c = λ meta. passes-once _ _ (passes-scans meta c.args.work.now c.delete_layout.new.work c.delete_layout.ensures.scans c.delete_layout.ensures.no_larger)

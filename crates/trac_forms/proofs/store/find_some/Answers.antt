@@ -8,19 +8,19 @@ use Rattle.trac_forms.specs.FlatForms.{flat_text, text_of_cells}
 use Rattle.trac_forms.specs.Contents.{form_at, IsByte}
 use Rattle.trac_forms.proofs.Finding.{begins_at, is_head, number_is, bytes-flat}
 use Rattle.trac_forms.proofs.FlatLemmas.{Byte-character_of, character_of-Byte}
-use Rattle.trac_forms.proofs.Stores.{NoneNamed-more}
+use Rattle.trac_forms.proofs.Stores.{NoneNamed-further}
 use Rattle.trac_forms.proofs.store.find_some.Goals as goal
 
 pub offset_bounds-store-at : goal.offset_bounds-store-at
 offset_bounds-store-at c =
     let store = c.args.store.now in
     let forms = forms_in (map seen store) in
-    let k = c.args.count - c.loop-left.left in
+    let k = c.args.end - c.loop-left.left in
     let at = c.loop-left.at in
     let start = at - 3 in
     let begins : start ≡ start_of forms k = omega (arith, c.loop-left.invariant.begins) in
     let at_is : at ≡ start + 3 = omega (arith, c.loop-left.invariant.begins) in
-    let within : k < length forms = omega (arith, c.requires.count_is, c.loop-left.invariant.fewer) in
+    let within : k < length forms = omega (arith, c.requires.within, c.requires.order, c.loop-left.invariant.fewer) in
     let b = begins_at store k start c.requires.whole within begins in
     omega (arith, b.end)
 
@@ -28,12 +28,12 @@ pub bounds-store-at : goal.bounds-store-at
 bounds-store-at c =
     let store = c.args.store.now in
     let forms = forms_in (map seen store) in
-    let k = c.args.count - c.loop-left.left in
+    let k = c.args.end - c.loop-left.left in
     let at = c.loop-left.at in
     let start = at - 3 in
     let begins : start ≡ start_of forms k = omega (arith, c.loop-left.invariant.begins) in
     let at_is : at ≡ start + 3 = omega (arith, c.loop-left.invariant.begins) in
-    let within : k < length forms = omega (arith, c.requires.count_is, c.loop-left.invariant.fewer) in
+    let within : k < length forms = omega (arith, c.requires.within, c.requires.order, c.loop-left.invariant.fewer) in
     let b = begins_at store k start c.requires.whole within begins in
     omega (arith, b.end)
 
@@ -41,12 +41,12 @@ pub number_in_head-len-requires : goal.number_in_head-len-requires
 number_in_head-len-requires c =
     let store = c.args.store.now in
     let forms = forms_in (map seen store) in
-    let k = c.args.count - c.loop-left.left in
+    let k = c.args.end - c.loop-left.left in
     let at = c.loop-left.at in
     let start = at - 3 in
     let begins : start ≡ start_of forms k = omega (arith, c.loop-left.invariant.begins) in
     let at_is : at ≡ start + 3 = omega (arith, c.loop-left.invariant.begins) in
-    let within : k < length forms = omega (arith, c.requires.count_is, c.loop-left.invariant.fewer) in
+    let within : k < length forms = omega (arith, c.requires.within, c.requires.order, c.loop-left.invariant.fewer) in
     let b = begins_at store k start c.requires.whole within begins in
     let form = form_at forms k in
     is_head (get_or store start (Byte 0)) (length form.name) b.name_len
@@ -55,12 +55,12 @@ pub is_text_at-requires-clause-within : goal.is_text_at-requires-clause-within
 is_text_at-requires-clause-within c =
     let store = c.args.store.now in
     let forms = forms_in (map seen store) in
-    let k = c.args.count - c.loop-left.left in
+    let k = c.args.end - c.loop-left.left in
     let at = c.loop-left.at in
     let start = at - 3 in
     let begins : start ≡ start_of forms k = omega (arith, c.loop-left.invariant.begins) in
     let at_is : at ≡ start + 3 = omega (arith, c.loop-left.invariant.begins) in
-    let within : k < length forms = omega (arith, c.requires.count_is, c.loop-left.invariant.fewer) in
+    let within : k < length forms = omega (arith, c.requires.within, c.requires.order, c.loop-left.invariant.fewer) in
     let b = begins_at store k start c.requires.whole within begins in
     let form = form_at forms k in
     let len : c.number_in_head-len.result ≡ length form.name = c.number_in_head-len.ensures ∙ number_is (get_or store start (Byte 0)) (length form.name) b.name_len in
@@ -70,12 +70,12 @@ pub is_text_at-requires-clause-part_bytes : goal.is_text_at-requires-clause-part
 is_text_at-requires-clause-part_bytes c =
     let store = c.args.store.now in
     let forms = forms_in (map seen store) in
-    let k = c.args.count - c.loop-left.left in
+    let k = c.args.end - c.loop-left.left in
     let at = c.loop-left.at in
     let start = at - 3 in
     let begins : start ≡ start_of forms k = omega (arith, c.loop-left.invariant.begins) in
     let at_is : at ≡ start + 3 = omega (arith, c.loop-left.invariant.begins) in
-    let within : k < length forms = omega (arith, c.requires.count_is, c.loop-left.invariant.fewer) in
+    let within : k < length forms = omega (arith, c.requires.within, c.requires.order, c.loop-left.invariant.fewer) in
     let b = begins_at store k start c.requires.whole within begins in
     let form = form_at forms k in
     let len : c.number_in_head-len.result ≡ length form.name = c.number_in_head-len.ensures ∙ number_is (get_or store start (Byte 0)) (length form.name) b.name_len in
@@ -87,12 +87,12 @@ pub returns-then-is_text_at : goal.returns-then-is_text_at
 returns-then-is_text_at c =
     let store = c.args.store.now in
     let forms = forms_in (map seen store) in
-    let k = c.args.count - c.loop-left.left in
+    let k = c.args.end - c.loop-left.left in
     let at = c.loop-left.at in
     let start = at - 3 in
     let begins : start ≡ start_of forms k = omega (arith, c.loop-left.invariant.begins) in
     let at_is : at ≡ start + 3 = omega (arith, c.loop-left.invariant.begins) in
-    let within : k < length forms = omega (arith, c.requires.count_is, c.loop-left.invariant.fewer) in
+    let within : k < length forms = omega (arith, c.requires.within, c.requires.order, c.loop-left.invariant.fewer) in
     let b = begins_at store k start c.requires.whole within begins in
     let form = form_at forms k in
     let len : c.number_in_head-len.result ≡ length form.name = c.number_in_head-len.ensures ∙ number_is (get_or store start (Byte 0)) (length form.name) b.name_len in
@@ -108,12 +108,12 @@ pub offset_bounds-store-at-in-loop-left : goal.offset_bounds-store-at-in-loop-le
 offset_bounds-store-at-in-loop-left c =
     let store = c.args.store.now in
     let forms = forms_in (map seen store) in
-    let k = c.args.count - c.loop-left.left in
+    let k = c.args.end - c.loop-left.left in
     let at = c.loop-left.at in
     let start = at - 3 in
     let begins : start ≡ start_of forms k = omega (arith, c.loop-left.invariant.begins) in
     let at_is : at ≡ start + 3 = omega (arith, c.loop-left.invariant.begins) in
-    let within : k < length forms = omega (arith, c.requires.count_is, c.loop-left.invariant.fewer) in
+    let within : k < length forms = omega (arith, c.requires.within, c.requires.order, c.loop-left.invariant.fewer) in
     let b = begins_at store k start c.requires.whole within begins in
     omega (arith, b.end)
 
@@ -121,12 +121,12 @@ pub bounds-store-at-in-loop-left : goal.bounds-store-at-in-loop-left
 bounds-store-at-in-loop-left c =
     let store = c.args.store.now in
     let forms = forms_in (map seen store) in
-    let k = c.args.count - c.loop-left.left in
+    let k = c.args.end - c.loop-left.left in
     let at = c.loop-left.at in
     let start = at - 3 in
     let begins : start ≡ start_of forms k = omega (arith, c.loop-left.invariant.begins) in
     let at_is : at ≡ start + 3 = omega (arith, c.loop-left.invariant.begins) in
-    let within : k < length forms = omega (arith, c.requires.count_is, c.loop-left.invariant.fewer) in
+    let within : k < length forms = omega (arith, c.requires.within, c.requires.order, c.loop-left.invariant.fewer) in
     let b = begins_at store k start c.requires.whole within begins in
     omega (arith, b.end, at_is)
 
@@ -134,28 +134,28 @@ pub number_in_head-requires : goal.number_in_head-requires
 number_in_head-requires c =
     let store = c.args.store.now in
     let forms = forms_in (map seen store) in
-    let k = c.args.count - c.loop-left.left in
+    let k = c.args.end - c.loop-left.left in
     let at = c.loop-left.at in
     let start = at - 3 in
     let begins : start ≡ start_of forms k = omega (arith, c.loop-left.invariant.begins) in
     let at_is : at ≡ start + 3 = omega (arith, c.loop-left.invariant.begins) in
-    let within : k < length forms = omega (arith, c.requires.count_is, c.loop-left.invariant.fewer) in
+    let within : k < length forms = omega (arith, c.requires.within, c.requires.order, c.loop-left.invariant.fewer) in
     let b = begins_at store k start c.requires.whole within begins in
     let form = form_at forms k in
     let second : at - 2 ≡ start + 1 = omega (arith, at_is) in
     let body_cell : get_or store (at - 2) (Byte 0) ≡ Head (length form.body) = ap (λ i. get_or store i (Byte 0)) second ∙ b.body_len in
     is_head (get_or store (at - 2) (Byte 0)) (length form.body) body_cell
 
-pub overflow_add-at-in-loop-left-2 : goal.overflow_add-at-in-loop-left-2
-overflow_add-at-in-loop-left-2 c =
+pub overflow_add-at-in-loop-left-3 : goal.overflow_add-at-in-loop-left-3
+overflow_add-at-in-loop-left-3 c =
     let store = c.args.store.now in
     let forms = forms_in (map seen store) in
-    let k = c.args.count - c.loop-left.left in
+    let k = c.args.end - c.loop-left.left in
     let at = c.loop-left.at in
     let start = at - 3 in
     let begins : start ≡ start_of forms k = omega (arith, c.loop-left.invariant.begins) in
     let at_is : at ≡ start + 3 = omega (arith, c.loop-left.invariant.begins) in
-    let within : k < length forms = omega (arith, c.requires.count_is, c.loop-left.invariant.fewer) in
+    let within : k < length forms = omega (arith, c.requires.within, c.requires.order, c.loop-left.invariant.fewer) in
     let b = begins_at store k start c.requires.whole within begins in
     let form = form_at forms k in
     let len : c.number_in_head-len.result ≡ length form.name = c.number_in_head-len.ensures ∙ number_is (get_or store start (Byte 0)) (length form.name) b.name_len in
@@ -168,12 +168,12 @@ pub loop-left-preserved : goal.loop-left-preserved
 loop-left-preserved c =
     let store = c.args.store.now in
     let forms = forms_in (map seen store) in
-    let k = c.args.count - c.loop-left.left in
+    let k = c.args.end - c.loop-left.left in
     let at = c.loop-left.at in
     let start = at - 3 in
     let begins : start ≡ start_of forms k = omega (arith, c.loop-left.invariant.begins) in
     let at_is : at ≡ start + 3 = omega (arith, c.loop-left.invariant.begins) in
-    let within : k < length forms = omega (arith, c.requires.count_is, c.loop-left.invariant.fewer) in
+    let within : k < length forms = omega (arith, c.requires.within, c.requires.order, c.loop-left.invariant.fewer) in
     let b = begins_at store k start c.requires.whole within begins in
     let form = form_at forms k in
     let len : c.number_in_head-len.result ≡ length form.name = c.number_in_head-len.ensures ∙ number_is (get_or store start (Byte 0)) (length form.name) b.name_len in
@@ -183,10 +183,10 @@ loop-left-preserved c =
     let n = c.number_in_head-len.result in
     let part : map seen (slice_range store at (at + n)) ≡ flat_text form.name = ap (λ i. map seen (slice_range store i (i + n))) at_is ∙ ap (λ n. map seen (slice_range store (start + 3) (start + 3 + n))) len ∙ b.name_part in
     let name = map seen c.args.name.now in
-    let next : k + 1 ≡ c.args.count - (c.loop-left.left - 1) = omega (arith, c.loop-left.invariant.fewer) in
-    let more = NoneNamed-more (text_of_cells name) forms k within c.loop-left.invariant.none (λ e. both_ways c.is_text_at.result c.if-is_text_at.false (c.is_text_at.ensures.1 (part ∙ ap flat_text e ∙ Byte-character_of name c.requires.bytes))) in
+    let next : k + 1 ≡ c.args.end - (c.loop-left.left - 1) = omega (arith, c.loop-left.invariant.fewer) in
+    let more = NoneNamed-further (text_of_cells name) forms c.args.from.0 k (omega (arith, c.requires.order, c.loop-left.invariant.fewer)) within c.loop-left.invariant.none (λ e. both_ways c.is_text_at.result c.if-is_text_at.false (c.is_text_at.ensures.1 (part ∙ ap flat_text e ∙ Byte-character_of name c.requires.bytes))) in
     record {
       fewer = omega (arith, c.loop-left.invariant.fewer);
       begins = omega (arith, len, body, at_is, b.next, ap (start_of forms) next);
-      none = subst (λ i. NoneNamed (text_of_cells name) (take i forms)) next more;
+      none = subst (λ i. NoneNamed (text_of_cells name) (slice_range forms c.args.from.0 i)) next more;
     }

@@ -1,4 +1,4 @@
-use Rattle.std.proofs.Common.{◌≡◌, ◌+◌, ◌-◌, ◌≤◌, map, take}
+use Rattle.std.proofs.Common.{◌≡◌, ◌+◌, ◌-◌, ◌≤◌, map, slice_range}
 use Rattle.trac_space.specs.Cells.{seen}
 use Rattle.trac_forms.specs.FlatForms.{text_of_cells}
 use Rattle.trac_forms.specs.Store.{NoneNamed}
@@ -8,9 +8,9 @@ use Rattle.trac_forms.proofs.store.find_some.Given as goal
 -- the name of the form that is next begins at the place, and no form before it has the name
 abbrev pub invariant-loop-left : goal.invariant-loop-left
 invariant-loop-left l = record {
-  fewer : l.left ≤ l.count;
-  begins : l.at ≡ start_of (forms_in (map seen l.store)) (l.count - l.left) + 3;
-  none : NoneNamed (text_of_cells (map seen l.name)) (take (l.count - l.left) (forms_in (map seen l.store)));
+  fewer : l.left ≤ l.end - l.fn.from.0;
+  begins : l.at ≡ start_of (forms_in (map seen l.store)) (l.end - l.left) + 3;
+  none : NoneNamed (text_of_cells (map seen l.name)) (slice_range (forms_in (map seen l.store)) l.fn.from.0 (l.end - l.left));
 }
 
 abbrev pub decreases-loop-left : goal.decreases-loop-left

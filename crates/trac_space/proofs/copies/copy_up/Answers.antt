@@ -16,7 +16,7 @@ loop-left-preserved c =
     let m = all - left in
     let order = c.requires.order in
     let room = c.requires.room in
-    let far = c.requires.far in
+    let far = c.requires.behind in
     let within = c.loop-left.invariant.within in
     let split : left ≡ k + n = omega arith in
     let before = c.loop-left.invariant.copied ∙ ap (λ i. paste was (to + i) (drop (start + i) was) m) split in
@@ -25,5 +25,5 @@ loop-left-preserved c =
     let rest : n + m ≡ all - k = omega arith in
     record {
       within = omega arith;
-      copied = c.copy_apart.ensures.after ∙ one ∙ copied-up was now start to k n m (omega arith) (omega arith) before ∙ ap (λ i. paste was (to + k) (drop (start + k) was) i) rest;
+      copied = c.copy_part.ensures.after ∙ one ∙ copied-up was now start to k n m (omega arith) (omega arith) before ∙ ap (λ i. paste was (to + k) (drop (start + k) was) i) rest;
     }

@@ -1,0 +1,8 @@
+use Rattle.std.proofs.Common.{take, All}
+use Rattle.trac_forms.specs.FlatForms.{text_of_cells}
+use Rattle.trac_core.specs.Together.{IsLayout}
+use Rattle.trac_core.proofs.scan.layout_characters.Given as goal
+
+-- the characters so far are layout
+abbrev pub invariant-loop-i : goal.invariant-loop-i
+invariant-loop-i l = All IsLayout (take l.i (text_of_cells l.cells))
