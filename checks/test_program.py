@@ -45,6 +45,12 @@ class Program(unittest.TestCase):
                 wanted = output if isinstance(output, bytes) else output.encode()
                 self.assertEqual(run(script, *words.split()), (wanted, lines, status))
 
+    def test_calls_with_many_arguments(self):
+        for n in (12, 13, 256, 257, 300):
+            names, texts = [f'<{i}>' for i in range(n)], [f'{i};' for i in range(n)]
+            script = '#(ds,G,%s)#(ss,G,%s)#(cl,G,%s)\'' % (''.join(names), ','.join(names), ','.join(texts))
+            self.assertEqual(run(script.encode()), (''.join(texts).encode(), '', 0), n)
+
     def test_the_launcher_passes_words_devices_and_status(self):
         done = subprocess.run([LAUNCHER, '--cells', '18', '--report'], input=HELLO.encode(), capture_output=True)
         self.assertEqual(done.stdout, b'')

@@ -15,7 +15,9 @@ use crate::arguments::{Arguments, Made, put_part};
 use trac_forms::{FormId, Item, Work};
 
 /// How many arguments a call of a form lists at once.
-const PARTS: usize = 12;
+const FEW: usize = 12;
+/// How many one that has more.
+const MANY: usize = 256;
 
 /// `da`: all forms are removed (Mooers 1966).
 pub(crate) fn delete_all(work: &mut Work) -> Made
@@ -131,7 +133,7 @@ pub(crate) fn call_form(work: &mut Work, mut arguments: Arguments) -> Made
         return Made::Value;
     };
     let from = work.pointer(form);
-    if fill_form(work, form, from, arguments, &mut [(0, 0); PARTS]) {
+    if fill_form(work, form, from, arguments) {
         Made::Value
     } else {
         Made::Full
@@ -140,13 +142,7 @@ pub(crate) fn call_form(work: &mut Work, mut arguments: Arguments) -> Made
 
 /// Puts the form's body from a place on at the end of the neutral string, its gaps filled by the arguments, if there are cells
 /// for it. Where a table has places for all the arguments, each is found once.
-fn fill_form(
-    work: &mut Work,
-    form: FormId,
-    from: u32,
-    arguments: Arguments,
-    table: &mut [(u32, u32)],
-) -> bool
+fn fill_form(work: &mut Work, form: FormId, from: u32, arguments: Arguments) -> bool
     requires arguments { AreArguments work.old arguments }
     requires known { form.0 < length work.old.forms }
     requires within { from ≤ length (body_at work.old.forms form.0) }
@@ -157,7 +153,28 @@ fn fill_form(
     ensures room { work.new.room ≡ work.old.room }
     ensures sound { IsSound work.new }
 {
-    match list_parts(work, arguments, table) {
+    let mut table = [(0, 0); FEW];
+    match list_parts(work, arguments, &mut table) {
+        Some(count) => work.fill_body(form, from, &table[..count]),
+        None => fill_with_many(work, form, from, arguments),
+    }
+}
+
+/// The same for more arguments. A table as great takes time to make, so a call with few has the small one.
+#[inline(never)]
+fn fill_with_many(work: &mut Work, form: FormId, from: u32, arguments: Arguments) -> bool
+    requires arguments { AreArguments work.old arguments }
+    requires known { form.0 < length work.old.forms }
+    requires within { from ≤ length (body_at work.old.forms form.0) }
+    ensures put { let text = fill (texts work.old arguments) (drop from (body_at work.old.forms form.0)) in
+        IsTrue result ↔ (used work.old + length text ≤ work.old.room) }
+    ensures last { let text = fill (texts work.old arguments) (drop from (body_at work.old.forms form.0)) in
+        OnTrue result (work.new ≡ record work.old { neutral = work.old.neutral ++ flat_text text }) }
+    ensures room { work.new.room ≡ work.old.room }
+    ensures sound { IsSound work.new }
+{
+    let mut table = [(0, 0); MANY];
+    match list_parts(work, arguments, &mut table) {
         Some(count) => work.fill_body(form, from, &table[..count]),
         None => fill_by_turns(work, form, from, arguments),
     }
@@ -183,7 +200,7 @@ fn list_parts(work: &Work, mut arguments: Arguments, table: &mut [(u32, u32)]) -
     Some(count)
 }
 
-/// The same as `fill_form`, each argument looked up where a gap asks for it.
+/// The same for still more arguments: each is looked up where a gap asks for it.
 fn fill_by_turns(work: &mut Work, form: FormId, from: u32, arguments: Arguments) -> bool
     requires arguments { AreArguments work.old arguments }
     requires known { form.0 < length work.old.forms }

@@ -96,6 +96,7 @@ fn copy_apart(cells: &mut [Cell], start: usize, end: usize, to: usize)
 }
 
 // The same, to a place behind: the last part first.
+#[inline(never)]
 fn copy_up(cells: &mut [Cell], start: usize, end: usize, to: usize)
     requires order { start ≤ end }
     requires room { to + (end - start) ≤ length cells.old }
@@ -114,6 +115,7 @@ fn copy_up(cells: &mut [Cell], start: usize, end: usize, to: usize)
 }
 
 // The same, to a place before: the first part first.
+#[inline(never)]
 fn copy_down(cells: &mut [Cell], start: usize, end: usize, to: usize)
     requires order { start ≤ end }
     requires within { end ≤ length cells.old }
