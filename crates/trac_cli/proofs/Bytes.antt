@@ -2,8 +2,7 @@
 use Rattle.std.proofs.Common.{Bool, IsSome, unwrap_or, ◌≡◌, ◌∙◌, ◌+◌, ◌-◌, ◌≤◌, ◌<◌, ◌++◌, ◌∷◌, ap, ap₂, refl, ℕ, List, [], get_or, length, take, drop, Option, Some, None, sym, arith, append_assoc, length-take}
 use Rattle.std.specs.Prelude.{slice_range}
 use lib.Seq.{take-add}
-use Rattle.std.proofs.lemmas.List.{drop-append-le, drop-drop, drop_at}
-use Rattle.std.proofs.lemmas.List.Edits.{length-between}
+use Rattle.std.proofs.lemmas.List.{drop-append-le, drop-drop, drop-take, take-append-drop}
 use Rattle.std.proofs.Math.ListN.{set}
 use Rattle.std.proofs.Math.Seq.{drop-cons}
 use Rattle.std.proofs.lemmas.Slice.{between_is, take-put_mid}
@@ -84,14 +83,15 @@ part_first xs a b some inside =
     let one : slice_range xs a (a + 1) ≡ get_or xs a 0 ∷ [] = ap (λ k. take k (drop a xs)) size ∙ ap (take 1) (drop-cons xs a 0 here) in
     split ∙ ap (λ (ys : List ℕ). ys ++ slice_range xs (a + 1) b) one
 
--- what is read ahead, once some of it is given up
-pub skipped_known : (bytes : List ℕ) (start count end : ℕ) (rest : Option (List ℕ)) (has_ended : Bool) → start + count ≤ end → end ≤ length bytes
+-- what is read ahead is what is taken of it, and then the rest
+pub taken_known : (bytes : List ℕ) (start count end : ℕ) (rest : Option (List ℕ)) (has_ended : Bool) → start + count ≤ end
     → IfTells (prepend_known (slice_range bytes start end) rest) has_ended
-    → unwrap_or (prepend_known (slice_range bytes (start + count) end) rest) [] ≡ drop count (unwrap_or (prepend_known (slice_range bytes start end) rest) [])
-skipped_known bytes start count end None has_ended within inside tells = absurd tells
-skipped_known bytes start count end (Some more) has_ended within inside tells =
-    let front = slice_range bytes start (start + count) in
-    let back = slice_range bytes (start + count) end in
-    let size : length front ≡ count = omega (arith, length-between bytes start (start + count) (omega arith)) in
-    sym (ap (λ xs. drop count (xs ++ more)) (part_split bytes start count end within)
-    ∙ ap (drop count) (append_assoc front back more) ∙ drop_at front (back ++ more) count size)
+    → unwrap_or (prepend_known (slice_range bytes start end) rest) [] ≡ take count (slice_range bytes start end) ++ unwrap_or (prepend_known (slice_range bytes (start + count) end) rest) []
+taken_known bytes start count end None has_ended within tells = absurd tells
+taken_known bytes start count end (Some more) has_ended within tells =
+    let whole = slice_range bytes start end in
+    let m = end - (start + count) in
+    let size : end - start ≡ count + m = omega arith in
+    let back : drop count whole ≡ slice_range bytes (start + count) end = ap (λ k. drop count (take k (drop start bytes))) size ∙ drop-take count m (drop start bytes) ∙ ap (take m) (drop-drop count start bytes) in
+    let split : whole ≡ take count whole ++ slice_range bytes (start + count) end = sym (take-append-drop count whole) ∙ ap (λ (xs : List ℕ). take count whole ++ xs) back in
+    ap (λ (xs : List ℕ). xs ++ more) split ∙ append_assoc (take count whole) (slice_range bytes (start + count) end) more

@@ -1,14 +1,14 @@
 //! The program's source: a reader behind its buffer.
-ghost use Rattle.std.specs.Prelude.{◌≡◌, ℕ, ◌+◌, ◌-◌, ◌^◌, ◌<◌, ◌≤◌, List, [], length, drop, false, slice_range, IsSome, unwrap_or};
-ghost use Rattle.trac_core.specs.Devices.{Stream, Gives, failures_of_next};
+ghost use Rattle.std.specs.Prelude.{◌≡◌, ℕ, ◌+◌, ◌-◌, ◌^◌, ◌<◌, ◌≤◌, List, [], length, take, false, IsSome, unwrap_or};
+ghost use Rattle.trac_core.specs.Devices.{Stream, Gives, Streams, failures_of_next, has_byte};
 ghost use Rattle.trac_core.specs.Slices.{IfTells};
 ghost use Rattle.trac_cli.specs.Buffered.{ahead};
 
 use crate::buffered::BufferedReader;
 use std::io::Read;
-use trac_core::{Next, Source};
+use trac_core::{Next, Source, copy_before};
 
-/// A source over a reader behind a buffer, which shows what the buffer holds. Each error is a failure; after a read of no
+/// A source over a reader behind a buffer, which gives what the buffer holds in runs. Each error is a failure; after a read of no
 /// byte it has ended, and reads no more. This processor's own choice.
 #[derive(Drop)]
 pub struct Input<R> {
@@ -37,18 +37,12 @@ impl<R: Read> Source for Input<R> {
 
     ghost stream = { λ s. record { bytes = unwrap_or (ahead s.reader.bytes s.reader.start s.reader.end (R.remaining s.reader.device.reader)) []; ended = s.ended } };
 
-    ghost held = { λ s. slice_range s.reader.bytes s.reader.start s.reader.end };
-
     ghost failure_count = { λ s. s.failures };
 
-    #[inline]
-    fn ahead(&self) -> &[u8] {
-        self.reader.held()
-    }
-
-    #[inline]
-    fn skip(&mut self, count: usize) {
+    fn take_held(&mut self, stop: u8, buffer: &mut [u8]) -> usize {
+        let count = copy_before(stop, self.reader.held(), buffer);
         self.reader.skip(count);
+        count
     }
 
     fn next(&mut self) -> Next {

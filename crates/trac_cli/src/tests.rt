@@ -395,11 +395,11 @@ fn reads_in_runs(rt: HostRuntime) -> Result<(), Fail> {
             fails_at,
         });
         let mut seen = Vec::new(rt.alloc());
+        let mut buffer = [0; 100];
+        assert_eq!(rt; source.take_held(b'\'', &mut buffer), 0);
         for _ in 0..30_000 {
-            let ahead = source.ahead();
-            let run = ahead.len() / 2;
-            seen.extend_from_slice(&ahead[..run])?;
-            source.skip(run);
+            let run = source.take_held(b'\'', &mut buffer);
+            seen.extend_from_slice(&buffer[..run])?;
             assert!(rt; source.failures() <= 1);
             match source.next() {
                 Next::Byte(byte) => seen.push(byte)?,
@@ -409,9 +409,34 @@ fn reads_in_runs(rt: HostRuntime) -> Result<(), Fail> {
         }
         assert!(rt; seen == text);
         assert_eq!(rt; source.failures(), u64::from(fails_at > 0));
-        assert!(rt; source.ahead().is_empty());
+        assert_eq!(rt; source.take_held(b'\'', &mut buffer), 0);
     }
     Ok(())
+}
+
+#[test]
+fn takes_what_is_held(rt: HostRuntime) {
+    let mut source = Input::new(FakeReader {
+        rest: b"xabcde'fg",
+        most: usize::MAX,
+        reads: 0,
+        fails_at: 2,
+    });
+    let mut buffer = [0; 8];
+    assert_eq!(rt; source.take_held(b'\'', &mut buffer), 0);
+    assert_eq!(rt; source.next(), Next::Byte(b'x'));
+    assert_eq!(rt; source.take_held(b'\'', &mut buffer[..3]), 3);
+    assert!(rt; &buffer[..3] == b"abc".as_slice());
+    assert_eq!(rt; source.take_held(b'\'', &mut buffer), 2);
+    assert!(rt; &buffer[..2] == b"de".as_slice());
+    assert_eq!(rt; source.take_held(b'\'', &mut buffer), 0);
+    assert_eq!(rt; source.next(), Next::Byte(b'\''));
+    assert_eq!(rt; source.take_held(b'\'', &mut buffer), 2);
+    assert!(rt; &buffer[..2] == b"fg".as_slice());
+    assert_eq!(rt; source.next(), Next::Failed);
+    assert_eq!(rt; source.take_held(b'\'', &mut buffer), 0);
+    assert_eq!(rt; source.next(), Next::End);
+    assert_eq!(rt; source.failures(), 1);
 }
 
 #[test]

@@ -12,9 +12,9 @@ use Rattle.trac_forms.specs.FlatForms.{flat_text, text_of_cells}
 use Rattle.trac_forms.specs.Contents.{Contents, used, IsByte, IsSound}
 use Rattle.trac_core.specs.declared.function.Function.TheVariants.{ReadString, ReadCharacter}
 use Rattle.trac_core.specs.declared.machine.Fate.TheVariants.{InputEnded, Workspace, InputFailed}
-use Rattle.trac_core.specs.Devices.{Stream}
+use Rattle.trac_core.specs.Devices.{Stream, has_byte}
 use Rattle.trac_core.specs.Meaning.{World, meaning_of, built, before_meta, from_meta, read_string, read_all, valued, with_input}
-use Rattle.trac_core.specs.Transfer.{has_meta, Reads}
+use Rattle.trac_core.specs.Transfer.{Reads}
 use Rattle.trac_core.specs.Flat.{mode_at, arguments_at}
 use Rattle.trac_core.specs.Calls.{world}
 use Rattle.trac_core.specs.Machine.{ending, failing}
@@ -121,7 +121,7 @@ module _ (w mid : Contents) (place meta : ℕ) (text : Text) (call : IsCall w pl
       (omega arith) gave open_still
 
   -- no cell was free for the next byte
-  pub read-full : (source source' : Stream) (written : Text) (next needed : ℕ) → mid.room ≤ used mid → source.bytes ≡ text ++ next ∷ source'.bytes → has_meta meta (next ∷ []) ≡ false → TriedCall place (scene w meta source written) (Some Workspace) needed (scene mid meta source' written)
+  pub read-full : (source source' : Stream) (written : Text) (next needed : ℕ) → mid.room ≤ used mid → source.bytes ≡ text ++ next ∷ source'.bytes → has_byte meta (next ∷ []) ≡ false → TriedCall place (scene w meta source written) (Some Workspace) needed (scene mid meta source' written)
   read-full source source' written next needed full gave differs =
       let p = λ (c : ℕ). c == meta in
       let here = world w.forms meta (ending source.bytes) in
@@ -131,7 +131,7 @@ module _ (w mid : Contents) (place meta : ℕ) (text : Text) (call : IsCall w pl
       let cells = used-reads meta w mid text reads in
       tried-full w mid place (Some ReadString) meta source source' written needed call.names (omega arith)
     where
-      alone : (c : ℕ) → has_meta meta (c ∷ []) ≡ false → (c == meta) ≡ false
+      alone : (c : ℕ) → has_byte meta (c ∷ []) ≡ false → (c == meta) ≡ false
       alone c h = go (c == meta) h
         where
           go : (b : Bool) → (b || false) ≡ false → b ≡ false

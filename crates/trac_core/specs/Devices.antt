@@ -1,5 +1,6 @@
 -- What contracts say of the devices that a machine reads from and writes to.
-use Rattle.std.specs.Prelude.{◌≡◌, ℕ, ◌<◌, Bool, true, false, List, [], ◌∷◌, ◌++◌, length, Result, Ok, Err, ◌⊎◌}
+use Rattle.std.specs.Prelude.{◌≡◌, ℕ, ◌<◌, Bool, true, false, List, [], ◌∷◌, ◌++◌, ◌==◌, length, Result, Ok, Err, ◌⊎◌}
+use Rattle.std.specs.List.{list_any}
 use Rattle.trac_core.specs.declared.device.Next.{Next}
 use Rattle.trac_core.specs.declared.device.Next.TheVariants.{Byte, End, Failed}
 
@@ -16,6 +17,14 @@ Gives old (Byte b) new = (old.bytes ≡ b ∷ new.bytes) × (old.ended ≡ false
 Gives old End new = (old.bytes ≡ []) × (new.bytes ≡ []) × (new.ended ≡ true)
 -- a failure consumes nothing, and a source that has ended does not fail
 Gives old Failed new = (old.ended ≡ false) × (new ≡ old)
+
+-- a source that stood at old gave these bytes and then stands at new
+abbrev pub Streams : Stream → List ℕ → Stream → Type 0
+Streams old bytes new = (old.bytes ≡ bytes ++ new.bytes) × (old.ended ≡ new.ended)
+
+-- whether a byte stands among bytes
+abbrev pub has_byte : ℕ → List ℕ → Bool
+has_byte byte bytes = list_any (λ b. b == byte) bytes
 
 -- the failures that an answer of a source counts for
 abbrev pub failures_of_next : Next → ℕ

@@ -1,16 +1,11 @@
 -- What is said of a text that is read into the neutral string.
-use Rattle.std.specs.Prelude.{◌≡◌, ℕ, Bool, true, false, [], ◌∷◌, ◌++◌, ◌==◌}
-use Rattle.std.specs.List.{list_any}
+use Rattle.std.specs.Prelude.{◌≡◌, ℕ, true, false, [], ◌∷◌, ◌++◌}
 use Rattle.trac_forms.specs.Text.{Text}
 use Rattle.trac_forms.specs.FlatForms.{flat_text}
 use Rattle.trac_forms.specs.Contents.{Contents}
 use Rattle.trac_core.specs.declared.transfer.ReadEnd.{ReadEnd}
 use Rattle.trac_core.specs.declared.transfer.ReadEnd.TheVariants.{Meta, Ended, Failed, Full}
-use Rattle.trac_core.specs.Devices.{Stream}
-
--- whether the meta character stands in a text
-abbrev pub has_meta : ℕ → Text → Bool
-has_meta meta text = list_any (λ c. c == meta) text
+use Rattle.trac_core.specs.Devices.{Stream, has_byte}
 
 -- the failures that the end of a text counts for
 abbrev pub failures_of_read : ReadEnd → ℕ
@@ -22,15 +17,11 @@ failures_of_read Full = 0
 -- a text without the meta character was put at the end of the neutral string
 pub record Reads (meta : ℕ) (old new : Contents) (text : Text) : Type 0 where
   pub pushed : new ≡ record old { neutral = old.neutral ++ flat_text text }
-  pub no_meta : has_meta meta text ≡ false
-
--- the source gave the text
-abbrev pub Streams : Stream → Text → Stream → Type 0
-Streams old text new = (old.bytes ≡ text ++ new.bytes) × (old.ended ≡ new.ended)
+  pub no_meta : has_byte meta text ≡ false
 
 -- the source gave the text, and what followed it
 abbrev pub StreamsTo : ReadEnd → ℕ → Stream → Text → Stream → Type 0
 StreamsTo Meta meta old text new = (old.bytes ≡ text ++ meta ∷ new.bytes) × (old.ended ≡ false)
 StreamsTo Ended meta old text new = (old.bytes ≡ text) × (new.bytes ≡ []) × (new.ended ≡ true)
 StreamsTo Failed meta old text new = (old.bytes ≡ text ++ new.bytes) × (old.ended ≡ false)
-StreamsTo Full meta old text new = (next : ℕ) × ((old.bytes ≡ text ++ next ∷ new.bytes) × (has_meta meta (next ∷ []) ≡ false))
+StreamsTo Full meta old text new = (next : ℕ) × ((old.bytes ≡ text ++ next ∷ new.bytes) × (has_byte meta (next ∷ []) ≡ false))

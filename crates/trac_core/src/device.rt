@@ -1,13 +1,14 @@
 //! What a machine reads from and writes to.
-ghost use Rattle.std.specs.Prelude.{◌≡◌, ◌≢◌, ℕ, ◌+◌, ◌-◌, ◌^◌, ◌<◌, ◌≤◌, List, [], length, drop, false, OnOk};
-ghost use Rattle.std.specs.Io.{StartsWith};
-ghost use Rattle.trac_core.specs.Devices.{Stream, Gives, failures_of_next, failures_of, after_put, Prints};
+ghost use Rattle.std.specs.Prelude.{◌≡◌, ℕ, ◌+◌, ◌-◌, ◌^◌, ◌<◌, ◌≤◌, List, length, take, false, OnOk};
+ghost use Rattle.trac_core.specs.Devices.{Stream, Gives, Streams, failures_of_next, failures_of, after_put, has_byte, Prints};
 
+mod held;
 mod read_source;
 mod slice_sink;
 mod slice_source;
 mod write_sink;
 
+pub use held::copy_before;
 pub use read_source::ReadSource;
 pub use slice_sink::SliceSink;
 pub use slice_source::SliceSource;
@@ -38,24 +39,21 @@ pub trait Source {
     /// The bytes still to come, and whether the source has ended.
     ghost stream: { Self → Stream };
 
-    /// The bytes that the source holds already.
-    ghost held: { Self → List ℕ };
-
     /// The number of failures so far.
     ghost failure_count: { Self → ℕ };
 
-    /// The bytes that come next, as many as the source holds already; none where it holds none.
-    fn ahead(&self) -> &[u8]
-        ensures shows { result.now ≡ held self.now }
-        ensures first { tells self.now → StartsWith (stream self.now).bytes (held self.now) }
-        ensures going { tells self.now → held self.now ≢ [] → (stream self.now).ended ≡ false };
-
-    /// Consumes the first `count` of the bytes that the source holds already.
-    fn skip(&mut self, count: usize)
-        requires { count ≤ length (held self.old) }
-        ensures rest { tells self.old → stream self.new ≡ record (stream self.old) { bytes = drop count (stream self.old).bytes } }
+    /// Takes bytes that the source holds already to the front of `buffer`, and gives how many they were: those before the
+    /// first `stop`, as far as they fit, or fewer. It waits for nothing and can't fail. A source that holds none needs no
+    /// body of its own.
+    fn take_held(&mut self, stop: u8, buffer: &mut [u8]) -> usize
+        ensures within { result ≤ length buffer.new }
+        ensures before { has_byte stop (take result buffer.new) ≡ false }
+        ensures takes { tells self.old → Streams (stream self.old) (take result buffer.new) (stream self.new) }
         ensures told { tells self.old → tells self.new }
-        ensures counts { failure_count self.new ≡ failure_count self.old };
+        ensures counts { failure_count self.new ≡ failure_count self.old }
+    {
+        0
+    }
 
     /// The next byte, the end, or a failure. A source that has ended answers the end at each later call.
     fn next(&mut self) -> Next

@@ -19,7 +19,9 @@ mod transfer;
 pub mod values;
 mod writing;
 
-pub use device::{Next, ReadSource, Sink, SinkFailed, SliceSink, SliceSource, Source, WriteSink};
+pub use device::{
+    Next, ReadSource, Sink, SinkFailed, SliceSink, SliceSource, Source, WriteSink, copy_before,
+};
 pub use machine::{Fate, Machine, Report, ScanningRule};
 pub use trac_forms::Cell;
 

@@ -1,19 +1,18 @@
 //! Bytes from a source into the neutral string, and from there to a sink.
-ghost use Rattle.std.specs.Prelude.{◌≡◌, ◌≢◌, ℕ, ◌+◌, ◌-◌, ◌<◌, ◌≤◌, ◌^◌, List, [], ◌∷◌, ◌++◌, length, take, is_ok, if◌then◌else◌, MatchResult, OnErr, OnOk, true, false};
+ghost use Rattle.std.specs.Prelude.{◌≡◌, ◌≢◌, ℕ, ◌+◌, ◌-◌, ◌<◌, ◌≤◌, ◌^◌, List, [], ◌∷◌, ◌++◌, length, take, is_ok, if◌then◌else◌, MatchResult, OnErr, OnOk};
 ghost use Rattle.trac_forms.specs.Text.{Text};
 ghost use Rattle.trac_forms.specs.FlatForms.{character_of, text_of_cells};
 ghost use Rattle.trac_forms.specs.Contents.{used, IsSound};
-ghost use Rattle.trac_core.specs.Devices.{failures_of, Prints};
-ghost use Rattle.trac_core.specs.Transfer.{Reads, Streams, StreamsTo, failures_of_read, has_meta};
+ghost use Rattle.trac_core.specs.Devices.{Streams, failures_of, Prints};
+ghost use Rattle.trac_core.specs.Transfer.{Reads, StreamsTo, failures_of_read};
 
 use crate::device::{Next, Sink, SinkFailed, Source};
 use crate::values::text::character_of;
-use memchr::memchr;
 use trac_forms::{Cell, Work};
 
-// How many characters a run has at most that goes to a sink.
+// How many characters a run has at most, from a source or to a sink.
 const RUN: usize = 256;
-// How many characters are too few for that.
+// How many characters are too few for a run to a sink.
 const FEW: usize = 16;
 
 /// How a text ended that was read.
@@ -30,7 +29,7 @@ pub(crate) enum ReadEnd {
 }
 
 /// Puts the bytes of a source up to the meta character at the end of the neutral string, as far as they fit. Those that
-/// the source holds already go in one run.
+/// the source holds already go in runs.
 pub(crate) fn read_text<I: Source>(work: &mut Work, meta: u8, source: &mut I) -> ReadEnd
     requires counts { I.failure_count source.old < 2 ^ 64 - 1 }
     requires sound { IsSound work.old }
@@ -40,8 +39,9 @@ pub(crate) fn read_text<I: Source>(work: &mut Work, meta: u8, source: &mut I) ->
     ensures counts { I.failure_count source.new ≡ I.failure_count source.old + failures_of_read result }
     ensures sound { IsSound work.new }
 {
+    let mut run = [0; RUN];
     loop {
-        read_run(work, meta, source);
+        read_run(work, meta, &mut run, source);
         match source.next() {
             Next::Byte(byte) if byte == meta => return ReadEnd::Meta,
             Next::Byte(byte) => {
@@ -55,38 +55,19 @@ pub(crate) fn read_text<I: Source>(work: &mut Work, meta: u8, source: &mut I) ->
     }
 }
 
-// Puts the bytes that the source holds already, up to the meta character and as far as they fit, at the end of the
-// neutral string.
-fn read_run<I: Source>(work: &mut Work, meta: u8, source: &mut I)
+// Puts bytes that the source holds already, up to the meta character and as far as they fit, at the end of the neutral
+// string. They go through `run`.
+fn read_run<I: Source>(work: &mut Work, meta: u8, run: &mut [u8], source: &mut I)
     requires { IsSound work.old }
     ensures reads { (text : Text) × (Reads meta work.old work.new text × (I.tells source.old → Streams (I.stream source.old) text (I.stream source.new))) }
     ensures told { I.tells source.old → I.tells source.new }
     ensures counts { I.failure_count source.new ≡ I.failure_count source.old }
     ensures sound { IsSound work.new }
 {
-    let count = push_run(work, meta, source.ahead());
-    source.skip(count);
-}
-
-// Puts the bytes up to the meta character, as far as they fit, at the end of the neutral string, and returns their number.
-fn push_run(work: &mut Work, meta: u8, bytes: &[u8]) -> usize
-    requires { IsSound work.old }
-    ensures within { result ≤ length bytes.now }
-    ensures reads { Reads meta work.old work.new (take result bytes.now) }
-    ensures sound { IsSound work.new }
-{
-    let most = bytes.len().min(work.free() as usize);
-    let count = run_length(meta, &bytes[..most]);
-    work.push_bytes(&bytes[..count]);
-    count
-}
-
-// How many bytes stand before the first meta character, or how many there are.
-fn run_length(meta: u8, bytes: &[u8]) -> usize
-    ensures within { result ≤ length bytes.now }
-    ensures no_meta { has_meta meta (take result bytes.now) ≡ false }
-{
-    memchr(meta, bytes).unwrap_or(bytes.len())
+    let most = run.len().min(work.free() as usize);
+    let fitting = &mut run[..most];
+    let count = source.take_held(meta, fitting);
+    work.push_bytes(&fitting[..count]);
 }
 
 /// Puts the characters of cells into a sink, and then flushes it where there was one.

@@ -35,15 +35,7 @@ impl<R: Read> Source for ReadSource<R> {
 
     ghost stream = { λ s. record { bytes = unwrap_or (R.remaining s.reader) []; ended = s.ended } };
 
-    ghost held = { λ _. [] };
-
     ghost failure_count = { λ s. s.failures };
-
-    fn ahead(&self) -> &[u8] {
-        &[]
-    }
-
-    fn skip(&mut self, _count: usize) {}
 
     fn next(&mut self) -> Next {
         if self.ended {

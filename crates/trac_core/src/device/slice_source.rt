@@ -1,9 +1,9 @@
 //! A source over memory.
-ghost use Rattle.std.specs.Prelude.{◌≡◌, ℕ, ◌+◌, ◌-◌, ◌^◌, ◌<◌, ◌≤◌, List, [], length, take, drop, IsSome, IfSome, unwrap_or, is_ok, not, nat_eq, nat_lt, true, false, Bool};
-ghost use Rattle.trac_core.specs.Devices.{Stream, Gives, failures_of_next, failures_of, after_put};
+ghost use Rattle.std.specs.Prelude.{◌≡◌, ℕ, ◌+◌, ◌-◌, ◌^◌, ◌<◌, ◌≤◌, List, [], length, take, drop, slice_get, Some, IsSome, IfSome, unwrap_or, is_ok, not, nat_eq, nat_lt, true, false, Bool};
+ghost use Rattle.trac_core.specs.Devices.{Stream, Gives, Streams, failures_of_next, failures_of, after_put, has_byte};
 ghost use Rattle.trac_core.specs.Slices.{slice_input, slice_answer, slice_after};
 
-use super::{Next, Source};
+use super::{Next, Source, copy_before};
 use std::marker::Model;
 
 /// A source over bytes in memory, for embedding and for tests; it may be told to fail at a place. This processor's own choice.
@@ -54,24 +54,21 @@ impl Source for SliceSource<'_> {
 
     ghost stream = { λ s. record { bytes = s.bytes; ended = s.ended } };
 
-    ghost held = { λ s. s.bytes };
-
     ghost failure_count = { λ s. s.failures };
 
-    #[inline]
-    fn ahead(&self) -> &[u8] {
-        self.bytes
-    }
-
-    #[inline]
-    fn skip(&mut self, count: usize)
-        requires { count ≤ length self.old.bytes }
-        ensures after { self.new ≡ record self.old { bytes = drop count self.old.bytes } }
-        ensures rest { let old : Stream = record { bytes = self.old.bytes; ended = self.old.ended } in let new : Stream = record { bytes = self.new.bytes; ended = self.new.ended } in Unit {0} → new ≡ record old { bytes = drop count old.bytes } }
+    fn take_held(&mut self, stop: u8, buffer: &mut [u8]) -> usize
+        ensures within { result ≤ length buffer.new }
+        ensures before { has_byte stop (take result buffer.new) ≡ false }
+        ensures copied { take result buffer.new ≡ take result self.old.bytes }
+        ensures stops { result < length self.old.bytes → result < length buffer.new → slice_get self.old.bytes result ≡ Some stop }
+        ensures after { self.new ≡ record self.old { bytes = drop result self.old.bytes } }
+        ensures takes { Unit {0} → Streams (record { bytes = self.old.bytes; ended = self.old.ended }) (take result buffer.new) (record { bytes = self.new.bytes; ended = self.new.ended }) }
         ensures told { Unit {0} → Unit {0} }
         ensures counts { self.new.failures ≡ self.old.failures }
     {
+        let count = copy_before(stop, self.bytes, buffer);
         self.bytes = &self.bytes[count..];
+        count
     }
 
     fn next(&mut self) -> Next

@@ -4,7 +4,8 @@ ghost use Rattle.trac_core.specs.Devices.{Stream, failures_of_next, failures_of,
 
 use super::{AMPLE, Faults, HELLO, MANY, NO_FAULTS, SHOWN, came_to, faulty};
 use crate::{
-    Cell, Fate, Machine, Next, ReadSource, Report, Sink, SinkFailed, SliceSource, Source, WriteSink,
+    Cell, Fate, Machine, Next, ReadSource, Report, Sink, SinkFailed, SliceSource, Source,
+    WriteSink, copy_before,
 };
 use std::io;
 use std::io::{Read, Write};
@@ -42,15 +43,7 @@ impl Source for FakeSource<'_> {
 
     ghost stream = { λ _. record { bytes = []; ended = false } };
 
-    ghost held = { λ _. [] };
-
     ghost failure_count = { λ s. s.failures };
-
-    fn ahead(&self) -> &[u8] {
-        &[]
-    }
-
-    fn skip(&mut self, _count: usize) {}
 
     fn next(&mut self) -> Next {
         self.calls = self.calls.saturating_add(1);
@@ -194,6 +187,57 @@ impl Write for FlushedWriter<'_> {
         }
         Ok(())
     }
+}
+
+/// Takes what a source over memory holds, up to an apostrophe, by a buffer of this length.
+fn takes(rt: &impl Abort, source: &mut SliceSource, len: usize, want: &str)
+    ensures { source.new.failures ≡ source.old.failures }
+{
+    let mut buffer = [0; 8];
+    let count = source.take_held(b'\'', &mut buffer[..len.min(8)]);
+    assert!(rt; &buffer[..count.min(8)] == want.as_bytes(), "{want}");
+}
+
+#[test]
+fn bytes_that_are_held(rt: HostRuntime) {
+    let mut source = SliceSource::new(b"abcde'fg", None);
+    takes(&rt, &mut source, 0, "");
+    takes(&rt, &mut source, 3, "abc");
+    takes(&rt, &mut source, 8, "de");
+    takes(&rt, &mut source, 8, "");
+    assert_eq!(rt; source.next(), Next::Byte(b'\''));
+    takes(&rt, &mut source, 8, "fg");
+    takes(&rt, &mut source, 8, "");
+    assert_eq!(rt; source.next(), Next::End);
+    takes(&rt, &mut source, 8, "");
+    assert_eq!(rt; source.next(), Next::End);
+    let mut failing = SliceSource::new(b"abcde'fg", Some(4));
+    takes(&rt, &mut failing, 8, "abcd");
+    assert_eq!(rt; failing.next(), Next::Failed);
+    takes(&rt, &mut failing, 8, "");
+    assert_eq!(rt; failing.failures(), 1);
+}
+
+#[test]
+fn bytes_that_are_not_held(rt: HostRuntime) {
+    let mut source = FakeSource::new(b"abc", 0, false);
+    assert_eq!(rt; source.take_held(b'\'', &mut [0; 8]), 0);
+    assert_eq!(rt; source.calls, 0);
+    assert_eq!(rt; source.next(), Next::Byte(b'a'));
+    let mut reader = ReadSource::new(FakeReader {
+        text: b"abc",
+        reads: 0,
+        bad_read: 0,
+    });
+    assert_eq!(rt; reader.take_held(b'\'', &mut [0; 8]), 0);
+    assert_eq!(rt; reader.next(), Next::Byte(b'a'));
+}
+
+#[test]
+fn bytes_before_a_stop(rt: HostRuntime) {
+    let mut buffer = [0; 4];
+    assert_eq!(rt; copy_before(b'\'', b"ab'c", &mut buffer), 2);
+    assert!(rt; &buffer[..] == b"ab\0\0".as_slice());
 }
 
 #[test]

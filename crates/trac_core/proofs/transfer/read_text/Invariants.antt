@@ -1,6 +1,7 @@
 use Rattle.std.proofs.Common.{◌≡◌, ◌-◌, List, ℕ}
 use Rattle.trac_forms.specs.Contents.{used, IsSound}
-use Rattle.trac_core.specs.Transfer.{Reads, Streams}
+use Rattle.trac_core.specs.Devices.{Streams}
+use Rattle.trac_core.specs.Transfer.{Reads}
 use Rattle.trac_core.proofs.transfer.read_text.Given as goal
 
 -- a text was read so far, and no failure came
