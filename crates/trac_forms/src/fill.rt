@@ -103,7 +103,8 @@ fn ordinal(space: &Space, i: u32) -> u32
     }
 }
 
-// The part of this number, from 1; a null one where there is none. No list has a place as high as that before 0.
+// The part of this number, from 1; a null one where there is none. Number 0 gives the greatest `usize`, which is no
+// place of a list.
 #[inline]
 fn numbered(parts: &[(u32, u32)], number: u32) -> (u32, u32)
     ensures { result ≡ get_or ((0, 0) ∷ parts.now) number (0, 0) }

@@ -4,9 +4,9 @@ ghost use Rattle.std.specs.List.{copy_within};
 
 use crate::cell::Cell;
 
-// How many cells a long move takes at once where they don't overlap their new place.
+// How many cells a long move takes at once where those don't overlap their new place.
 const PART: usize = 256;
-// How many where they do: these go through cells beside the block.
+// How many where they do; they go through cells beside the block.
 const BESIDE: usize = 64;
 // How many cells are too few for that.
 const FEW: usize = 24;
