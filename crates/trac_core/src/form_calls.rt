@@ -14,9 +14,9 @@ ghost use Rattle.trac_core.specs.Calls.{AreArguments, texts, Makes};
 use crate::arguments::{Arguments, Made, put_part};
 use trac_forms::{FormId, Item, Work};
 
-/// How many arguments a call of a form lists at once.
+/// How many arguments a call of a form lists in the small table.
 const FEW: usize = 12;
-/// How many one that has more.
+/// How many it lists in the great one.
 const MANY: usize = 256;
 
 /// `da`: all forms are removed (Mooers 1966).
@@ -160,7 +160,7 @@ fn fill_form(work: &mut Work, form: FormId, from: u32, arguments: Arguments) -> 
     }
 }
 
-/// The same for more arguments. A table as great takes time to make, so a call with few has the small one.
+/// The same by the great table, which takes longer to make.
 #[inline(never)]
 fn fill_with_many(work: &mut Work, form: FormId, from: u32, arguments: Arguments) -> bool
     requires arguments { AreArguments work.old arguments }
