@@ -5,6 +5,7 @@ Without PROGRAM it takes the one that ./trac builds. With --smoke the jobs are s
 wrong one is a failure, no time is. m4 and valgrind add their columns where they are installed.
 """
 import os
+import random
 import re
 import shutil
 import subprocess
@@ -71,10 +72,26 @@ def form_jobs(small):
     yield Job('walking by cc', walk, '')
 
 
+def store_jobs(small):
+    for n in (30, 60) if small else (1500, 4000, 16000, 64000):
+        order = random.Random(n).choices(range(n), k=n)
+        defined = ''.join(f'#(ds,entry{i},v{i})' for i in range(n))
+        called = ''.join(f'#(cl,entry{i})' for i in order)
+        in_m4 = ''.join(f"define(`entry{i}',`v{i}')" for i in range(n)) + ''.join(f'entry{i}()' for i in order)
+        yield Job(f'{n} forms at random', defined + called + "'", ''.join(f'v{i}' for i in order), None, in_m4)
+    n, turns = (20, 30) if small else (1000, 10000)
+    store = ''.join(f'#(ds,entry{i},v{i})' for i in range(n)) + "#(ds,N,0)'"
+    yield Job(f'a counter among {n} forms', store + "#(ds,N,##(ad,##(cl,N),1))'" * turns + "##(cl,N)'", str(turns))
+    table = ''.join(f'#(ds,entry{i},v{i})' for i in range(10))
+    yield Job('a table of ten forms', table + ''.join(f'#(cl,entry{i * 7 % 10})' for i in range(turns)) + "'",
+              ''.join(f'v{i * 7 % 10}' for i in range(turns)))
+
+
 def jobs(small):
     yield from text_jobs(small)
     yield from call_jobs(small)
     yield from form_jobs(small)
+    yield from store_jobs(small)
 
 
 # A small process in between, since the memory of a new process counts from that of the one that made it.
@@ -127,9 +144,19 @@ def row(job, program):
     words = [program, '--cells', str(CELLS), '--steps', '1000000000']
     took, steps = min(checked(job, words) for _ in range(5))
     count = instructions(words, job.script)
-    other = instructions(['m4', '-L0', '-'], job.m4.encode()) if job.m4 and shutil.which('m4') else None
+    other, theirs = beside_m4(job)
     return (job.name, shown(steps), f'{took * 1000:.1f} ms', shown(steps / took), shown(job.cells and job.cells / took),
-            shown(count), shown(count and count / steps), shown(other), shown((memory(words, job.script) - 8 * CELLS) / 1024, ' KB'))
+            shown(count), shown(count and count / steps), theirs, shown(other),
+            shown((memory(words, job.script) - 8 * CELLS) / 1024, ' KB'))
+
+
+def beside_m4(job):
+    """The instructions and the best of five times of GNU m4 on the same job, where it can do it."""
+    if not job.m4 or not shutil.which('m4'):
+        return None, '-'
+    words, given = ['m4', '-L0', '-'], job.m4.encode()
+    best = min(run(words, given)[0] for _ in range(5))
+    return instructions(words, given), f'{best * 1000:.1f} ms'
 
 
 def main():
@@ -141,7 +168,7 @@ def main():
         done = [checked(job, [program]) for job in jobs(True)]
         print(f'bench.py: {len(done)} jobs printed what they should')
         return
-    head = ('job', 'steps', 'best of 5', 'steps/s', 'cells moved/s', 'instructions', 'each step', 'm4', 'beside the block')
+    head = ('job', 'steps', 'best of 5', 'steps/s', 'cells moved/s', 'instructions', 'each step', 'm4 best of 5', 'm4 instructions', 'beside the block')
     print('| ' + ' | '.join(head) + ' |')
     print('|' + '---|' * len(head))
     for job in jobs(False):

@@ -32,7 +32,7 @@ def next_name(text, name):
 def entries(text):
     """The tagged paragraphs of a section: what each is about, and its text."""
     found = re.findall(r'^ {7}(\S.*)\n((?: {14}.*\n?)+)', text, re.MULTILINE)
-    short = re.findall(r'^ {7}(\d+) +(\S.*)$', text, re.MULTILINE)
+    short = re.findall(r'^ {7}(\d+|signal) +(\S.*)$', text, re.MULTILINE)
     return {tag: words.strip() for tag, words in found + short}
 
 

@@ -1,11 +1,12 @@
 """The program end to end: texts, statuses, devices that fail, and memory that is refused."""
 import os
 import resource
+import signal
 import subprocess
 import tempfile
 import unittest
 
-from trac import LAUNCHER, PROGRAM, run
+from trac import LAUNCHER, PROGRAM, TRACER, run
 
 HELLO = "#(ps,hello)'"
 LOOP = "#(ds,L,(#(cl,L)))#(cl,L)'"
@@ -36,6 +37,28 @@ ROWS = [
 
 REFUSED = ['--cells 0', '--cells 16777217', '--cells x', '--steps 0', '--steps x', '--steps 1000000000001',
            'extra', '--cells', '--unknown', '--cells 1 --cells 2']
+
+
+def into_full(program, *words, script=b''):
+    """What a program says on standard error, and its status, where the device that it writes to is full."""
+    with open('/dev/full', 'wb') as full:
+        done = subprocess.run([program, *words], input=script, stdout=full, stderr=subprocess.PIPE)
+    return done.stderr, done.returncode
+
+
+def into_closed_pipe(program, *words, script=b''):
+    """The same, where nobody reads the pipe that it writes to."""
+    reading, writing = os.pipe()
+    os.close(reading)
+    done = subprocess.run([program, *words], input=script, stdout=writing, stderr=subprocess.PIPE)
+    os.close(writing)
+    return done.stderr, done.returncode
+
+
+def into_nothing(program, *words, script=b''):
+    """The same, where standard output is closed."""
+    done = subprocess.run(['sh', '-c', '"$@" >&-', 'sh', program, *words], input=script, stderr=subprocess.PIPE)
+    return done.stderr, done.returncode
 
 
 class Program(unittest.TestCase):
@@ -75,21 +98,35 @@ class Program(unittest.TestCase):
             self.assertEqual((lines, status), ('', 0))
             self.assertIn(b'--cells <N>', output)
 
+    def test_a_help_that_is_not_written(self):
+        for program in (PROGRAM, TRACER):
+            for word in ('--help', '-h'):
+                with self.subTest(program=program, word=word):
+                    self.assertEqual(into_full(program, word), (b'', 5))
+                    self.assertEqual(into_closed_pipe(program, word), (b'', 5))
+                    self.assertEqual(into_nothing(program, word), (b'', 5))
+
+    def test_a_usage_text_that_is_not_written(self):
+        for program in (PROGRAM, TRACER):
+            with open('/dev/full', 'wb') as full:
+                done = subprocess.run([program, '--unknown'], stdin=subprocess.DEVNULL, stdout=subprocess.PIPE, stderr=full)
+            self.assertEqual((done.stdout, done.returncode), (b'', 2))
+
 
 class Devices(unittest.TestCase):
-    def test_a_full_disk(self):
-        with open('/dev/full', 'wb') as full:
-            done = subprocess.run([PROGRAM], input=HELLO.encode(), stdout=full, stderr=subprocess.PIPE)
-        self.assertEqual(done.stderr, b'trac: output failed at step 19\n')
-        self.assertEqual(done.returncode, 5)
+    def test_an_output_that_is_full_or_closed(self):
+        failed = (b'trac: output failed at step 19\n', 5)
+        for ends in (into_full, into_closed_pipe, into_nothing):
+            self.assertEqual(ends(PROGRAM, script=HELLO.encode()), failed)
 
-    def test_a_closed_pipe(self):
-        reading, writing = os.pipe()
-        os.close(reading)
-        done = subprocess.run([PROGRAM], input=HELLO.encode(), stdout=writing, stderr=subprocess.PIPE)
-        os.close(writing)
-        self.assertEqual(done.stderr, b'trac: output failed at step 19\n')
-        self.assertEqual(done.returncode, 5)
+    def test_a_file_that_grows_past_its_limit(self):
+        def limit():
+            resource.setrlimit(resource.RLIMIT_FSIZE, (1000, 1000))
+
+        with tempfile.TemporaryFile() as file:
+            done = subprocess.run([PROGRAM], input=b'#(ps,' + b'x' * 5000 + b")'", stdout=file, stderr=subprocess.PIPE,
+                                  preexec_fn=limit)
+            self.assertEqual((done.stderr, done.returncode), (b'', -signal.SIGXFSZ))
 
     def test_a_directory_as_input(self):
         folder = os.open(tempfile.gettempdir(), os.O_RDONLY)
@@ -116,6 +153,26 @@ class Devices(unittest.TestCase):
     def test_output_of_many_buffers(self):
         text = b'all that is printed comes out. ' * 10000
         self.assertEqual(run(text + b"'", '--cells', '1000000', '--steps', '10000000'), (text, '', 0))
+
+
+class Stack(unittest.TestCase):
+    def test_how_deep_a_script_nests_takes_no_stack(self):
+        least = 64 * 1024
+
+        def limit():
+            resource.setrlimit(resource.RLIMIT_STACK, (least, least))
+
+        ample = ['--cells', '16777216', '--steps', '1000000000']
+        deep = 1000000
+        calls = '#(ps,' * deep + 'x' + ')' * deep + "'"
+        protected = '#(ps,' + '(' * deep + 'x' + ')' * deep + ")'"
+        rows = [(HELLO, 'hello'), (calls, 'x'), (protected, '(' * (deep - 1) + 'x' + ')' * (deep - 1))]
+        for script, output in rows:
+            with self.subTest(script=script[:20]):
+                got, lines, status = run(script, *ample, preexec_fn=limit, env={})
+                self.assertEqual((lines, status), ('', 0))
+                self.assertTrue(got == output.encode())
+        self.assertEqual(run('', '--help', preexec_fn=limit, env={})[1:], ('', 0))
 
 
 class Memory(unittest.TestCase):

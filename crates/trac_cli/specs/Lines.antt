@@ -1,5 +1,5 @@
 -- The lines that the program writes on standard error, without their line feed.
-use Rattle.std.specs.Prelude.{◌+◌, ◌++◌, ◌==◌, ℕ, Bool, List, Option, Some, None, codes, not, decimal}
+use Rattle.std.specs.Prelude.{◌+◌, ◌++◌, ◌==◌, ℕ, Bool, List, Option, Some, None, codes, not, decimal, false}
 use Rattle.std.specs.List.{list_all}
 use Rattle.clap.specs.declared.error.kind.ErrorKind.{ErrorKind}
 use Rattle.clap.specs.declared.error.kind.ErrorKind.TheVariants.{DisplayHelp, OutOfMemory}
@@ -41,3 +41,8 @@ abbrev pub refusal_status : ErrorKind → ℕ
 refusal_status DisplayHelp = 0
 refusal_status OutOfMemory = 6
 refusal_status _ = 2
+
+-- the same, once the error was shown or could not be: a help that could not be written is an output that failed
+abbrev pub shown_status : ErrorKind → Bool → ℕ
+shown_status DisplayHelp false = 5
+shown_status kind shown = refusal_status kind

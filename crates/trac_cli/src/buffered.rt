@@ -3,12 +3,14 @@ ghost use Rattle.std.specs.Prelude.{◌≡◌, ◌+◌, ◌≤◌, ◌<◌, [], 
 ghost use Rattle.std.specs.IoError.{error_kind};
 ghost use Rattle.std.specs.Io.{ReadsAtMost, WritesAtMost};
 ghost use Rattle.std.specs.Io.KnownBytes.{Appends, IsAtEnd, Keeps, ReadConsumes, WriteAppends};
+ghost use Rattle.trac_forms.specs.FlatForms.{text_of_cells};
 ghost use Rattle.trac_cli.specs.Buffered.{ahead, behind};
 ghost use Rattle.trac_cli.specs.Devices.{Counts};
 
 use crate::devices::{InputDevice, OutputDevice};
 use std::io;
 use std::io::{Read, Write};
+use trac_core::{Cell, write_characters};
 
 const CAPACITY: usize = 8192;
 
@@ -199,6 +201,25 @@ impl<W: Write> BufferedWriter<W> {
         self.make_room()?;
         let n = (CAPACITY - self.end).min(buf.len());
         self.bytes[self.end..self.end + n].copy_from_slice(&buf[..n]);
+        self.end += n;
+        Ok(n)
+    }
+
+    /// Takes the characters of some cells, once there is room.
+    pub fn write_cells(&mut self, text: &[Cell]) -> io::Result<usize>
+        ensures bound { WritesAtMost result (text_of_cells text.now) }
+        ensures bytes { WriteAppends (behind self.old.bytes self.old.start self.old.end (W.contents self.old.device.writer))
+            (behind self.new.bytes self.new.start self.new.end (W.contents self.new.device.writer)) result (text_of_cells text.now) }
+        ensures failures { Counts self.old.device.failures self.new.device.failures result }
+        ensures kind { IfErr result (λ e. self.new.device.last_failure ≡ Some (error_kind e)) }
+        ensures some { IfOk result (λ n. 0 < length text.now → 0 < n) }
+        ensures room { self.old.end < 8192 → self.new.device ≡ self.old.device }
+        ensures rest { OnErr result ((self.new.bytes ≡ self.old.bytes) × (self.new.end ≡ self.old.end)
+            × (self.old.start ≤ self.new.start) × (self.new.start < self.new.end)) }
+    {
+        self.make_room()?;
+        let n = (CAPACITY - self.end).min(text.len());
+        write_characters(&text[..n], &mut self.bytes[self.end..self.end + n]);
         self.end += n;
         Ok(n)
     }

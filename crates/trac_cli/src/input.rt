@@ -1,18 +1,18 @@
 //! The program's source: a reader behind its buffer.
-ghost use Rattle.std.specs.Prelude.{◌≡◌, ℕ, ◌+◌, ◌-◌, ◌^◌, ◌<◌, ◌≤◌, List, [], length, take, false, IsSome, unwrap_or};
+ghost use Rattle.std.specs.Prelude.{◌≡◌, ℕ, ◌+◌, ◌-◌, ◌^◌, ◌<◌, ◌≤◌, List, [], length, take, false, true, IsSome, unwrap_or};
 ghost use Rattle.trac_core.specs.Devices.{Stream, Gives, Streams, failures_of_next, has_byte};
 ghost use Rattle.trac_core.specs.Slices.{IfTells};
 ghost use Rattle.trac_cli.specs.Buffered.{ahead};
 
 use crate::buffered::BufferedReader;
 use std::io::Read;
-use trac_core::{Next, Source, copy_before};
+use trac_core::{Next, RetryingReader, Source, Work};
 
-/// A source over a reader behind a buffer, which gives what the buffer holds in runs. Each error is a failure; after a read of no
-/// byte it has ended, and reads no more. This processor's own choice.
+/// A source over a reader behind a buffer, which gives what the buffer holds at once. A read that was interrupted is tried again,
+/// each other error is a failure; after a read of no byte it has ended, and reads no more. This processor's own choice.
 #[derive(Drop)]
 pub struct Input<R> {
-    reader: BufferedReader<R>,
+    reader: BufferedReader<RetryingReader<R>>,
     ended: bool,
     failures: u64,
 }
@@ -25,7 +25,7 @@ impl<R: Read> Input<R> {
         ensures none { ⟦<Input<R> as Source>⟧.failure_count result ≡ 0 }
     {
         Input {
-            reader: BufferedReader::new(reader),
+            reader: BufferedReader::new(RetryingReader::new(reader)),
             ended: false,
             failures: 0,
         }
@@ -33,19 +33,27 @@ impl<R: Read> Input<R> {
 }
 
 impl<R: Read> Source for Input<R> {
-    ghost tells = { λ s. IfTells (ahead s.reader.bytes s.reader.start s.reader.end (R.remaining s.reader.device.reader)) s.ended };
+    ghost tells = { λ s. IfTells (ahead s.reader.bytes s.reader.start s.reader.end (R.remaining s.reader.device.reader.reader)) s.ended };
 
-    ghost stream = { λ s. record { bytes = unwrap_or (ahead s.reader.bytes s.reader.start s.reader.end (R.remaining s.reader.device.reader)) []; ended = s.ended } };
+    ghost stream = { λ s. record { bytes = unwrap_or (ahead s.reader.bytes s.reader.start s.reader.end (R.remaining s.reader.device.reader.reader)) []; ended = s.ended } };
 
     ghost failure_count = { λ s. s.failures };
 
-    fn take_held(&mut self, stop: u8, buffer: &mut [u8]) -> usize {
-        let count = copy_before(stop, self.reader.held(), buffer);
+    fn take_held(&mut self, stop: u8, work: &mut Work) {
+        let count = work.push_before(stop, self.reader.held());
         self.reader.skip(count);
-        count
     }
 
-    fn next(&mut self) -> Next {
+    fn next(&mut self) -> Next
+        requires { self.old.failures < 2 ^ 64 - 1 }
+        ensures ended { self.old.ended ≡ true → (result ≡ Next.End) × (self.new ≡ self.old) }
+        ensures gives { IfTells (ahead self.old.reader.bytes self.old.reader.start self.old.reader.end (R.remaining self.old.reader.device.reader.reader)) self.old.ended →
+            Gives (record { bytes = unwrap_or (ahead self.old.reader.bytes self.old.reader.start self.old.reader.end (R.remaining self.old.reader.device.reader.reader)) []; ended = self.old.ended }) result
+            (record { bytes = unwrap_or (ahead self.new.reader.bytes self.new.reader.start self.new.reader.end (R.remaining self.new.reader.device.reader.reader)) []; ended = self.new.ended }) }
+        ensures told { IfTells (ahead self.old.reader.bytes self.old.reader.start self.old.reader.end (R.remaining self.old.reader.device.reader.reader)) self.old.ended →
+            IfTells (ahead self.new.reader.bytes self.new.reader.start self.new.reader.end (R.remaining self.new.reader.device.reader.reader)) self.new.ended }
+        ensures counts { self.new.failures ≡ self.old.failures + failures_of_next result }
+    {
         if self.ended {
             return Next::End;
         }

@@ -2,9 +2,9 @@
 //! command line, the lines on standard error and the exit statuses are this processor's own choice.
 #![tactic(auto)]
 
-ghost use Rattle.std.specs.Prelude.{◌≡◌};
+ghost use Rattle.std.specs.Prelude.{◌≡◌, Bool};
 ghost use Rattle.clap.specs.Words.{kind_of};
-ghost use Rattle.trac_cli.specs.Lines.{refusal_status, status_of};
+ghost use Rattle.trac_cli.specs.Lines.{refusal_status, shown_status, status_of};
 
 mod buffered;
 mod devices;
@@ -30,6 +30,8 @@ use words::settings_from;
 
 // The status where the words can't be used.
 const USAGE: u8 = 2;
+// The status where the help can't be written, as for a run whose output failed.
+const OUTPUT_FAILED: u8 = 5;
 // The status where there is no memory for the words or for the block.
 const NO_MEMORY: u8 = 6;
 
@@ -57,17 +59,26 @@ fn refused_words<R: Eprint>(rt: &R, kind: io::ErrorKind) -> u8 {
     USAGE
 }
 
-// Shows what clap answered in place of settings, and gives the status.
+// Shows what clap answered in place of settings, and gives the status. That standard error fails is ignored.
 fn refused<R: Print + Eprint>(rt: &R, error: &clap::Error) -> u8
-    ensures { result ≡ refusal_status (kind_of error.now) }
+    ensures { (shown : Bool) × (result ≡ shown_status (kind_of error.now) shown) }
 {
-    let status = error_status(error.kind());
-    if status == NO_MEMORY {
+    let kind = error.kind();
+    if kind == ErrorKind::OutOfMemory {
         let _ = rt.eprintln("trac: no memory for the command line");
-    } else {
-        let _ = error.print(rt);
+        return error_status(kind);
     }
-    status
+    status_when_shown(kind, error.print(rt).is_ok())
+}
+
+// The status once an error of the words was shown or could not be: a help that can't be written is an output that failed.
+fn status_when_shown(kind: ErrorKind, is_shown: bool) -> u8
+    ensures { result ≡ shown_status kind is_shown }
+{
+    if kind == ErrorKind::DisplayHelp && !is_shown {
+        return OUTPUT_FAILED;
+    }
+    error_status(kind)
 }
 
 // The status for a kind of error of the words.

@@ -5,13 +5,14 @@ ghost use Rattle.trac_cli.specs.Buffered.{behind};
 
 use crate::buffered::BufferedWriter;
 use std::io::Write;
-use trac_core::{Sink, SinkFailed};
+use trac_core::{Cell, RetryingWriter, Sink, SinkFailed};
 
-/// A sink over a writer behind a buffer, by writes of one byte or of a run. It is flushed where nothing waits in the buffer and the
-/// writer was flushed after its last write. An error, or a write of no byte, is a failure. This processor's own choice.
+/// A sink over a writer behind a buffer, by writes of one byte or of many. It is flushed where nothing waits in the buffer and the
+/// writer was flushed after its last write. A call that was interrupted is tried again; another error, or a write of no byte, is a
+/// failure. This processor's own choice.
 #[derive(Drop)]
 pub struct Output<W> {
-    writer: BufferedWriter<W>,
+    writer: BufferedWriter<RetryingWriter<W>>,
     failures: u64,
 }
 
@@ -23,16 +24,16 @@ impl<W: Write> Output<W> {
         ensures none { ⟦<Output<W> as Sink>⟧.failure_count result ≡ 0 }
     {
         Output {
-            writer: BufferedWriter::new(writer),
+            writer: BufferedWriter::new(RetryingWriter::new(writer)),
             failures: 0,
         }
     }
 }
 
 impl<W: Write> Sink for Output<W> {
-    ghost tells = { λ s. IsSome (behind s.writer.bytes s.writer.start s.writer.end (W.contents s.writer.device.writer)) };
+    ghost tells = { λ s. IsSome (behind s.writer.bytes s.writer.start s.writer.end (W.contents s.writer.device.writer.writer)) };
 
-    ghost written = { λ s. unwrap_or (behind s.writer.bytes s.writer.start s.writer.end (W.contents s.writer.device.writer)) [] };
+    ghost written = { λ s. unwrap_or (behind s.writer.bytes s.writer.start s.writer.end (W.contents s.writer.device.writer.writer)) [] };
 
     ghost flushed = { λ s. (s.writer.start ≡ s.writer.end) × (s.writer.device.is_flushed ≡ true) };
 
@@ -49,10 +50,10 @@ impl<W: Write> Sink for Output<W> {
         }
     }
 
-    fn put_all(&mut self, bytes: &[u8]) -> Result<(), SinkFailed> {
+    fn put_all(&mut self, text: &[Cell]) -> Result<(), SinkFailed> {
         let mut taken = 0;
-        while taken < bytes.len() {
-            match self.writer.write(&bytes[taken..]) {
+        while taken < text.len() {
+            match self.writer.write_cells(&text[taken..]) {
                 Ok(count) => taken += count,
                 Err(_) => {
                     self.failures += 1;

@@ -1,19 +1,199 @@
-//! What no clause says: the texts, the statuses and the command's answers to words that are written out.
+//! What no clause says: the texts, the statuses, whole rows from the words to the lines, calls that are interrupted, and the command's answers to words that are written out.
+ghost use Rattle.std.specs.Prelude.{◌≡◌, ◌≤◌, length};
+
 use crate::buffered::{BufferedReader, BufferedWriter};
-use crate::error_status;
 use crate::input::Input;
 use crate::lines::{fault_line, memory_line, report_line, status};
 use crate::output::Output;
 use crate::serve::{NoMemory, serve};
 use crate::settings::Settings;
 use crate::words::settings_from;
+use crate::{error_status, status_when_shown};
 use clap::error::ErrorKind;
 use std::alloc::Global;
 use std::io;
 use std::io::{Read, Write};
 use std::process::Abort;
 use std::test::Fail;
-use trac_core::{Fate, Next, Report, Sink, SliceSink, SliceSource, Source};
+use trac_core::{Cell, Fate, Next, Report, Sink, SliceSink, SliceSource, Source, Work};
+use trac_space::make_block;
+
+const HELLO: &str = "#(ps,hello)'";
+
+const LOOP: &str = "#(ds,L,(#(cl,L)))#(cl,L)'";
+
+type Lines = (&'static str, &'static str, u8);
+
+/// Options beside `--report`, and a script; what it prints, and the line of the report, the line on the fault and the status.
+const ROWS: [(&[&str], &str, &str, Lines); 16] = [
+    (&[], "", "", ("trac: 9 steps, peak 11 cells", "", 0)),
+    (
+        &["--cells", "11"],
+        "",
+        "",
+        ("trac: 9 steps, peak 11 cells", "", 0),
+    ),
+    (
+        &["--cells", "10"],
+        "",
+        "",
+        (
+            "trac: 0 steps, peak 0 cells",
+            "trac: workspace of 10 cells full at step 1",
+            1,
+        ),
+    ),
+    (
+        &[],
+        HELLO,
+        "hello",
+        ("trac: 29 steps, peak 19 cells", "", 0),
+    ),
+    (
+        &["--cells", "19", "--steps", "29"],
+        HELLO,
+        "hello",
+        ("trac: 29 steps, peak 19 cells", "", 0),
+    ),
+    (
+        &["--cells", "18"],
+        HELLO,
+        "",
+        (
+            "trac: 8 steps, peak 11 cells",
+            "trac: workspace of 18 cells full at step 9",
+            1,
+        ),
+    ),
+    (
+        &["--cells", "10"],
+        HELLO,
+        "",
+        (
+            "trac: 0 steps, peak 0 cells",
+            "trac: workspace of 10 cells full at step 1",
+            1,
+        ),
+    ),
+    (
+        &["--steps", "18"],
+        HELLO,
+        "",
+        (
+            "trac: 18 steps, peak 19 cells",
+            "trac: allowance of 18 steps used up",
+            3,
+        ),
+    ),
+    (
+        &["--steps", "19"],
+        HELLO,
+        "hello",
+        (
+            "trac: 19 steps, peak 19 cells",
+            "trac: allowance of 19 steps used up",
+            3,
+        ),
+    ),
+    (
+        &["--steps", "28"],
+        HELLO,
+        "hello",
+        (
+            "trac: 28 steps, peak 19 cells",
+            "trac: allowance of 28 steps used up",
+            3,
+        ),
+    ),
+    (
+        &["--cells", "16"],
+        "#(ds,A,b)'",
+        "",
+        (
+            "trac: 8 steps, peak 11 cells",
+            "trac: workspace of 16 cells full at step 9",
+            1,
+        ),
+    ),
+    (
+        &["--cells", "22"],
+        "#(ds,A,b)'#(ds,A,b)'#(ds,A,b)'",
+        "",
+        ("trac: 63 steps, peak 22 cells", "", 0),
+    ),
+    (
+        &["--steps", "13"],
+        "#(hl)'",
+        "",
+        ("trac: 13 steps, peak 13 cells", "", 0),
+    ),
+    (
+        &["--steps", "12"],
+        "#(hl)'",
+        "",
+        (
+            "trac: 12 steps, peak 13 cells",
+            "trac: allowance of 12 steps used up",
+            3,
+        ),
+    ),
+    (
+        &["--steps=1000"],
+        LOOP,
+        "",
+        (
+            "trac: 1000 steps, peak 36 cells",
+            "trac: allowance of 1000 steps used up",
+            3,
+        ),
+    ),
+    (
+        &["--cells=11"],
+        "abc",
+        "abc",
+        ("trac: 22 steps, peak 11 cells", "", 0),
+    ),
+];
+
+/// The place where a source of the greeting fails, the bytes that a sink takes, and the lines.
+const FAILING: [(Option<u64>, usize, Lines); 4] = [
+    (
+        Some(0),
+        100,
+        (
+            "trac: 8 steps, peak 11 cells",
+            "trac: input failed at step 9",
+            4,
+        ),
+    ),
+    (
+        Some(12),
+        100,
+        (
+            "trac: 28 steps, peak 19 cells",
+            "trac: input failed at step 29",
+            4,
+        ),
+    ),
+    (
+        None,
+        0,
+        (
+            "trac: 18 steps, peak 19 cells",
+            "trac: output failed at step 19",
+            5,
+        ),
+    ),
+    (
+        None,
+        4,
+        (
+            "trac: 18 steps, peak 19 cells",
+            "trac: output failed at step 19",
+            5,
+        ),
+    ),
+];
 
 fn words(alloc: Global, texts: &[&str]) -> Result<Vec<String>, Fail> {
     let mut words = Vec::new(alloc);
@@ -110,6 +290,23 @@ fn refusals_of_words(rt: HostRuntime) -> Result<(), Fail> {
 }
 
 #[test]
+fn the_status_without_memory(rt: HostRuntime) {
+    assert_eq!(rt; error_status(ErrorKind::OutOfMemory), 6);
+    assert_eq!(rt; status_when_shown(ErrorKind::OutOfMemory, false), 6);
+}
+
+#[test]
+fn the_status_of_a_help_that_is_not_written(rt: HostRuntime) {
+    for (kind, shown, unshown) in [
+        (ErrorKind::DisplayHelp, 0, 5),
+        (ErrorKind::UnknownArgument, 2, 2),
+    ] {
+        assert_eq!(rt; status_when_shown(kind, true), shown);
+        assert_eq!(rt; status_when_shown(kind, false), unshown);
+    }
+}
+
+#[test]
 fn settings_in_range(rt: HostRuntime) {
     let none = [(0, 1), (16_777_217, 1), (1, 0), (1, 1_000_000_000_001)];
     for (cells, steps) in none {
@@ -172,6 +369,71 @@ fn lines_of_reports(rt: HostRuntime) -> Result<(), Fail> {
     Ok(())
 }
 
+// From the words to the lines: what is printed, the line of the report, the line on the fault, the status.
+fn comes_to(
+    rt: &impl Abort,
+    settings: &Settings,
+    report: &Report,
+    row: (&str, &str, u8),
+) -> Result<(), Fail> {
+    let (counted, fault, code) = row;
+    assert!(rt;
+        report_line(report).as_bytes() == counted.as_bytes(),
+        "{counted}"
+    );
+    match fault_line(report, settings) {
+        Some(line) => assert!(rt; line.as_bytes() == fault.as_bytes(), "{fault}"),
+        None => assert!(rt; fault.is_empty(), "{fault}"),
+    }
+    assert_eq!(rt; status(report), code);
+    Ok(())
+}
+
+#[test]
+fn rows_from_the_words_to_the_lines(rt: HostRuntime) -> Result<(), Fail> {
+    let alloc = rt.alloc();
+    for (options, script, output, lines) in ROWS {
+        let mut texts = words(alloc, &["trac", "--report"])?;
+        texts.append(&mut words(alloc, options)?)?;
+        let settings = settings_from(alloc, texts)?;
+        assert!(rt; settings.report);
+        let mut room = [0u8; 100];
+        let mut source = SliceSource::new(script.as_bytes(), None);
+        let mut sink = SliceSink::new(&mut room, None);
+        let Ok(report) = serve(alloc, &settings, &mut source, &mut sink) else {
+            return Err(Fail::from("no memory for the block"));
+        };
+        assert!(rt; sink.written() == output.as_bytes(), "{script}");
+        comes_to(&rt, &settings, &report, lines)?;
+    }
+    Ok(())
+}
+
+// Devices that fail have no words.
+#[test]
+fn lines_of_devices_that_fail(rt: HostRuntime) -> Result<(), Fail> {
+    let settings = settings_from(rt.alloc(), words(rt.alloc(), &["trac"])?)?;
+    for (place, taken, lines) in FAILING {
+        let mut room = [0u8; 100];
+        let mut source = SliceSource::new(HELLO.as_bytes(), place);
+        let mut sink = SliceSink::new(&mut room[..taken], None);
+        let Ok(report) = serve(rt.alloc(), &settings, &mut source, &mut sink) else {
+            return Err(Fail::from("no memory for the block"));
+        };
+        comes_to(&rt, &settings, &report, lines)?;
+    }
+    Ok(())
+}
+
+#[test]
+fn a_block_of_19_cells(rt: HostRuntime) -> Result<(), Fail> {
+    let Ok(block) = make_block(rt.alloc(), 19) else {
+        return Err(Fail::from("no memory for 19 cells"));
+    };
+    assert_eq!(rt; block.len(), 19);
+    Ok(())
+}
+
 // Where the block is refused, nothing was read and nothing was written.
 #[test]
 fn a_run_in_a_block_of_its_own(rt: HostRuntime) -> Result<(), Fail> {
@@ -217,6 +479,75 @@ impl Read for FakeReader<'_> {
         self.rest = rest;
         Ok(n)
     }
+}
+
+// A reader and a writer, each call of which is interrupted a hundred times before it is done.
+#[derive(Drop)]
+struct Interrupted<D> {
+    device: D,
+    left: u32,
+}
+
+impl<D> Interrupted<D> {
+    fn call(&mut self) -> io::Result<()> {
+        if self.left > 0 {
+            self.left -= 1;
+            return Err(io::Error::from(io::ErrorKind::Interrupted));
+        }
+        self.left = 100;
+        Ok(())
+    }
+}
+
+impl Read for Interrupted<FakeReader<'_>> {
+    fn read(&mut self, buf: &mut [u8]) -> io::Result<usize> {
+        self.call()?;
+        self.device.read(buf)
+    }
+}
+
+impl Write for Interrupted<FakeWriter<'_>> {
+    fn write(&mut self, buf: &[u8]) -> io::Result<usize> {
+        self.call()?;
+        self.device.write(buf)
+    }
+
+    fn flush(&mut self) -> io::Result<()> {
+        self.call()?;
+        self.device.flush()
+    }
+}
+
+#[test]
+fn interruptions_are_no_failures(rt: HostRuntime) -> Result<(), Fail> {
+    let settings = Settings::new(19, 29, false).ok_or("settings")?;
+    let mut taken = Vec::new(rt.alloc());
+    let mut source = Input::new(Interrupted {
+        device: FakeReader {
+            rest: HELLO.as_bytes(),
+            most: 1,
+            reads: 0,
+            fails_at: 0,
+        },
+        left: 100,
+    });
+    let mut sink = Output::new(Interrupted {
+        device: FakeWriter {
+            taken: &mut taken,
+            most: 1,
+            writes: 0,
+            fails_at: 0,
+        },
+        left: 100,
+    });
+    let Ok(report) = serve(rt.alloc(), &settings, &mut source, &mut sink) else {
+        return Err(Fail::from("no memory for the block"));
+    };
+    assert_eq!(rt; report.fate, Fate::InputEnded);
+    assert_eq!(rt; (source.failures(), sink.failures()), (0, 0));
+    drop(sink);
+    assert!(rt; taken.as_slice() == b"hello".as_slice());
+    Ok(())
 }
 
 // The bytes 0, 1, .., 250, 0, 1, ..
@@ -378,6 +709,42 @@ fn a_write_of_no_byte_is_a_failure(rt: HostRuntime) -> Result<(), Fail> {
     Ok(())
 }
 
+/// The characters of cells, behind bytes.
+fn put_held(bytes: &mut Vec<u8>, cells: &[Cell]) -> Result<(), Fail> {
+    for cell in cells {
+        if let Cell::Byte(byte) = cell {
+            bytes.push(*byte)?;
+        }
+    }
+    Ok(())
+}
+
+fn are_bytes(cells: &[Cell], text: &[u8]) -> bool {
+    if cells.len() != text.len() {
+        return false;
+    }
+    for (cell, byte) in cells.iter().zip(text) {
+        match cell {
+            Cell::Byte(b) if b == byte => {}
+            _ => return false,
+        }
+    }
+    true
+}
+
+/// Takes what a source holds, up to an apostrophe, into the cells of a block.
+fn takes<I: Source>(rt: &impl Abort, source: &mut I, block: &mut [Cell], want: &str)
+    requires { length block.old ≤ 16777216 }
+    ensures { I.failure_count source.new ≡ I.failure_count source.old }
+{
+    let mut work = Work::over(block);
+    source.take_held(b'\'', &mut work);
+    assert!(rt;
+        are_bytes(work.neutral_part(0, work.neutral_len()), want.as_bytes()),
+        "{want}"
+    );
+}
+
 #[test]
 fn reads_in_runs(rt: HostRuntime) -> Result<(), Fail> {
     let rows = [
@@ -395,11 +762,12 @@ fn reads_in_runs(rt: HostRuntime) -> Result<(), Fail> {
             fails_at,
         });
         let mut seen = Vec::new(rt.alloc());
-        let mut buffer = [0; 100];
-        assert_eq!(rt; source.take_held(b'\'', &mut buffer), 0);
+        let mut block = [Cell::Comma; 100];
+        takes(&rt, &mut source, &mut block, "");
         for _ in 0..30_000 {
-            let run = source.take_held(b'\'', &mut buffer);
-            seen.extend_from_slice(&buffer[..run])?;
+            let mut work = Work::over(&mut block);
+            source.take_held(b'\'', &mut work);
+            put_held(&mut seen, work.neutral_part(0, work.neutral_len()))?;
             assert!(rt; source.failures() <= 1);
             match source.next() {
                 Next::Byte(byte) => seen.push(byte)?,
@@ -409,7 +777,7 @@ fn reads_in_runs(rt: HostRuntime) -> Result<(), Fail> {
         }
         assert!(rt; seen == text);
         assert_eq!(rt; source.failures(), u64::from(fails_at > 0));
-        assert_eq!(rt; source.take_held(b'\'', &mut buffer), 0);
+        takes(&rt, &mut source, &mut block, "");
     }
     Ok(())
 }
@@ -422,19 +790,16 @@ fn takes_what_is_held(rt: HostRuntime) {
         reads: 0,
         fails_at: 2,
     });
-    let mut buffer = [0; 8];
-    assert_eq!(rt; source.take_held(b'\'', &mut buffer), 0);
+    let mut block = [Cell::Comma; 8];
+    takes(&rt, &mut source, &mut block, "");
     assert_eq!(rt; source.next(), Next::Byte(b'x'));
-    assert_eq!(rt; source.take_held(b'\'', &mut buffer[..3]), 3);
-    assert!(rt; &buffer[..3] == b"abc".as_slice());
-    assert_eq!(rt; source.take_held(b'\'', &mut buffer), 2);
-    assert!(rt; &buffer[..2] == b"de".as_slice());
-    assert_eq!(rt; source.take_held(b'\'', &mut buffer), 0);
+    takes(&rt, &mut source, &mut block[..3], "abc");
+    takes(&rt, &mut source, &mut block, "de");
+    takes(&rt, &mut source, &mut block, "");
     assert_eq!(rt; source.next(), Next::Byte(b'\''));
-    assert_eq!(rt; source.take_held(b'\'', &mut buffer), 2);
-    assert!(rt; &buffer[..2] == b"fg".as_slice());
+    takes(&rt, &mut source, &mut block, "fg");
     assert_eq!(rt; source.next(), Next::Failed);
-    assert_eq!(rt; source.take_held(b'\'', &mut buffer), 0);
+    takes(&rt, &mut source, &mut block, "");
     assert_eq!(rt; source.next(), Next::End);
     assert_eq!(rt; source.failures(), 1);
 }
@@ -442,6 +807,10 @@ fn takes_what_is_held(rt: HostRuntime) {
 #[test]
 fn writes_in_runs(rt: HostRuntime) -> Result<(), Fail> {
     let text = pattern(rt.alloc(), 20_000)?;
+    let mut cells = Vec::new(rt.alloc());
+    for byte in &text {
+        cells.push(Cell::Byte(*byte))?;
+    }
     for (most, fails_at, kept) in [(5_000, 0, 20_000), (5_000, 2, 8_192)] {
         let mut taken = Vec::new(rt.alloc());
         let mut sink = Output::new(FakeWriter {
@@ -450,7 +819,7 @@ fn writes_in_runs(rt: HostRuntime) -> Result<(), Fail> {
             writes: 0,
             fails_at,
         });
-        assert_eq!(rt; sink.put_all(&text).is_ok(), fails_at == 0);
+        assert_eq!(rt; sink.put_all(&cells).is_ok(), fails_at == 0);
         assert_eq!(rt; sink.failures(), u64::from(fails_at > 0));
         assert!(rt; sink.flush().is_ok());
         assert!(rt; taken.as_slice() == &text[..kept.min(text.len())]);

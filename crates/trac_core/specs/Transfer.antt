@@ -1,8 +1,8 @@
 -- What is said of a text that is read into the neutral string.
-use Rattle.std.specs.Prelude.{◌≡◌, ℕ, true, false, [], ◌∷◌, ◌++◌}
+use Rattle.std.specs.Prelude.{◌≡◌, ℕ, ◌<◌, ◌≤◌, ◌⊎◌, true, false, List, [], ◌∷◌, ◌++◌, length, take, slice_get, Some}
 use Rattle.trac_forms.specs.Text.{Text}
 use Rattle.trac_forms.specs.FlatForms.{flat_text}
-use Rattle.trac_forms.specs.Contents.{Contents}
+use Rattle.trac_forms.specs.Contents.{Contents, used}
 use Rattle.trac_core.specs.declared.transfer.ReadEnd.{ReadEnd}
 use Rattle.trac_core.specs.declared.transfer.ReadEnd.TheVariants.{Meta, Ended, Failed, Full}
 use Rattle.trac_core.specs.Devices.{Stream, has_byte}
@@ -18,6 +18,14 @@ failures_of_read Full = 0
 pub record Reads (meta : ℕ) (old new : Contents) (text : Text) : Type 0 where
   pub pushed : new ≡ record old { neutral = old.neutral ++ flat_text text }
   pub no_meta : has_byte meta text ≡ false
+
+-- so many of the bytes that a source held were put at the end of the neutral string: all, or those before the stop, or as
+-- many as there were free cells
+pub record TakesHeld (stop : ℕ) (held : List ℕ) (count : ℕ) (old new : Contents) : Type 0 where
+  pub within : count ≤ length held
+  pub put : new ≡ record old { neutral = old.neutral ++ flat_text (take count held) }
+  pub before : has_byte stop (take count held) ≡ false
+  pub stops : count < length held → (slice_get held count ≡ Some stop) ⊎ (new.room ≤ used new)
 
 -- the source gave the text, and what followed it
 abbrev pub StreamsTo : ReadEnd → ℕ → Stream → Text → Stream → Type 0

@@ -1,15 +1,24 @@
 //! What a machine reads from and writes to.
-ghost use Rattle.std.specs.Prelude.{◌≡◌, ℕ, ◌+◌, ◌-◌, ◌^◌, ◌<◌, ◌≤◌, List, length, take, false, OnOk};
-ghost use Rattle.trac_core.specs.Devices.{Stream, Gives, Streams, failures_of_next, failures_of, after_put, has_byte, Prints};
+ghost use Rattle.std.specs.Prelude.{◌≡◌, ℕ, ◌+◌, ◌-◌, ◌^◌, ◌<◌, ◌≤◌, List, OnOk};
+ghost use Rattle.trac_forms.specs.Text.{Text};
+ghost use Rattle.trac_forms.specs.FlatForms.{text_of_cells};
+ghost use Rattle.trac_forms.specs.Contents.{IsSound};
+ghost use Rattle.trac_core.specs.Devices.{Stream, Gives, Streams, failures_of_next, failures_of, after_put, Prints};
+ghost use Rattle.trac_core.specs.Transfer.{Reads};
 
-mod held;
+use crate::values::text::character_of;
+use trac_forms::{Cell, Work};
+
+mod characters;
 mod read_source;
+mod retrying;
 mod slice_sink;
 mod slice_source;
 mod write_sink;
 
-pub use held::copy_before;
+pub use characters::write_characters;
 pub use read_source::ReadSource;
+pub use retrying::{RetryingReader, RetryingWriter, TRIES};
 pub use slice_sink::SliceSink;
 pub use slice_source::SliceSource;
 pub use write_sink::WriteSink;
@@ -42,18 +51,16 @@ pub trait Source {
     /// The number of failures so far.
     ghost failure_count: { Self → ℕ };
 
-    /// Takes bytes that the source holds already to the front of `buffer`, and gives how many they were: those before the
-    /// first `stop`, as far as they fit, or fewer. It waits for nothing and can't fail. A source that holds none needs no
-    /// body of its own.
-    fn take_held(&mut self, stop: u8, buffer: &mut [u8]) -> usize
-        ensures within { result ≤ length buffer.new }
-        ensures before { has_byte stop (take result buffer.new) ≡ false }
-        ensures takes { tells self.old → Streams (stream self.old) (take result buffer.new) (stream self.new) }
+    /// Puts bytes that the source holds already at the end of the neutral string, by `Work::push_before`: those before
+    /// the first `stop`, as far as cells are free, or fewer. They are consumed. It waits for nothing and can't fail. A
+    /// source that holds none needs no body of its own.
+    fn take_held(&mut self, stop: u8, work: &mut Work)
+        requires { IsSound work.old }
+        ensures reads { (text : Text) × (Reads stop work.old work.new text × (tells self.old → Streams (stream self.old) text (stream self.new))) }
         ensures told { tells self.old → tells self.new }
         ensures counts { failure_count self.new ≡ failure_count self.old }
-    {
-        0
-    }
+        ensures sound { IsSound work.new }
+    {}
 
     /// The next byte, the end, or a failure. A source that has ended answers the end at each later call.
     fn next(&mut self) -> Next
@@ -89,15 +96,15 @@ pub trait Sink {
         ensures told { tells self.old → tells self.new }
         ensures counts { failure_count self.new ≡ failure_count self.old + failures_of result };
 
-    /// Takes bytes in their order. An error appends a first part of them.
-    fn put_all(&mut self, bytes: &[u8]) -> Result<(), SinkFailed>
+    /// Takes the characters of cells in their order. An error appends a first part of them.
+    fn put_all(&mut self, text: &[Cell]) -> Result<(), SinkFailed>
         requires { failure_count self.old < 2 ^ 64 - 1 }
-        ensures prints { tells self.old → Prints result (written self.old) bytes.now (written self.new) }
+        ensures prints { tells self.old → Prints result (written self.old) (text_of_cells text.now) (written self.new) }
         ensures told { tells self.old → tells self.new }
         ensures counts { failure_count self.new ≡ failure_count self.old + failures_of result }
     {
-        for byte in bytes {
-            self.put(*byte)?;
+        for cell in text {
+            self.put(character_of(cell))?;
         }
         Ok(())
     }

@@ -15,6 +15,7 @@ use crate::device::{Sink, SinkFailed};
 use crate::function::Function;
 use crate::machine::Fate;
 use crate::scan::Attempt;
+use crate::transfer::print_bytes;
 use itoa::Buffer;
 use trac_forms::{FormId, Item, Work};
 
@@ -86,7 +87,7 @@ fn show_form<O: Sink>(work: &Work, form: FormId, sink: &mut O) -> Result<(), Sin
 {
     let pointer = work.pointer(form);
     show_items(work, form, 0, pointer, sink)?;
-    sink.put_all(b"<^>")?;
+    print_bytes(b"<^>", sink)?;
     show_items(work, form, pointer, work.body_len(form), sink)?;
     sink.flush()
 }
@@ -134,7 +135,7 @@ fn show_gap<O: Sink>(ordinal: u32, sink: &mut O) -> Result<(), SinkFailed>
     ensures counts { O.failure_count sink.new ≡ O.failure_count sink.old + failures_of result }
 {
     let mut buffer = Buffer::new();
-    sink.put_all(b"<")?;
-    sink.put_all(buffer.format(ordinal).as_bytes())?;
-    sink.put_all(b">")
+    print_bytes(b"<", sink)?;
+    print_bytes(buffer.format(ordinal).as_bytes(), sink)?;
+    print_bytes(b">", sink)
 }

@@ -20,10 +20,11 @@ pub mod values;
 mod writing;
 
 pub use device::{
-    Next, ReadSource, Sink, SinkFailed, SliceSink, SliceSource, Source, WriteSink, copy_before,
+    Next, ReadSource, RetryingReader, RetryingWriter, Sink, SinkFailed, SliceSink, SliceSource,
+    Source, TRIES, WriteSink, write_characters,
 };
 pub use machine::{Fate, Machine, Report, ScanningRule};
-pub use trac_forms::Cell;
+pub use trac_forms::{Cell, Work};
 
 #[cfg(test)]
 mod tests;

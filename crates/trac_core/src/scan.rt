@@ -355,9 +355,10 @@ fn begin_argument(work: &mut Work)
     ensures room { work.new.room ≡ work.old.room }
     ensures sound { IsSound work.new }
 {
-    work.drop_active(1);
     if work.last_call().is_some() {
-        work.put_neutral(Cell::Comma);
+        work.active_to_cell(1, Cell::Comma);
+    } else {
+        work.drop_active(1);
     }
 }
 
@@ -388,8 +389,7 @@ fn begin_call(work: &mut Work, characters: u32, mode: Mode)
     ensures opened { work.new ≡ record work.old { active = drop characters work.old.active; neutral = work.old.neutral ++ Cell.Call mode 0 ∷ [] } }
     ensures sound { IsSound work.new }
 {
-    work.drop_active(characters);
-    work.put_neutral(Cell::Call(mode, 0));
+    work.active_to_cell(characters, Cell::Call(mode, 0));
 }
 
 /// The first character of the active string goes to the end of the neutral one.
@@ -399,8 +399,7 @@ fn put_first(work: &mut Work, byte: u8)
     ensures put { work.new ≡ record work.old { active = drop 1 work.old.active; neutral = work.old.neutral ++ Cell.Byte byte ∷ [] } }
     ensures sound { IsSound work.new }
 {
-    work.drop_active(1);
-    work.put_neutral(Cell::Byte(byte));
+    work.active_to_cell(1, Cell::Byte(byte));
 }
 
 /// Any other character is added.

@@ -9,10 +9,14 @@ mod view;
 use crate::{Cell, Fate, Machine, Report, SliceSink, SliceSource};
 use rows::{DISPLAYED, FORMS, HALTING, PARTS, READ, REPORTS, SCANNED, VALUES};
 use std::process::Abort;
+use std::test::Fail;
+use trac_space::make_block;
 
 const AMPLE: usize = 1000;
 
 const MANY: u64 = 1_000_000;
+
+const DEFAULT: u32 = 65_536;
 
 const OUTPUT: usize = 100;
 
@@ -83,37 +87,37 @@ fn answer(rt: &impl Abort, rows: &[(&str, &str)], fate: Fate) {
         let whole = outcome(script.as_bytes(), AMPLE, MANY);
         assert!(rt; whole.output() == output.as_bytes(), "{script}");
         assert_eq!(rt; whole.report.fate, fate, "{script}");
-        sweep(rt, script, MANY);
+        sweep(rt, script.as_bytes(), MANY);
     }
 }
 
-fn sweep(rt: &impl Abort, script: &str, allowance: u64) {
-    let whole = outcome(script.as_bytes(), AMPLE, allowance);
+fn sweep(rt: &impl Abort, script: &[u8], allowance: u64) {
+    let whole = outcome(script, AMPLE, allowance);
     sweep_rooms(rt, script, allowance, &whole);
     sweep_allowances(rt, script, allowance, &whole);
 }
 
-fn sweep_rooms(rt: &impl Abort, script: &str, allowance: u64, whole: &Ended) {
+fn sweep_rooms(rt: &impl Abort, script: &[u8], allowance: u64, whole: &Ended) {
     for cells in 0..whole.report.peak.saturating_add(3) {
-        let got = outcome(script.as_bytes(), cells as usize, allowance);
+        let got = outcome(script, cells as usize, allowance);
         if cells < whole.report.peak {
-            assert_eq!(rt; got.report.fate, Fate::Workspace, "{script} {cells}");
-            assert!(rt; is_begun(whole, &got), "{script} {cells}");
+            assert_eq!(rt; got.report.fate, Fate::Workspace, "{script:?} {cells}");
+            assert!(rt; is_begun(whole, &got), "{script:?} {cells}");
         } else {
-            assert!(rt; got == *whole, "{script} {cells}");
+            assert!(rt; got == *whole, "{script:?} {cells}");
         }
     }
 }
 
-fn sweep_allowances(rt: &impl Abort, script: &str, allowance: u64, whole: &Ended) {
+fn sweep_allowances(rt: &impl Abort, script: &[u8], allowance: u64, whole: &Ended) {
     for allowed in 0..whole.report.steps.saturating_add(2) {
-        let got = outcome(script.as_bytes(), AMPLE, allowed);
+        let got = outcome(script, AMPLE, allowed);
         if allowed < whole.report.steps {
             let report = (got.report.fate, got.report.steps);
-            assert!(rt; report == (Fate::Steps, allowed), "{script} {allowed}");
-            assert!(rt; is_begun(whole, &got), "{script} {allowed}");
+            assert!(rt; report == (Fate::Steps, allowed), "{script:?} {allowed}");
+            assert!(rt; is_begun(whole, &got), "{script:?} {allowed}");
         } else if allowed <= allowance {
-            assert!(rt; got == *whole, "{script} {allowed}");
+            assert!(rt; got == *whole, "{script:?} {allowed}");
         }
     }
 }
@@ -184,7 +188,7 @@ fn reports(rt: HostRuntime) {
 
 #[test]
 fn endless_loop(rt: HostRuntime) {
-    sweep(&rt, LOOP, 300);
+    sweep(&rt, LOOP.as_bytes(), 300);
 }
 
 #[test]
@@ -198,7 +202,62 @@ fn each_byte(rt: HostRuntime) {
         }
         assert_eq!(rt; got.report.fate, Fate::InputEnded, "{byte}");
     }
-    assert!(rt; outcome(b"\xff\0'", AMPLE, MANY).output() == b"\xff\0".as_slice());
+}
+
+#[test]
+fn bytes_that_are_no_text(rt: HostRuntime) {
+    let script = b"\xff\0'";
+    let got = outcome(script, AMPLE, MANY);
+    assert!(rt; got.output() == b"\xff\0".as_slice());
+    let report = Report {
+        fate: Fate::InputEnded,
+        steps: 21,
+        peak: 11,
+    };
+    assert_eq!(rt; got.report, report);
+    sweep(&rt, script, MANY);
+}
+
+// The rows again, over a block of the size that the program takes by default.
+fn answer_in(rt: &impl Abort, rows: &[(&str, &str)], block: &mut [Cell])
+    requires { length block.old ≤ 16777216 }
+{
+    for (script, output) in rows {
+        let got = run(script.as_bytes(), NO_FAULTS, block, MANY);
+        assert!(rt; got.output() == output.as_bytes(), "{script}");
+        assert!(rt; got == outcome(script.as_bytes(), AMPLE, MANY), "{script}");
+    }
+}
+
+fn report_in(rt: &impl Abort, block: &mut [Cell])
+    requires { length block.old ≤ 16777216 }
+{
+    for (script, cells, allowance, output, fate, steps, peak) in REPORTS {
+        if cells == AMPLE {
+            let got = run(script.as_bytes(), NO_FAULTS, block, allowance);
+            came_to(rt, &got, output, fate, steps, peak);
+        }
+    }
+}
+
+#[test]
+fn rows_in_a_block_of_the_default_size(rt: HostRuntime) -> Result<(), Fail> {
+    let mut block = make_block(rt.alloc(), DEFAULT)?;
+    answer_in(&rt, &SCANNED, &mut block);
+    answer_in(&rt, &READ, &mut block);
+    answer_in(&rt, &HALTING, &mut block);
+    answer_in(&rt, &FORMS, &mut block);
+    answer_in(&rt, &PARTS, &mut block);
+    answer_in(&rt, &VALUES, &mut block);
+    answer_in(&rt, &DISPLAYED, &mut block);
+    Ok(())
+}
+
+#[test]
+fn reports_in_a_block_of_the_default_size(rt: HostRuntime) -> Result<(), Fail> {
+    let mut block = make_block(rt.alloc(), DEFAULT)?;
+    report_in(&rt, &mut block);
+    Ok(())
 }
 
 #[test]

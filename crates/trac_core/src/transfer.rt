@@ -10,9 +10,7 @@ use crate::device::{Next, Sink, SinkFailed, Source};
 use crate::values::text::character_of;
 use trac_forms::{Cell, Work};
 
-// How many characters a run has at most, from a source or to a sink.
-const RUN: usize = 256;
-// How many characters are too few for a run to a sink.
+// How many characters are put one by one.
 const FEW: usize = 16;
 
 /// How a text ended that was read.
@@ -29,7 +27,7 @@ pub(crate) enum ReadEnd {
 }
 
 /// Puts the bytes of a source up to the meta character at the end of the neutral string, as far as they fit. Those that
-/// the source holds already go in runs.
+/// the source holds already go at once.
 pub(crate) fn read_text<I: Source>(work: &mut Work, meta: u8, source: &mut I) -> ReadEnd
     requires counts { I.failure_count source.old < 2 ^ 64 - 1 }
     requires sound { IsSound work.old }
@@ -39,9 +37,8 @@ pub(crate) fn read_text<I: Source>(work: &mut Work, meta: u8, source: &mut I) ->
     ensures counts { I.failure_count source.new ≡ I.failure_count source.old + failures_of_read result }
     ensures sound { IsSound work.new }
 {
-    let mut run = [0; RUN];
     loop {
-        read_run(work, meta, &mut run, source);
+        source.take_held(meta, work);
         match source.next() {
             Next::Byte(byte) if byte == meta => return ReadEnd::Meta,
             Next::Byte(byte) => {
@@ -53,21 +50,6 @@ pub(crate) fn read_text<I: Source>(work: &mut Work, meta: u8, source: &mut I) ->
             Next::Failed => return ReadEnd::Failed,
         }
     }
-}
-
-// Puts bytes that the source holds already, up to the meta character and as far as they fit, at the end of the neutral
-// string. They go through `run`.
-fn read_run<I: Source>(work: &mut Work, meta: u8, run: &mut [u8], source: &mut I)
-    requires { IsSound work.old }
-    ensures reads { (text : Text) × (Reads meta work.old work.new text × (I.tells source.old → Streams (I.stream source.old) text (I.stream source.new))) }
-    ensures told { I.tells source.old → I.tells source.new }
-    ensures counts { I.failure_count source.new ≡ I.failure_count source.old }
-    ensures sound { IsSound work.new }
-{
-    let most = run.len().min(work.free() as usize);
-    let fitting = &mut run[..most];
-    let count = source.take_held(meta, fitting);
-    work.push_bytes(&fitting[..count]);
 }
 
 /// Puts the characters of cells into a sink, and then flushes it where there was one.
@@ -91,7 +73,7 @@ pub(crate) fn print_text<O: Sink>(text: &[Cell], sink: &mut O) -> Result<(), Sin
     sink.flush()
 }
 
-// Puts the characters of cells into a sink, those of a longer text in runs.
+// Puts the characters of cells into a sink, those of a longer text at once.
 fn put_characters<O: Sink>(text: &[Cell], sink: &mut O) -> Result<(), SinkFailed>
     requires { O.failure_count sink.old < 2 ^ 64 - 1 }
     ensures prints { O.tells sink.old → Prints result (O.written sink.old) (text_of_cells text.now) (O.written sink.new) }
@@ -101,7 +83,7 @@ fn put_characters<O: Sink>(text: &[Cell], sink: &mut O) -> Result<(), SinkFailed
     if text.len() < FEW {
         put_each(text, sink)
     } else {
-        put_runs(text, &mut [0; RUN], sink)
+        sink.put_all(text)
     }
 }
 
@@ -118,30 +100,15 @@ fn put_each<O: Sink>(text: &[Cell], sink: &mut O) -> Result<(), SinkFailed>
     Ok(())
 }
 
-// The same, in runs that go through `run`.
-fn put_runs<O: Sink>(text: &[Cell], run: &mut [u8], sink: &mut O) -> Result<(), SinkFailed>
-    requires counts { O.failure_count sink.old < 2 ^ 64 - 1 }
-    requires some { 0 < length run.old }
-    ensures prints { O.tells sink.old → Prints result (O.written sink.old) (text_of_cells text.now) (O.written sink.new) }
+/// Puts bytes into a sink, one by one.
+pub(crate) fn print_bytes<O: Sink>(bytes: &[u8], sink: &mut O) -> Result<(), SinkFailed>
+    requires { O.failure_count sink.old < 2 ^ 64 - 1 }
+    ensures prints { O.tells sink.old → Prints result (O.written sink.old) bytes.now (O.written sink.new) }
     ensures told { O.tells sink.old → O.tells sink.new }
     ensures counts { O.failure_count sink.new ≡ O.failure_count sink.old + failures_of result }
 {
-    let mut done = 0;
-    while done < text.len() {
-        let count = run.len().min(text.len() - done);
-        write_characters(&text[done..done + count], run);
-        sink.put_all(&run[..count])?;
-        done += count;
+    for byte in bytes {
+        sink.put(*byte)?;
     }
     Ok(())
-}
-
-// Makes the first bytes the characters of cells.
-fn write_characters(cells: &[Cell], bytes: &mut [u8])
-    requires { length cells.now ≤ length bytes.old }
-    ensures { take (length cells.now) bytes.new ≡ text_of_cells cells.now }
-{
-    for (i, cell) in cells.iter().enumerate() {
-        bytes[i] = character_of(cell);
-    }
 }

@@ -1,5 +1,5 @@
 -- What `define` and `segment` leave in a store, from what they put there.
-use Rattle.std.proofs.Common.{◌≡◌, ℕ, ◌+◌, ◌-◌, ◌<◌, ◌≤◌, List, ◌∷◌, [], ◌++◌, length, take, drop, map, set, slice_range, refl, sym, ap, ◌∙◌, arith}
+use Rattle.std.proofs.Common.{◌≡◌, ℕ, ◌+◌, ◌-◌, ◌<◌, ◌≤◌, List, ◌∷◌, [], ◌++◌, length, take, drop, map, set, slice_range, refl, sym, ap, subst, ◌∙◌, arith}
 use Rattle.std.proofs.lemmas.List.{length_push, length-append, length-map, length-set, length-take-le, take_at}
 use Rattle.std.proofs.lemmas.List.Sums.{sum_by_push}
 use Rattle.trac_space.specs.declared.cell.Cell.{Cell}
@@ -9,18 +9,21 @@ use Rattle.trac_space.specs.Lists.{Lists}
 use Rattle.trac_forms.specs.Segment.{segment}
 use Rattle.trac_forms.specs.Store.{without, defined, form_cells}
 use Rattle.trac_forms.specs.FlatForms.{flat_item, flat_form, flat_forms}
-use Rattle.trac_forms.specs.Contents.{form_at, part_text, new_form}
+use Rattle.trac_forms.specs.Contents.{form_at, name_at, part_text, new_form}
 use Rattle.trac_forms.specs.Gaps.{segmented_cells}
+use Rattle.trac_forms.specs.Text.{Text}
+use Rattle.trac_forms.specs.Index.{IsIndexed, IsIndexBut, started}
 use Rattle.trac_forms.specs.Stored.{forms_in, head_at, start_of, IsStored}
-use Rattle.trac_forms.proofs.FlatLemmas.{used-stored, length-flat, length-new_form}
+use Rattle.trac_forms.proofs.FlatLemmas.{forms_in-flat, used-stored, length-flat, length-new_form}
 use Rattle.trac_forms.proofs.Places.{stands, start_of-set}
 use Rattle.trac_forms.proofs.Stores.{IsStore-defined, IsStore-set, cells-without, cells-set}
+use Rattle.trac_forms.proofs.FormTables.{index-set}
 use Rattle.trac_forms.proofs.Strings.{restored, redefined}
 use Rattle.trac_forms.proofs.Segments.{flat-segment, regapped, written}
 
 -- a new form of two parts of neutral behind the others, where an older one of that name is gone
-pub defined-stored : (s t u : Lists) (count last start a b from to rest_count begins : ℕ) → IsStored s count last start → b ≤ length s.neutral → to ≤ length s.neutral → lists.used s + (3 + (b - a) + (to - from)) ≤ s.room → t ≡ record s { store = flat_forms (without (part_text s.neutral a b) (forms_in s.store)) } → rest_count ≡ length (without (part_text s.neutral a b) (forms_in s.store)) → begins ≡ length t.store → u ≡ record t { store = t.store ++ flat_form (new_form t.neutral a b from to) } → IsStored u (rest_count + 1) rest_count begins
-defined-stored s t u count last start a b from to rest_count begins h name_in text_in need gone counted begin put =
+pub defined-stored : (s t u v : Lists) (count last start a b from to rest_count begins : ℕ) → IsStored s count last start → b ≤ length s.neutral → to ≤ length s.neutral → lists.used s + (3 + (b - a) + (to - from)) ≤ s.room → t ≡ record s { store = flat_forms (without (part_text s.neutral a b) (forms_in s.store)); spare = t.spare } → rest_count ≡ length (without (part_text s.neutral a b) (forms_in s.store)) → begins ≡ length t.store → u ≡ record t { store = t.store ++ flat_form (new_form t.neutral a b from to); spare = u.spare } → IsIndexed v.spare (forms_in u.store) → v ≡ record u { spare = v.spare } → IsStored v (rest_count + 1) rest_count begins
+defined-stored s t u v count last start a b from to rest_count begins h name_in text_in need gone counted begin put index kept =
     let forms = forms_in s.store in
     let name = part_text s.neutral a b in
     let text = part_text s.neutral from to in
@@ -36,7 +39,7 @@ defined-stored s t u count last start a b from to rest_count begins h name_in te
     let counted_all = length_push rest form in
     let first = take_at rest (form ∷ []) (length rest) refl in
     let place : begins ≡ start_of all (length rest) = begin ∙ ap (λ v. length v.store) gone ∙ ap (λ fs. length (flat_forms fs)) (sym first) in
-    restored s u all (rest_count + 1) rest_count begins h.sound (IsStore-defined name text forms h.sound.forms) room is (omega arith) (omega arith) (place ∙ ap (start_of all) (sym counted))
+    restored v.spare s v all (rest_count + 1) rest_count begins (subst (IsIndexed v.spare) (ap (λ (w : Lists). forms_in w.store) is ∙ forms_in-flat all) index) h.sound (IsStore-defined name text forms h.sound.forms) room (kept ∙ ap (λ (w : Lists). record w { spare = v.spare }) is) (omega arith) (omega arith) (place ∙ ap (start_of all) (sym counted))
 
 -- the store is still as long as what stands before the gaps
 pub gapped-long : (s t : Lists) (from : ℕ) (gapped rest : List Cell) → from ≤ length s.store → t ≡ record s { store = take from s.store ++ gapped ++ rest } → from ≤ length t.store
@@ -44,8 +47,8 @@ gapped-long s t from gapped rest within is =
     omega (arith, ap (λ v. length v.store) is, length-append (take from s.store ++ gapped) rest, length-append (take from s.store) gapped, length-append gapped rest, length-append (take from s.store) (gapped ++ rest), length-take-le from s.store within)
 
 -- form k with gaps for a text: first its body is segmented, and then two of its heads are written
-pub segmented-stored : (s t u v : Lists) (count last begins k start name body end a b ordinal : ℕ) → IsStored s count last begins → k < length (forms_in s.store) → start ≡ start_of (forms_in s.store) k → name ≡ head_at s.store start → body ≡ head_at s.store (start + 1) → t ≡ record s { store = take (start + 3 + name) s.store ++ segmented_cells (part_text s.neutral a b) ordinal (slice_range s.store (start + 3 + name) (start + 3 + name + body)) ++ drop (start + 3 + name + body) s.store } → end ≡ start + 3 + name + length (segmented_cells (part_text s.neutral a b) ordinal (slice_range s.store (start + 3 + name) (start + 3 + name + body))) → end ≤ start + 3 + name + body → u ≡ record t { store = set t.store (start + 1) (Head (end - (start + 3 + name))) } → v ≡ record u { store = set u.store (start + 2) (Head 0) } → (v ≡ record s { store = flat_forms (set (forms_in s.store) k (record (form_at (forms_in s.store) k) { body = segment (part_text s.neutral a b) ordinal (form_at (forms_in s.store) k).body; pointer = 0 })) }) × IsStored v count k start
-segmented-stored s t u v count last begins k start name body end a b ordinal h within start_is name_is body_is gaps end_is shorter first second =
+pub segmented-stored : (s t u v w : Lists) (count last begins k start name body end a b ordinal : ℕ) → IsStored s count last begins → k < length (forms_in s.store) → start ≡ start_of (forms_in s.store) k → name ≡ head_at s.store start → body ≡ head_at s.store (start + 1) → t ≡ record s { store = take (start + 3 + name) s.store ++ segmented_cells (part_text s.neutral a b) ordinal (slice_range s.store (start + 3 + name) (start + 3 + name + body)) ++ drop (start + 3 + name + body) s.store } → end ≡ start + 3 + name + length (segmented_cells (part_text s.neutral a b) ordinal (slice_range s.store (start + 3 + name) (start + 3 + name + body))) → end ≤ start + 3 + name + body → u ≡ record t { store = set t.store (start + 1) (Head (end - (start + 3 + name))) } → v ≡ record u { store = set u.store (start + 2) (Head 0) } → w ≡ record v { spare = w.spare } → length w.spare ≡ length v.spare → ((names : ℕ → Text) → (starts : ℕ → ℕ) → IsIndexBut v.spare count count names starts → IsIndexBut w.spare count count names (started k count (start + 3 + name + body - end) starts)) → (w ≡ record s { spare = w.spare; store = flat_forms (set (forms_in s.store) k (record (form_at (forms_in s.store) k) { body = segment (part_text s.neutral a b) ordinal (form_at (forms_in s.store) k).body; pointer = 0 })) }) × IsStored w count k start
+segmented-stored s t u v w count last begins k start name body end a b ordinal h within start_is name_is body_is gaps end_is shorter first second same len index =
     let forms = forms_in s.store in
     let f = stands forms s.store k start h.whole within start_is in
     let form = form_at forms k in
@@ -66,4 +69,10 @@ segmented-stored s t u v count last begins k start name body end a b ordinal h w
     let fewer : form_cells new ≤ form_cells form = omega (arith, shorter, to_is) in
     let less = cells-set forms k new within fewer in
     let used = used-stored s h.whole in
-    (is, restored s v (set forms k new) count k start h.sound (IsStore-set forms k new refl (omega arith) h.sound.forms) (omega (arith, ap length h.whole, h.sound.fits)) is (omega (arith, h.count_is, length-set forms k new)) (omega (arith, h.count_is, within)) (start_is ∙ sym (start_of-set forms k new)))
+    let is_all = same ∙ ap (λ (l : Lists). record l { spare = w.spare }) is in
+    let was : v.spare ≡ s.spare = ap (λ (l : Lists). l.spare) is in
+    let counted = h.count_is in
+    let table : IsIndexed w.spare (set forms k new) = λ some.
+    index-set forms k new within refl (to - end) (omega (arith, shorter, to_is, size)) w.spare count counted
+    (index (name_at forms) (start_of forms) (subst (λ l. IsIndexBut l count count (name_at forms) (start_of forms)) (sym was) (subst (λ n. IsIndexBut s.spare n n (name_at forms) (start_of forms)) (sym counted) (h.index (omega (arith, some, len, ap length was)))))) in
+    (is_all, restored w.spare s w (set forms k new) count k start table h.sound (IsStore-set forms k new refl (omega arith) h.sound.forms) (omega (arith, ap length h.whole, h.sound.fits)) is_all (omega (arith, h.count_is, length-set forms k new)) (omega (arith, h.count_is, within)) (start_is ∙ sym (start_of-set forms k new)))

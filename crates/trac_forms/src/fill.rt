@@ -1,13 +1,14 @@
 //! Whole forms, their gaps filled, put at the end of neutral (Mooers 1966).
-ghost use Rattle.std.specs.Prelude.{◌≡◌, ◌+◌, ◌≤◌, ◌<◌, ◌↔◌, ◌++◌, ◌∷◌, ℕ, true, false, length, take, drop, map, get_or, slice_range, IsTrue, All};
+ghost use Rattle.std.specs.Prelude.{◌≡◌, ◌+◌, ◌≤◌, ◌<◌, ◌↔◌, ◌++◌, ◌∷◌, ℕ, true, false, length, take, drop, map, get_or, slice_range, IsTrue, All, MatchOption, IfSome, []};
 ghost use Rattle.std.specs.Bool.{OnTrue, OnFalse};
-ghost use Rattle.trac_space.specs.Lists.{used as cells_used};
+ghost use Rattle.trac_space.specs.Lists.{used as cells_used, HasWay, with_way};
 ghost use Rattle.trac_forms.specs.Text.{Text};
 ghost use Rattle.trac_forms.specs.Form.{fill};
 ghost use Rattle.trac_forms.specs.FlatForms.{flat_text};
 ghost use Rattle.trac_forms.specs.Contents.{used, body_at, AreTextParts, part_texts, IsSound};
 ghost use Rattle.trac_forms.specs.Gaps.{is_byte_cell, byte_cell_at, gap_ordinal};
 ghost use Rattle.trac_forms.specs.Stored.{item_of};
+ghost use Rattle.trac_forms.specs.Index.{IsKept};
 
 use crate::item::FormId;
 use crate::search::is_character;
@@ -52,29 +53,63 @@ fn fill_cells(space: &mut Space, from: u32, end: u32, parts: &[(u32, u32)]) -> b
     ensures put { let text = fill (part_texts space.old.neutral parts.now) (map item_of (slice_range space.old.store from end)) in
         IsTrue result ↔ (cells_used space.old + length text ≤ space.old.room) }
     ensures last { let text = fill (part_texts space.old.neutral parts.now) (map item_of (slice_range space.old.store from end)) in
-        OnTrue result (space.new ≡ record space.old { neutral = space.old.neutral ++ flat_text text }) }
-    ensures some { OnFalse result ((done : Text) × (space.new ≡ record space.old { neutral = space.old.neutral ++ flat_text done })) }
+        OnTrue result (space.new ≡ record space.old { neutral = space.old.neutral ++ flat_text text; spare = space.new.spare }) }
+    ensures kept { IsKept space.old.spare space.new.spare }
+    ensures some { OnFalse result ((done : Text) × (space.new ≡ record space.old { neutral = space.old.neutral ++ flat_text done; spare = space.new.spare })) }
 {
     let mut at = from;
-    let mut free = space.free();
+    let mut way = space.way();
     loop {
         let gap = at + characters(space.store_part(at, end));
-        if free < gap - at {
+        let Some(left) = take_room(space, gap - at, way) else {
             return false;
-        }
-        free -= gap - at;
+        };
         space.put_from_store(at, gap);
         if gap == end {
             return true;
         }
         let part = numbered(parts, ordinal(space, gap));
-        if free < part.1 - part.0 {
+        let Some(rest) = take_room(space, part.1 - part.0, left) else {
             return false;
-        }
-        free -= part.1 - part.0;
+        };
         space.put_from_neutral(part.0, part.1);
+        way = rest;
         at = gap + 1;
     }
+}
+
+// How many cells are in no list once `n` more are put, where `way` cells are in none; the spare list goes where that needs its
+// cells. None where they don't fit.
+#[inline]
+fn take_room(space: &mut Space, n: u32, way: u32) -> Option<u32>
+    requires { way + cells_used space.old + length space.old.spare ≡ space.old.room }
+    ensures fits { MatchOption result
+        (space.old.room < cells_used space.old + n)
+        (λ left. left + n + cells_used space.new + length space.new.spare ≡ space.new.room) }
+    ensures way { IfSome result (λ _. HasWay n space.new) }
+    ensures same { MatchOption result (space.new ≡ space.old) (λ _. space.new ≡ with_way n space.old) }
+{
+    if n <= way {
+        return Some(way - n);
+    }
+    take_spare_room(space, n)
+}
+
+// The same, where the spare list is in the way of so many cells, or they don't fit at all.
+#[inline(never)]
+fn take_spare_room(space: &mut Space, n: u32) -> Option<u32>
+    requires { space.old.room < cells_used space.old + n + length space.old.spare }
+    ensures fits { MatchOption result
+        (space.old.room < cells_used space.old + n)
+        (λ left. left + n + cells_used space.new + length space.new.spare ≡ space.new.room) }
+    ensures same { MatchOption result (space.new ≡ space.old) (λ _. space.new ≡ record space.old { spare = [] }) }
+{
+    let free = space.free();
+    if free < n {
+        return None;
+    }
+    space.drop_spare();
+    Some(free - n)
 }
 
 // How many characters begin the cells.

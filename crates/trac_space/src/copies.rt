@@ -4,11 +4,11 @@ ghost use Rattle.std.specs.List.{copy_within};
 
 use crate::cell::Cell;
 
-// How many cells a long move takes at once where those don't overlap their new place.
+// How many cells a long move takes at once.
 const PART: usize = 256;
-// How many where they do; they go through cells beside the block.
-const BESIDE: usize = 64;
-// How many cells are too few for that.
+// How near two places are whose cells go one by one.
+const NEAR: usize = 8;
+// How many cells are too few for parts where the places overlap.
 const FEW: usize = 24;
 
 // As `copy_within`. A short move goes cell by cell.
@@ -55,7 +55,7 @@ fn copy_more(cells: &mut [Cell], start: usize, end: usize, to: usize)
     copy_cells(cells, start, end, to);
 }
 
-// The same. Where the two places are apart, or there are cells enough, they go as blocks of memory.
+// The same. Where the two places are apart they go as blocks of memory, and else part by part.
 #[inline(never)]
 fn copy_long(cells: &mut [Cell], start: usize, end: usize, to: usize)
     requires order { start ≤ end }
@@ -66,9 +66,9 @@ fn copy_long(cells: &mut [Cell], start: usize, end: usize, to: usize)
 {
     if end <= to || to + (end - start) <= start {
         copy_apart(cells, start, end, to);
-    } else if end - start < FEW {
+    } else if end - start < FEW || start.abs_diff(to) < NEAR {
         cells.copy_within(start..end, to);
-    } else if start <= to {
+    } else if start < to {
         copy_up(cells, start, end, to);
     } else {
         copy_down(cells, start, end, to);
@@ -100,17 +100,16 @@ fn copy_apart(cells: &mut [Cell], start: usize, end: usize, to: usize)
 fn copy_up(cells: &mut [Cell], start: usize, end: usize, to: usize)
     requires order { start ≤ end }
     requires room { to + (end - start) ≤ length cells.old }
-    requires behind { start ≤ to }
+    requires behind { start < to }
     ensures len { length cells.new ≡ length cells.old }
     ensures after { cells.new ≡ copy_within cells.old start end to }
 {
-    let mut beside = [Cell::Byte(0); BESIDE];
-    let part = (to - start).clamp(BESIDE, PART);
+    let part = (to - start).min(PART);
     let mut left = end - start;
     while left > 0 {
         let last = left;
         left -= part.min(left);
-        copy_part(cells, start + left, start + last, to + left, &mut beside);
+        copy_apart(cells, start + left, start + last, to + left);
     }
 }
 
@@ -119,38 +118,17 @@ fn copy_up(cells: &mut [Cell], start: usize, end: usize, to: usize)
 fn copy_down(cells: &mut [Cell], start: usize, end: usize, to: usize)
     requires order { start ≤ end }
     requires within { end ≤ length cells.old }
-    requires before { to ≤ start }
+    requires before { to < start }
     ensures len { length cells.new ≡ length cells.old }
     ensures after { cells.new ≡ copy_within cells.old start end to }
 {
-    let mut beside = [Cell::Byte(0); BESIDE];
-    let part = (start - to).clamp(BESIDE, PART);
+    let part = (start - to).min(PART);
     let all = end - start;
     let mut done = 0;
     while done < all {
         let first = done;
         done += part.min(all - done);
-        copy_part(cells, start + first, start + done, to + first, &mut beside);
-    }
-}
-
-// The same for one part, which goes through the cells `beside` where they are enough.
-#[inline]
-fn copy_part(cells: &mut [Cell], start: usize, end: usize, to: usize, beside: &mut [Cell])
-    requires order { start ≤ end }
-    requires within { end ≤ length cells.old }
-    requires room { to + (end - start) ≤ length cells.old }
-    requires apart { length beside.old < end - start → (end ≤ to) ⊎ (to + (end - start) ≤ start) }
-    ensures len { length cells.new ≡ length cells.old }
-    ensures after { cells.new ≡ copy_within cells.old start end to }
-    ensures beside { length beside.new ≡ length beside.old }
-{
-    let n = end - start;
-    if n <= beside.len() {
-        beside[..n].copy_from_slice(&cells[start..end]);
-        cells[to..to + n].copy_from_slice(&beside[..n]);
-    } else {
-        copy_apart(cells, start, end, to);
+        copy_apart(cells, start + first, start + done, to + first);
     }
 }
 

@@ -1,5 +1,7 @@
 -- The lines of a trace.
-use Rattle.std.specs.Prelude.{◌++◌, ◌==◌, ◌/◌, ◌%◌, ◌||◌, ℕ, List, [], ◌∷◌, codes, decimal, drop, length, min, nat_lt, get_or, if◌then◌else◌}
+use Rattle.std.specs.Prelude.{◌++◌, ◌==◌, ◌/◌, ◌%◌, ◌||◌, ℕ, List, [], ◌∷◌, codes, decimal, drop, length, min, nat_lt, get_or, if◌then◌else◌, Bool, true, false}
+use Rattle.clap.specs.declared.error.kind.ErrorKind.{ErrorKind}
+use Rattle.clap.specs.declared.error.kind.ErrorKind.TheVariants.{DisplayHelp, OutOfMemory}
 use Rattle.trac_space.specs.declared.cell.Cell.{Cell}
 use Rattle.trac_space.specs.declared.cell.Cell.TheVariants.{Byte, Call, Comma, Gap, Head}
 use Rattle.trac_space.specs.declared.cell.Mode.TheVariants.{Active, Neutral}
@@ -97,3 +99,10 @@ status_of Workspace = 1
 status_of Steps = 3
 status_of InputFailed = 4
 status_of OutputFailed = 6
+
+-- the exit status where the words gave this error in place of settings, and it was shown or could not be
+abbrev pub shown_status : ErrorKind → Bool → ℕ
+shown_status DisplayHelp true = 0
+shown_status DisplayHelp false = 5
+shown_status OutOfMemory shown = 6
+shown_status _ shown = 2

@@ -3,8 +3,9 @@
 //! these lines, the options and the exit statuses are this processor's own choice.
 #![tactic(auto)]
 
-ghost use Rattle.std.specs.Prelude.{◌≡◌};
-ghost use Rattle.trac_trace.specs.Lines.{status_of};
+ghost use Rattle.std.specs.Prelude.{◌≡◌, Bool};
+ghost use Rattle.clap.specs.Words.{kind_of};
+ghost use Rattle.trac_trace.specs.Lines.{shown_status, status_of};
 
 mod lines;
 mod printed;
@@ -16,7 +17,7 @@ use clap::error::ErrorKind;
 use settings::Settings;
 use std::process::ExitCode;
 use std::{env, io};
-use trac_core::{Fate, ReadSource};
+use trac_core::{Fate, ReadSource, RetryingReader, RetryingWriter};
 use trace::{TraceError, trace};
 use words::settings_from;
 
@@ -51,28 +52,34 @@ fn refused_words<R: Eprint>(rt: &R, kind: io::ErrorKind) -> u8 {
     USAGE
 }
 
-// Shows what clap answered in place of settings, and gives the status.
-fn refused<R: Print + Eprint>(rt: &R, error: &clap::Error) -> u8 {
-    match error.kind() {
-        ErrorKind::OutOfMemory => {
-            let _ = rt.eprintln("trac_trace: no memory");
-            NO_MEMORY
-        }
-        ErrorKind::DisplayHelp => {
-            let _ = error.print(rt);
-            0
-        }
-        _ => {
-            let _ = error.print(rt);
-            USAGE
-        }
+// Shows what clap answered in place of settings, and gives the status. That standard error fails is ignored.
+fn refused<R: Print + Eprint>(rt: &R, error: &clap::Error) -> u8
+    ensures { (shown : Bool) × (result ≡ shown_status (kind_of error.now) shown) }
+{
+    let kind = error.kind();
+    if kind == ErrorKind::OutOfMemory {
+        let _ = rt.eprintln("trac_trace: no memory");
+        return NO_MEMORY;
+    }
+    status_when_shown(kind, error.print(rt).is_ok())
+}
+
+// The status once an error of the words was shown or could not be: a help that can't be written is an output that failed.
+fn status_when_shown(kind: ErrorKind, is_shown: bool) -> u8
+    ensures { result ≡ shown_status kind is_shown }
+{
+    match kind {
+        ErrorKind::DisplayHelp if is_shown => 0,
+        ErrorKind::DisplayHelp => NOT_WRITTEN,
+        ErrorKind::OutOfMemory => NO_MEMORY,
+        _ => USAGE,
     }
 }
 
 // Runs and shows the script, and gives the status.
 fn run(rt: &HostRuntime, settings: &Settings) -> u8 {
-    let mut source = ReadSource::new(rt.stdin());
-    let mut output = rt.stdout();
+    let mut source = ReadSource::new(RetryingReader::new(rt.stdin()));
+    let mut output = RetryingWriter::new(rt.stdout());
     match trace(rt.alloc(), settings, &mut source, &mut output) {
         Ok(fate) => status(fate),
         Err(TraceError::NotWritten) => {

@@ -37,7 +37,13 @@ impl<R: Read> Source for ReadSource<R> {
 
     ghost failure_count = { λ s. s.failures };
 
-    fn next(&mut self) -> Next {
+    fn next(&mut self) -> Next
+        requires { self.old.failures < 2 ^ 64 - 1 }
+        ensures ended { self.old.ended ≡ true → (result ≡ Next.End) × (self.new ≡ self.old) }
+        ensures gives { IfTells (R.remaining self.old.reader) self.old.ended → Gives (record { bytes = unwrap_or (R.remaining self.old.reader) []; ended = self.old.ended }) result (record { bytes = unwrap_or (R.remaining self.new.reader) []; ended = self.new.ended }) }
+        ensures told { IfTells (R.remaining self.old.reader) self.old.ended → IfTells (R.remaining self.new.reader) self.new.ended }
+        ensures counts { self.new.failures ≡ self.old.failures + failures_of_next result }
+    {
         if self.ended {
             return Next::End;
         }

@@ -1,10 +1,14 @@
 //! A source over memory.
-ghost use Rattle.std.specs.Prelude.{◌≡◌, ℕ, ◌+◌, ◌-◌, ◌^◌, ◌<◌, ◌≤◌, List, [], length, take, drop, slice_get, Some, IsSome, IfSome, unwrap_or, is_ok, not, nat_eq, nat_lt, true, false, Bool};
-ghost use Rattle.trac_core.specs.Devices.{Stream, Gives, Streams, failures_of_next, failures_of, after_put, has_byte};
+ghost use Rattle.std.specs.Prelude.{◌≡◌, ℕ, ◌+◌, ◌-◌, ◌^◌, ◌<◌, ◌≤◌, List, [], length, take, drop, IsSome, IfSome, unwrap_or, is_ok, not, nat_eq, nat_lt, true, false, Bool};
+ghost use Rattle.trac_forms.specs.Text.{Text};
+ghost use Rattle.trac_forms.specs.Contents.{IsSound};
+ghost use Rattle.trac_core.specs.Devices.{Stream, Gives, Streams, failures_of_next, failures_of, after_put};
+ghost use Rattle.trac_core.specs.Transfer.{Reads, TakesHeld};
 ghost use Rattle.trac_core.specs.Slices.{slice_input, slice_answer, slice_after};
 
-use super::{Next, Source, copy_before};
+use super::{Next, Source};
 use std::marker::Model;
+use trac_forms::Work;
 
 /// A source over bytes in memory, for embedding and for tests; it may be told to fail at a place. This processor's own choice.
 #[derive(Drop)]
@@ -56,19 +60,17 @@ impl Source for SliceSource<'_> {
 
     ghost failure_count = { λ s. s.failures };
 
-    fn take_held(&mut self, stop: u8, buffer: &mut [u8]) -> usize
-        ensures within { result ≤ length buffer.new }
-        ensures before { has_byte stop (take result buffer.new) ≡ false }
-        ensures copied { take result buffer.new ≡ take result self.old.bytes }
-        ensures stops { result < length self.old.bytes → result < length buffer.new → slice_get self.old.bytes result ≡ Some stop }
-        ensures after { self.new ≡ record self.old { bytes = drop result self.old.bytes } }
-        ensures takes { Unit {0} → Streams (record { bytes = self.old.bytes; ended = self.old.ended }) (take result buffer.new) (record { bytes = self.new.bytes; ended = self.new.ended }) }
+    fn take_held(&mut self, stop: u8, work: &mut Work)
+        requires { IsSound work.old }
+        ensures taken { (count : ℕ) × (TakesHeld stop self.old.bytes count work.old work.new × (self.new ≡ record self.old { bytes = drop count self.old.bytes })) }
+        ensures reads { (text : Text) × (Reads stop work.old work.new text
+            × (Unit {0} → Streams (record { bytes = self.old.bytes; ended = self.old.ended }) text (record { bytes = self.new.bytes; ended = self.new.ended }))) }
         ensures told { Unit {0} → Unit {0} }
         ensures counts { self.new.failures ≡ self.old.failures }
+        ensures sound { IsSound work.new }
     {
-        let count = copy_before(stop, self.bytes, buffer);
+        let count = work.push_before(stop, self.bytes);
         self.bytes = &self.bytes[count..];
-        count
     }
 
     fn next(&mut self) -> Next

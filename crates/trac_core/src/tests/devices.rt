@@ -4,11 +4,11 @@ ghost use Rattle.trac_core.specs.Devices.{Stream, failures_of_next, failures_of,
 
 use super::{AMPLE, Faults, HELLO, MANY, NO_FAULTS, SHOWN, came_to, faulty};
 use crate::{
-    Cell, Fate, Machine, Next, ReadSource, Report, Sink, SinkFailed, SliceSource, Source,
-    WriteSink, copy_before,
+    Cell, Fate, Machine, Next, ReadSource, Report, RetryingReader, RetryingWriter, Sink,
+    SinkFailed, SliceSource, Source, TRIES, Work, WriteSink, write_characters,
 };
 use std::io;
-use std::io::{Read, Write};
+use std::io::{ErrorKind, Read, Write};
 use std::process::Abort;
 use std::test::Fail;
 
@@ -189,13 +189,105 @@ impl Write for FlushedWriter<'_> {
     }
 }
 
-/// Takes what a source over memory holds, up to an apostrophe, by a buffer of this length.
-fn takes(rt: &impl Abort, source: &mut SliceSource, len: usize, want: &str)
+/// Counts calls of the system, each of which is interrupted so many times before it is done.
+#[derive(Drop)]
+struct Interruptions {
+    each: u32,
+    left: u32,
+    calls: u32,
+}
+
+impl Interruptions {
+    fn new(each: u32) -> Interruptions {
+        Interruptions {
+            each,
+            left: each,
+            calls: 0,
+        }
+    }
+
+    fn call(&mut self) -> io::Result<()> {
+        self.calls = self.calls.saturating_add(1);
+        if self.left > 0 {
+            self.left -= 1;
+            return Err(io::Error::from(ErrorKind::Interrupted));
+        }
+        self.left = self.each;
+        Ok(())
+    }
+}
+
+/// A reader of a text, each of whose reads is interrupted.
+#[derive(Drop)]
+struct InterruptedReader<'a> {
+    text: &'a [u8],
+    system: &'a mut Interruptions,
+}
+
+impl Read for InterruptedReader<'_> {
+    fn read(&mut self, buf: &mut [u8]) -> io::Result<usize> {
+        self.system.call()?;
+        let n = self.text.len().min(buf.len());
+        let (given, rest) = self.text.split_at(n);
+        buf[..n].copy_from_slice(given);
+        self.text = rest;
+        Ok(n)
+    }
+}
+
+/// A writer, each of whose writes and flushes is interrupted.
+#[derive(Drop)]
+struct InterruptedWriter<'a> {
+    taken: &'a mut Vec<u8>,
+    system: &'a mut Interruptions,
+}
+
+impl Write for InterruptedWriter<'_> {
+    fn write(&mut self, buf: &[u8]) -> io::Result<usize> {
+        self.system.call()?;
+        self.taken.extend_from_slice(buf)?;
+        Ok(buf.len())
+    }
+
+    fn flush(&mut self) -> io::Result<()> {
+        self.system.call()
+    }
+}
+
+fn are_bytes(cells: &[Cell], text: &[u8]) -> bool {
+    if cells.len() != text.len() {
+        return false;
+    }
+    for (cell, byte) in cells.iter().zip(text) {
+        match cell {
+            Cell::Byte(b) if b == byte => {}
+            _ => return false,
+        }
+    }
+    true
+}
+
+/// Takes what a source over memory holds, up to an apostrophe, into so many free cells.
+fn takes(rt: &impl Abort, source: &mut SliceSource, cells: usize, want: &str)
     ensures { source.new.failures ≡ source.old.failures }
 {
-    let mut buffer = [0; 8];
-    let count = source.take_held(b'\'', &mut buffer[..len.min(8)]);
-    assert!(rt; &buffer[..count.min(8)] == want.as_bytes(), "{want}");
+    let mut block = [Cell::Comma; 8];
+    let mut work = Work::over(&mut block[..cells.min(8)]);
+    source.take_held(b'\'', &mut work);
+    assert!(rt;
+        are_bytes(work.neutral_part(0, work.neutral_len()), want.as_bytes()),
+        "{want}"
+    );
+}
+
+/// A source that holds nothing puts nothing.
+fn takes_nothing<I: Source>(rt: &impl Abort, source: &mut I)
+    ensures { I.failure_count source.new ≡ I.failure_count source.old }
+{
+    let mut block = [Cell::Comma; 8];
+    let mut work = Work::over(&mut block);
+    source.take_held(b'\'', &mut work);
+    assert_eq!(rt; work.neutral_len(), 0);
 }
 
 #[test]
@@ -221,7 +313,7 @@ fn bytes_that_are_held(rt: HostRuntime) {
 #[test]
 fn bytes_that_are_not_held(rt: HostRuntime) {
     let mut source = FakeSource::new(b"abc", 0, false);
-    assert_eq!(rt; source.take_held(b'\'', &mut [0; 8]), 0);
+    takes_nothing(&rt, &mut source);
     assert_eq!(rt; source.calls, 0);
     assert_eq!(rt; source.next(), Next::Byte(b'a'));
     let mut reader = ReadSource::new(FakeReader {
@@ -229,15 +321,15 @@ fn bytes_that_are_not_held(rt: HostRuntime) {
         reads: 0,
         bad_read: 0,
     });
-    assert_eq!(rt; reader.take_held(b'\'', &mut [0; 8]), 0);
+    takes_nothing(&rt, &mut reader);
     assert_eq!(rt; reader.next(), Next::Byte(b'a'));
 }
 
 #[test]
-fn bytes_before_a_stop(rt: HostRuntime) {
-    let mut buffer = [0; 4];
-    assert_eq!(rt; copy_before(b'\'', b"ab'c", &mut buffer), 2);
-    assert!(rt; &buffer[..] == b"ab\0\0".as_slice());
+fn characters_of_cells(rt: HostRuntime) {
+    let mut bytes = [b'x'; 3];
+    write_characters(&[Cell::Byte(b'a'), Cell::Comma], &mut bytes[..2]);
+    assert!(rt; &bytes[..] == b"a\0x".as_slice());
 }
 
 #[test]
@@ -506,6 +598,93 @@ fn flushes_of_a_writer(rt: HostRuntime) {
     assert_eq!(rt; sink.flush(), Ok(()));
     drop(sink);
     assert_eq!(rt; flushes, 3);
+}
+
+// 13 reads, of which the last finds the end; 5 writes and a flush.
+#[test]
+fn interruptions_are_no_failures(rt: HostRuntime) -> Result<(), Fail> {
+    for each in [0, 1, 100] {
+        let mut block = [Cell::Byte(0); AMPLE];
+        let mut taken = Vec::new(rt.alloc());
+        let mut reads = Interruptions::new(each);
+        let mut writes = Interruptions::new(each);
+        let mut source = ReadSource::new(RetryingReader::new(InterruptedReader {
+            text: HELLO.as_bytes(),
+            system: &mut reads,
+        }));
+        let mut sink = WriteSink::new(RetryingWriter::new(InterruptedWriter {
+            taken: &mut taken,
+            system: &mut writes,
+        }));
+        let report = Machine::over(&mut block, MANY).run(&mut source, &mut sink);
+        assert_eq!(rt; report.fate, Fate::InputEnded, "{each}");
+        assert_eq!(rt; (source.failures(), sink.failures()), (0, 0), "{each}");
+        drop(source);
+        drop(sink);
+        assert!(rt; taken.as_slice() == b"hello".as_slice(), "{each}");
+        assert_eq!(rt;
+            (reads.calls, writes.calls),
+            (13 * (each + 1), 6 * (each + 1))
+        );
+    }
+    Ok(())
+}
+
+#[test]
+fn interruptions_without_end(rt: HostRuntime) -> Result<(), Fail> {
+    for (each, kind) in [(TRIES - 1, None), (TRIES, Some(ErrorKind::TimedOut))] {
+        let mut taken = Vec::new(rt.alloc());
+        let mut reads = Interruptions::new(each);
+        let mut writes = Interruptions::new(each);
+        let mut flushes = Interruptions::new(each);
+        let read = RetryingReader::new(InterruptedReader {
+            text: b"a",
+            system: &mut reads,
+        })
+        .read(&mut [0]);
+        assert_eq!(rt; read.err().map(|error| error.kind()), kind);
+        let written = RetryingWriter::new(InterruptedWriter {
+            taken: &mut taken,
+            system: &mut writes,
+        })
+        .write(b"a");
+        assert_eq!(rt; written.err().map(|error| error.kind()), kind);
+        let flushed = RetryingWriter::new(InterruptedWriter {
+            taken: &mut taken,
+            system: &mut flushes,
+        })
+        .flush();
+        assert_eq!(rt; flushed.err().map(|error| error.kind()), kind);
+        assert_eq!(rt;
+            (reads.calls, writes.calls, flushes.calls),
+            (TRIES, TRIES, TRIES)
+        );
+        assert_eq!(rt; taken.len(), usize::from(kind.is_none()));
+    }
+    Ok(())
+}
+
+#[test]
+fn other_errors_are_not_tried_again(rt: HostRuntime) {
+    let mut reader = RetryingReader::new(FakeReader {
+        text: b"a",
+        reads: 0,
+        bad_read: 1,
+    });
+    let read = reader.read(&mut [0]);
+    assert_eq!(rt;
+        read.err().map(|error| error.kind()),
+        Some(ErrorKind::Other)
+    );
+    assert!(rt; matches!(reader.read(&mut [0]), Ok(1)));
+    let mut reads = Interruptions::new(1);
+    let mut plain = ReadSource::new(InterruptedReader {
+        text: b"a",
+        system: &mut reads,
+    });
+    assert_eq!(rt; plain.next(), Next::Failed);
+    assert_eq!(rt; plain.failures(), 1);
+    assert_eq!(rt; plain.next(), Next::Byte(b'a'));
 }
 
 #[test]

@@ -15,5 +15,5 @@ loop-done-preserved c =
     let one = ap (λ m. paste now (to + k) (drop (start + k) now) m) size in
     record {
       within = omega arith;
-      copied = c.copy_part.ensures.after ∙ one ∙ copied-down was now start to k n (omega arith) (omega arith) c.loop-done.invariant.copied;
+      copied = c.copy_apart.ensures.after ∙ one ∙ copied-down was now start to k n (omega arith) (omega arith) c.loop-done.invariant.copied;
     }

@@ -25,5 +25,5 @@ loop-left-preserved c =
     let rest : n + m ≡ all - k = omega arith in
     record {
       within = omega arith;
-      copied = c.copy_part.ensures.after ∙ one ∙ copied-up was now start to k n m (omega arith) (omega arith) before ∙ ap (λ i. paste was (to + k) (drop (start + k) was) i) rest;
+      copied = c.copy_apart.ensures.after ∙ one ∙ copied-up was now start to k n m (omega arith) (omega arith) before ∙ ap (λ i. paste was (to + k) (drop (start + k) was) i) rest;
     }

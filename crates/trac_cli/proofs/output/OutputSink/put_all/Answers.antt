@@ -1,8 +1,11 @@
-use Rattle.std.proofs.Common.{◌-◌, ◌++◌, length, take, drop, sym, ap, subst, ◌∙◌, arith, length-take}
+use Rattle.std.proofs.Common.{◌≡◌, ◌+◌, ◌-◌, ◌≤◌, ◌++◌, length, take, drop, sym, ap, subst, ◌∙◌, arith, slice_range}
 use lib.Seq.{take-add, take-take}
 use Rattle.std.specs.Io.KnownBytes.{Appends}
+use Rattle.std.specs.List.{take-map}
 use Rattle.std.proofs.KnownBytes.{Appends-trans}
-use Rattle.std.proofs.lemmas.List.{take-append-drop}
+use Rattle.std.proofs.lemmas.List.{take-append-drop, drop-map, length-map}
+use Rattle.std.proofs.lemmas.List.Edits.{length-between}
+use Rattle.trac_forms.specs.FlatForms.{character_of, text_of_cells}
 use Rattle.trac_cli.proofs.Bytes.{appended_known}
 use Rattle.trac_cli.proofs.output.OutputSink.put_all.Goals as goal
 
@@ -10,13 +13,16 @@ pub loop-taken-preserved : goal.loop-taken-preserved
 loop-taken-preserved g c =
     let done = c.loop-taken.taken in
     let n = c.in-Ok.count in
-    let xs = c.args.bytes.now in
+    let text = c.args.text.now in
+    let xs = text_of_cells text in
+    let rest = slice_range text done (length text) in
     let before = c.loop-taken.invariant in
-    let fits = c.in-Ok.ensures.bound in
-    let most = length-take (length xs - done) (drop done xs) in
-    let joined = ap (λ l. take done xs ++ l) (take-take n (length xs - done) (drop done xs) (omega arith)) ∙ sym (take-add done n xs) in
+    let few : n ≤ length text - done = omega (arith, c.in-Ok.ensures.bound, length-map rest character_of, length-between text done (length text) (omega arith)) in
+    let part : take n (text_of_cells rest) ≡ take n (drop done xs) =
+    take-map character_of n rest ∙ ap text_of_cells (take-take n (length text - done) (drop done text) few) ∙ sym (take-map character_of n (drop done text)) ∙ ap (take n) (sym (drop-map character_of done text)) in
+    let joined = ap (λ l. take done xs ++ l) part ∙ sym (take-add done n xs) in
     record {
-      within = omega arith;
+      within = omega (arith, few, before.within);
       counts = before.counts;
       appends = subst (Appends _ _) joined (Appends-trans _ _ _ _ _ before.appends c.in-Ok.ensures.bytes);
     }
@@ -24,5 +30,5 @@ loop-taken-preserved g c =
 pub returns-in-Err-clause-prints : goal.returns-in-Err-clause-prints
 returns-in-Err-clause-prints g c = λ told.
     let taken = c.loop-taken.taken in
-    let xs = c.args.bytes.now in
+    let xs = text_of_cells c.args.text.now in
     (take taken xs, (drop taken xs, (sym (take-append-drop taken xs), appended_known _ _ _ (take taken xs) c.loop-taken.invariant.appends c.in-Err.ensures.bytes told)))

@@ -1,6 +1,8 @@
-use Rattle.std.proofs.Common.{ap, ◌∙◌, arith}
-use Rattle.std.proofs.lemmas.List.{drop-map}
-use Rattle.trac_space.specs.Block.{seen_lists}
+use Rattle.trac_space.specs.Block.{right_of}
+use Rattle.trac_space.proofs.Laid.{fits-of, behind-of, laid}
+use Rattle.std.proofs.Common.{refl, ◌-◌, ◌∙◌, arith}
+use Rattle.trac_space.specs.Block.{parts}
+use Rattle.trac_space.proofs.Spare.{seen-drop_active}
 use Rattle.trac_space.proofs.Parts.{parts-drop_active}
 use Rattle.trac_space.proofs.Seen.{active_len}
 use Rattle.trac_space.proofs.space.Space.drop_active.Goals as goal
@@ -9,5 +11,6 @@ pub returns : goal.returns
 returns c =
     let s = c.self.inside in
     let within = rw (← c.self.view_is) at c.requires in
-    let size = active_len s.cells.now s.store s.neutral s.active c.self.invariant.fits in
-    rw (← c.self.view_is) (ap seen_lists (parts-drop_active s.cells.now s.store s.neutral s.active c.self.invariant.fits c.args.n (omega arith)) ∙ simp drop-map)
+    let size = active_len s.cells.now s.store s.neutral (right_of s) (fits-of s c.self.invariant) s.active (behind-of s) in
+    let p = parts s.cells.now s.store s.neutral (right_of s) in
+    rw (← c.self.view_is) (laid s.cells.now _ (s.active - c.args.n) _ _ s.end _ _ (parts-drop_active s.cells.now s.store s.neutral (right_of s) (fits-of s c.self.invariant) c.args.n (omega arith)) refl (omega arith) ∙ seen-drop_active p s.active c.args.n (omega arith))

@@ -1,0 +1,69 @@
+"""Calls of the system that are interrupted, by strace: none of them is a failure."""
+import os
+import re
+import subprocess
+import tempfile
+import unittest
+
+from trac import PROGRAM, TRACER
+
+HELLO = b"#(ps,hello)'"
+# for how many calls in a row the second kind of trial goes on
+MANY = 300
+
+
+def traced(words, *injections):
+    """What a program writes on a greeting, what it says, its status, and its reads and writes."""
+    more = [word for injection in injections for word in ('-e', f'inject={injection}')]
+    with tempfile.TemporaryDirectory() as folder:
+        calls = os.path.join(folder, 'calls')
+        done = subprocess.run(['strace', '-o', calls, '-e', 'trace=read,write', *more, *words], input=HELLO,
+                              capture_output=True, timeout=60)
+        with open(calls, encoding='utf-8', errors='replace') as file:
+            return (done.stdout, done.stderr.decode(), done.returncode), file.read().splitlines()
+
+
+def injected(lines, call):
+    """How many calls of this kind, on the file descriptor that is named, were interrupted."""
+    return sum(line.startswith(call) and 'EINTR' in line and line.endswith('(INJECTED)') for line in lines)
+
+
+def first_read(lines):
+    """Which of the reads, from 1, is the first of standard input: the loader reads before it."""
+    reads = [line for line in lines if line.startswith('read(')]
+    return 1 + next(at for at, line in enumerate(reads) if re.match(r'read\(0,', line))
+
+
+class Interruptions(unittest.TestCase):
+    def interrupt(self, words, wanted):
+        plain, lines = traced(words)
+        self.assertEqual(plain, wanted)
+        self.assertEqual(injected(lines, ''), 0)
+        first = first_read(lines)
+        for call, name, at in (('read(0,', 'read', first), ('read(0,', 'read', first + 1), ('write(1,', 'write', 1)):
+            for more in (0, MANY - 1):
+                with self.subTest(program=words[0], call=name, at=at, more=more):
+                    got, lines = traced(words, f'{name}:error=EINTR:when={at}..{at + more}')
+                    self.assertEqual(got, wanted)
+                    self.assertEqual(injected(lines, call), 1 + more)
+
+    def test_the_program(self):
+        self.interrupt([PROGRAM], (b'hello', '', 0))
+
+    def test_the_program_that_shows_steps(self):
+        shown = subprocess.run([TRACER], input=HELLO, capture_output=True, check=True).stdout
+        self.assertEqual(len(shown.splitlines()), 32)
+        self.interrupt([TRACER], (shown, '', 0))
+
+    def test_the_help(self):
+        for program in (PROGRAM, TRACER):
+            shown, _ = traced([program, '--help'])
+            self.assertIn(b'--cells <N>', shown[0])
+            got, lines = traced([program, '--help'], 'write:error=EINTR:when=1')
+            self.assertEqual(got, shown)
+            self.assertEqual(injected(lines, 'write(1,'), 1)
+
+    def test_another_error_is_a_failure(self):
+        first = first_read(traced([PROGRAM])[1])
+        self.assertEqual(traced([PROGRAM], f'read:error=EIO:when={first}')[0], (b'', 'trac: input failed at step 9\n', 4))
+        self.assertEqual(traced([PROGRAM], 'write:error=EIO:when=1')[0], (b'', 'trac: output failed at step 19\n', 5))

@@ -1,0 +1,161 @@
+"""The launcher, over a throw-away copy of the sources and an `rt` that only writes down that it was called."""
+import os
+import shutil
+import subprocess
+import tempfile
+import time
+import unittest
+
+from trac import LAUNCHER, TOP
+
+CRATES = ['trac_space', 'trac_forms', 'trac_core', 'trac_cli']
+BUILT = os.path.join('crates', 'trac_cli', 'out', 'trac_cli')
+SOURCE = os.path.join('crates', 'trac_core', 'src', 'machine.rt')
+NOBODY = 65534
+FIRST = 'trac: building the program, and proving it: about six minutes on four idle cores ..\n'
+AGAIN = 'trac: building the program again, and proving what changed ..\n'
+RT = """#!/bin/sh
+echo called >>'{calls}'
+sleep {seconds}
+mkdir -p out
+printf '#!/bin/sh\\necho "ran $*"; exit 3\\n' >out/trac_cli.$$
+chmod +x out/trac_cli.$$
+mv out/trac_cli.$$ out/trac_cli
+"""
+
+
+class Launcher(unittest.TestCase):
+    def setUp(self):
+        self.folder = tempfile.mkdtemp()
+        self.addCleanup(shutil.rmtree, self.folder)
+        os.chmod(self.folder, 0o755)
+        self.top, self.tools, self.calls = (os.path.join(self.folder, name) for name in ('top', 'tools', 'calls'))
+        os.mkdir(self.tools)
+        for crate in CRATES:
+            for part in ('src', 'specs', 'proofs'):
+                place = os.path.join('crates', crate, part)
+                shutil.copytree(os.path.join(TOP, place), os.path.join(self.top, place))
+        shutil.copy(os.path.join(TOP, 'crates.txt'), self.top)
+        shutil.copy(LAUNCHER, self.top)
+        self.answer(RT.format(calls=self.calls, seconds=0))
+
+    def answer(self, text):
+        """Puts a text in place of rt."""
+        tool = os.path.join(self.tools, 'rt')
+        with open(tool, 'w', encoding='utf-8') as file:
+            file.write(text)
+        os.chmod(tool, 0o755)
+
+    def start(self, **more):
+        environment = dict(os.environ, PATH=self.tools + ':' + os.environ['PATH'])
+        return subprocess.Popen([os.path.join(self.top, 'trac'), '--cells', '18'], stdin=subprocess.DEVNULL, text=True,
+                                stdout=subprocess.PIPE, stderr=subprocess.PIPE, env=environment, **more)
+
+    def run_once(self, said='', **more):
+        started = self.start(**more)
+        output, lines = started.communicate(timeout=60)
+        self.assertEqual((output, lines, started.returncode), ('ran --cells 18\n', said, 3))
+
+    def builds(self):
+        if not os.path.exists(self.calls):
+            return 0
+        with open(self.calls, encoding='utf-8') as file:
+            return len(file.readlines())
+
+    def write(self, name, text=''):
+        place = os.path.join(self.top, name)
+        with open(place, 'a', encoding='utf-8') as file:
+            file.write(text)
+        return place
+
+    def date(self, name, seconds):
+        when = time.time() + seconds
+        os.utime(os.path.join(self.top, name), (when, when))
+
+    def test_it_builds_once(self):
+        self.run_once(FIRST)
+        self.run_once()
+        self.run_once()
+        self.assertEqual(self.builds(), 1)
+
+    def test_an_edit_is_built(self):
+        self.run_once(FIRST)
+        for name in (SOURCE, 'crates.txt', os.path.join('crates', 'trac_space', 'specs', 'Lists.antt')):
+            before = self.builds()
+            self.write(name, '\n')
+            self.date(name, 1)
+            self.run_once(AGAIN)
+            self.assertEqual(self.builds(), before + 1)
+            self.run_once()
+            self.assertEqual(self.builds(), before + 1)
+
+    def test_a_program_that_is_gone(self):
+        self.run_once(FIRST)
+        os.remove(os.path.join(self.top, BUILT))
+        self.run_once(AGAIN)
+        self.assertEqual(self.builds(), 2)
+
+    def test_what_an_editor_leaves_is_no_source(self):
+        self.run_once(FIRST)
+        folder = os.path.dirname(SOURCE)
+        for name in ('machine.rt~', '.machine.rt.swp', '#machine.rt#', '.machine.rt', '#x#', 'notes.orig'):
+            self.write(os.path.join(folder, name), 'x')
+            self.date(os.path.join(folder, name), 60)
+        self.run_once()
+        self.assertEqual(self.builds(), 1)
+
+    def test_a_source_of_the_future(self):
+        self.date(SOURCE, 1000000)
+        self.run_once(FIRST)
+        self.run_once()
+        self.assertEqual(self.builds(), 1)
+        self.write(SOURCE, '\n')
+        self.date(SOURCE, 1000000)
+        self.run_once(AGAIN)
+        self.run_once()
+        self.assertEqual(self.builds(), 2)
+
+    def test_a_program_made_elsewise_of_a_source_of_the_future(self):
+        self.date(SOURCE, 1000000)
+        self.run_once(FIRST)
+        self.write(BUILT, '# made by hand\n')
+        self.run_once(AGAIN)
+        self.assertEqual(self.builds(), 2)
+
+    def test_an_edit_while_it_is_built(self):
+        edit = f"echo >>'{os.path.join(self.top, SOURCE)}'\n"
+        self.answer(RT.format(calls=self.calls, seconds=0.1) + edit)
+        self.run_once(FIRST)
+        self.answer(RT.format(calls=self.calls, seconds=0))
+        self.run_once(AGAIN)
+        self.assertEqual(self.builds(), 2)
+
+    def test_two_at_once(self):
+        self.answer(RT.format(calls=self.calls, seconds=1))
+        started = [self.start(), self.start()]
+        for process in started:
+            self.assertEqual(process.communicate(timeout=60)[0], 'ran --cells 18\n')
+            self.assertEqual(process.returncode, 3)
+        self.run_once()
+
+    def test_a_user_who_may_not_write(self):
+        self.date(SOURCE, 1000000)
+        self.run_once(FIRST)
+        for folder, _, files in os.walk(self.top):
+            os.chmod(folder, 0o555)
+            for name in files:
+                os.chmod(os.path.join(folder, name), os.stat(os.path.join(folder, name)).st_mode & 0o555)
+        self.addCleanup(subprocess.run, ['chmod', '-R', 'u+w', self.top], check=True)
+        self.run_once(**({'user': NOBODY, 'group': NOBODY} if os.getuid() == 0 else {}))
+        self.assertEqual(self.builds(), 1)
+
+    def test_a_build_that_fails(self):
+        self.answer('#!/bin/sh\necho "this is why"\nexit 1\n')
+        started = self.start()
+        output, lines = started.communicate(timeout=60)
+        self.assertEqual((output, started.returncode), ('', 70))
+        self.assertEqual(lines, FIRST + 'this is why\ntrac: the program could not be built\n')
+
+
+if __name__ == '__main__':
+    unittest.main()

@@ -1,0 +1,117 @@
+//! A reader and a writer that make a call again where the system interrupted it.
+ghost use Rattle.std.specs.Prelude.{◌≡◌, ◌≢◌, IfErr};
+ghost use Rattle.std.specs.IoError.{error_kind};
+ghost use Rattle.std.specs.Io.{ReadsAtMost, WritesAtMost};
+ghost use Rattle.std.specs.Io.KnownBytes.{Keeps, ReadConsumes, WriteAppends};
+
+use std::io;
+use std::io::{ErrorKind, Read, Write};
+
+/// How often a call is made that is interrupted each time: 1,000,000 times.
+pub const TRIES: u32 = 1_000_000;
+
+/// A reader that reads again where a signal interrupted the read, which is no failure. After `TRIES` reads in a row that were
+/// interrupted it answers an error of the kind `TimedOut`, so each call returns; each other error is the reader's own. This
+/// processor's own choice.
+#[derive(Drop)]
+pub struct RetryingReader<R> {
+    reader: R,
+}
+
+impl<R: Read> RetryingReader<R> {
+    /// A reader that gives what `reader` gives.
+    pub fn new(reader: R) -> RetryingReader<R>
+        ensures { ⟦<RetryingReader<R> as Read>⟧.remaining result ≡ R.remaining reader }
+    {
+        RetryingReader { reader }
+    }
+}
+
+impl<R: Read> Read for RetryingReader<R> {
+    ghost remaining = { λ r. R.remaining r.reader };
+
+    fn read(&mut self, buf: &mut [u8]) -> io::Result<usize>
+        ensures bound { ReadsAtMost result buf.new }
+        ensures bytes { ReadConsumes (R.remaining self.old.reader) (R.remaining self.new.reader) result buf.new }
+        ensures retried { IfErr result (λ e. error_kind e ≢ ErrorKind.Interrupted) }
+    {
+        read_again(&mut self.reader, buf)
+    }
+}
+
+/// A writer that writes or flushes again where a signal interrupted the call, which is no failure. After `TRIES` calls in a row
+/// that were interrupted it answers an error of the kind `TimedOut`, so each call returns; each other error is the writer's
+/// own. This processor's own choice.
+#[derive(Drop)]
+pub struct RetryingWriter<W> {
+    writer: W,
+}
+
+impl<W: Write> RetryingWriter<W> {
+    /// A writer that writes to `writer`.
+    pub fn new(writer: W) -> RetryingWriter<W>
+        ensures { ⟦<RetryingWriter<W> as Write>⟧.contents result ≡ W.contents writer }
+    {
+        RetryingWriter { writer }
+    }
+}
+
+impl<W: Write> Write for RetryingWriter<W> {
+    ghost contents = { λ w. W.contents w.writer };
+
+    fn write(&mut self, buf: &[u8]) -> io::Result<usize>
+        ensures bound { WritesAtMost result buf.now }
+        ensures bytes { WriteAppends (W.contents self.old.writer) (W.contents self.new.writer) result buf.now }
+        ensures retried { IfErr result (λ e. error_kind e ≢ ErrorKind.Interrupted) }
+    {
+        write_again(&mut self.writer, buf)
+    }
+
+    fn flush(&mut self) -> io::Result<()>
+        ensures bytes { Keeps (W.contents self.old.writer) (W.contents self.new.writer) }
+        ensures retried { IfErr result (λ e. error_kind e ≢ ErrorKind.Interrupted) }
+    {
+        flush_again(&mut self.writer)
+    }
+}
+
+fn read_again<R: Read>(reader: &mut R, buf: &mut [u8]) -> io::Result<usize>
+    ensures bound { ReadsAtMost result buf.new }
+    ensures bytes { ReadConsumes (R.remaining reader.old) (R.remaining reader.new) result buf.new }
+    ensures retried { IfErr result (λ e. error_kind e ≢ ErrorKind.Interrupted) }
+{
+    for _ in 0..TRIES {
+        match reader.read(buf) {
+            Err(error) if error.kind() == ErrorKind::Interrupted => {}
+            answer => return answer,
+        }
+    }
+    Err(io::Error::from(ErrorKind::TimedOut))
+}
+
+fn write_again<W: Write>(writer: &mut W, buf: &[u8]) -> io::Result<usize>
+    ensures bound { WritesAtMost result buf.now }
+    ensures bytes { WriteAppends (W.contents writer.old) (W.contents writer.new) result buf.now }
+    ensures retried { IfErr result (λ e. error_kind e ≢ ErrorKind.Interrupted) }
+{
+    for _ in 0..TRIES {
+        match writer.write(buf) {
+            Err(error) if error.kind() == ErrorKind::Interrupted => {}
+            answer => return answer,
+        }
+    }
+    Err(io::Error::from(ErrorKind::TimedOut))
+}
+
+fn flush_again<W: Write>(writer: &mut W) -> io::Result<()>
+    ensures bytes { Keeps (W.contents writer.old) (W.contents writer.new) }
+    ensures retried { IfErr result (λ e. error_kind e ≢ ErrorKind.Interrupted) }
+{
+    for _ in 0..TRIES {
+        match writer.flush() {
+            Err(error) if error.kind() == ErrorKind::Interrupted => {}
+            answer => return answer,
+        }
+    }
+    Err(io::Error::from(ErrorKind::TimedOut))
+}

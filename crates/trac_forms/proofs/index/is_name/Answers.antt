@@ -1,0 +1,33 @@
+use Rattle.std.proofs.Common.{◌+◌, length, slice_range, sym, ap, ◌∙◌, arith}
+use Rattle.std.proofs.lemmas.Bool.{false≢true}
+use Rattle.std.proofs.lemmas.List.{length-map}
+use Rattle.trac_space.specs.Cells.{seen}
+use Rattle.trac_forms.specs.FlatForms.{text_of_cells, flat_text}
+use Rattle.trac_forms.proofs.Finding.{bytes-of-seen, seen-text, part-length}
+use Rattle.trac_forms.proofs.Gaps.{bytes-seen}
+use Rattle.trac_forms.proofs.index.is_name.Goals as goal
+
+pub returns-then-len-text : goal.returns-then-len-text
+returns-then-len-text c = (
+  λ e. absurd (false≢true e),
+  λ e. absurd (omega (arith, c.if-len-text.true, ap length e, length-map (slice_range c.args.cells.now c.args.from (c.args.from + c.args.len)) seen, part-length c.args.cells.now c.args.from c.args.len c.requires.within, length-map c.args.text.now seen)),
+)
+
+pub is_text-requires : goal.is_text-requires
+is_text-requires c =
+    let part = slice_range c.args.cells.now c.args.from (c.args.from + c.args.len) in
+    record {
+      cell_bytes = bytes-of-seen part c.requires.part_bytes;
+      bytes = bytes-of-seen c.args.text.now c.requires.bytes;
+      same = omega (arith, length-map part seen, part-length c.args.cells.now c.args.from c.args.len c.requires.within, c.if-len-text.false);
+    }
+
+pub returns : goal.returns
+returns c =
+    let part = slice_range c.args.cells.now c.args.from (c.args.from + c.args.len) in
+    let text = c.args.text.now in
+    let cell_is = seen-text part c.requires.part_bytes in
+    let text_is = seen-text text c.requires.bytes in (
+      λ t. sym cell_is ∙ ap flat_text (c.is_text.ensures.0 t) ∙ text_is,
+      λ e. c.is_text.ensures.1 (sym (bytes-seen part) ∙ ap text_of_cells e ∙ bytes-seen text),
+    )

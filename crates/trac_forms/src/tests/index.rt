@@ -1,0 +1,151 @@
+//! The index of forms: made, kept by each change of the store, and given up for a list.
+ghost use Rattle.std.specs.Prelude.{◌≤◌, length};
+
+use super::{define, find, push, segment};
+use crate::{Cell, FormId, Item, Work};
+
+// The letters that name forms, and behind them a body.
+const LETTERS: &[u8] = b"ABCDEFGHIJKLMNOPQRSTUVWXYZx-x";
+
+// Where a letter stands in neutral.
+fn part(letter: u8) -> (u32, u32) {
+    let place = (letter as u32).saturating_sub(65).min(25);
+    (place, place + 1)
+}
+
+fn define_letter(work: &mut Work, letter: u8) -> bool {
+    define(work, part(letter), (26, 29))
+}
+
+// Makes the index at the next search, whatever searches have cost.
+fn wants_index(work: &mut Work) {
+    work.toil = u32::MAX;
+}
+
+// Forms named by the first so many letters.
+fn with_forms<'a>(block: &'a mut [Cell], count: u8) -> Work<'a>
+    requires { length block.old ≤ 16777216 }
+{
+    let mut work = Work::over(block);
+    push(&mut work, LETTERS);
+    for k in 0..count.min(26) {
+        define_letter(&mut work, b'A' + k);
+    }
+    work
+}
+
+// Whether the forms are just those of these letters, in this order.
+fn are_forms(work: &mut Work, letters: &[u8]) -> bool {
+    let mut right = work.forms() as usize == letters.len();
+    for k in 0..26u8 {
+        let place = letters.iter().position(|letter| *letter == b'A' + k);
+        let found = find(work, part(b'A' + k)).map(|form| form.0 as usize);
+        right = right && found == place;
+    }
+    right
+}
+
+#[test]
+fn index_is_kept(rt: HostRuntime) {
+    let mut block = [Cell::Gap(7); 800];
+    let mut work = with_forms(&mut block, 13);
+    let used = work.used();
+    wants_index(&mut work);
+    assert!(rt; are_forms(&mut work, b"ABCDEFGHIJKLM"));
+    assert!(rt; work.space.spare_len() == 64);
+    assert!(rt; work.used() == used);
+    let Some(form) = find(&mut work, part(b'B')) else {
+        panic!(rt; "no form")
+    };
+    assert!(rt; form.0 < work.forms());
+    work.delete(form);
+    assert!(rt; are_forms(&mut work, b"ACDEFGHIJKLM"));
+    assert!(rt; define_letter(&mut work, b'D'));
+    assert!(rt; are_forms(&mut work, b"ACEFGHIJKLMD"));
+    assert!(rt; define_letter(&mut work, b'D'));
+    assert!(rt; are_forms(&mut work, b"ACEFGHIJKLMD"));
+    let Some(form) = find(&mut work, part(b'E')) else {
+        panic!(rt; "no form")
+    };
+    segment(&mut work, form, (27, 29), 1);
+    assert!(rt;
+        form.0 < work.forms()
+            && work.body_len(form) == 2
+            && matches!(super::item(&work, form, 1), Some(Item::Gap(1)))
+    );
+    assert!(rt; are_forms(&mut work, b"ACEFGHIJKLMD"));
+    assert!(rt; work.space.spare_len() == 64);
+}
+
+#[test]
+fn index_is_outgrown_and_cleared(rt: HostRuntime) {
+    let mut block = [Cell::Gap(7); 800];
+    let mut work = with_forms(&mut block, 12);
+    wants_index(&mut work);
+    for letter in b"MNOP" {
+        assert!(rt; define_letter(&mut work, *letter));
+    }
+    assert!(rt; work.space.spare_len() == 64);
+    assert!(rt; define_letter(&mut work, b'Q'));
+    assert!(rt; work.space.spare_len() == 0);
+    assert!(rt; are_forms(&mut work, b"ABCDEFGHIJKLMNOPQ"));
+    wants_index(&mut work);
+    assert!(rt; are_forms(&mut work, b"ABCDEFGHIJKLMNOPQ"));
+    assert!(rt; work.space.spare_len() == 128);
+    work.delete_all();
+    assert!(rt; work.space.spare_len() == 128);
+    assert!(rt; are_forms(&mut work, b""));
+    assert!(rt; define_letter(&mut work, b'Z'));
+    assert!(rt; are_forms(&mut work, b"Z"));
+    // a table so much greater than the forms is let go
+    work.delete_all();
+    assert!(rt; work.space.spare_len() == 0);
+}
+
+#[test]
+fn index_gives_way(rt: HostRuntime) {
+    let mut block = [Cell::Gap(7); 320];
+    let mut work = with_forms(&mut block, 13);
+    wants_index(&mut work);
+    assert!(rt; are_forms(&mut work, b"ABCDEFGHIJKLM"));
+    work.clear_active();
+    assert!(rt; work.load_active(b"active"));
+    let free = work.free();
+    assert!(rt; work.space.spare_len() == 64 && free == 194);
+    for _ in 0..130 {
+        assert!(rt; work.push_neutral(Cell::Comma));
+    }
+    assert!(rt; work.space.spare_len() == 64);
+    for _ in 130..194 {
+        assert!(rt; work.push_neutral(Cell::Comma));
+        assert!(rt; work.space.spare_len() == 0);
+    }
+    assert!(rt; !work.push_neutral(Cell::Comma) && work.free() == 0);
+    assert!(rt; are_forms(&mut work, b"ABCDEFGHIJKLM"));
+    assert!(rt; work.active_len() == 6);
+    assert!(rt; super::are_the_bytes(work.active_part(0, 6), b"active"));
+}
+
+#[test]
+fn no_index_where_it_does_not_fit_twice(rt: HostRuntime) {
+    let mut block = [Cell::Gap(7); 247];
+    let mut work = with_forms(&mut block, 13);
+    assert!(rt; work.free() == 127);
+    wants_index(&mut work);
+    assert!(rt; are_forms(&mut work, b"ABCDEFGHIJKLM"));
+    assert!(rt; work.space.spare_len() == 0);
+    let mut block = [Cell::Gap(7); 248];
+    let mut work = with_forms(&mut block, 13);
+    wants_index(&mut work);
+    assert!(rt; are_forms(&mut work, b"ABCDEFGHIJKLM"));
+    assert!(rt; work.space.spare_len() == 64);
+}
+
+#[test]
+fn no_index_of_few_forms(rt: HostRuntime) {
+    let mut block = [Cell::Gap(7); 800];
+    let mut work = with_forms(&mut block, 11);
+    wants_index(&mut work);
+    assert!(rt; are_forms(&mut work, b"ABCDEFGHIJK"));
+    assert!(rt; work.space.spare_len() == 0);
+}

@@ -1,0 +1,16 @@
+use Rattle.std.proofs.Common.{◌≡◌, ◌≤◌, ◌-◌, take, false, length}
+use Rattle.std.specs.Prelude.{◌==◌}
+use Rattle.std.specs.List.{list_any}
+use Rattle.trac_space.proofs.space.count_before.Given as goal
+
+-- the byte doesn't stand among those so far
+abbrev pub invariant-loop-done : goal.invariant-loop-done
+invariant-loop-done l =
+    record {
+      within : l.done ≤ length l.text;
+      none : list_any (λ b. b == l.stop) (take l.done l.text) ≡ false;
+    }
+
+-- the bytes that are left
+abbrev pub decreases-loop-done : goal.decreases-loop-done
+decreases-loop-done l = length l.text - l.done

@@ -1,0 +1,8 @@
+use Rattle.std.proofs.Common.{◌≡◌, take, false}
+use Rattle.std.specs.Prelude.{◌==◌}
+use Rattle.std.specs.List.{list_any}
+use Rattle.trac_space.proofs.space.count_each.Given as goal
+
+-- the byte doesn't stand among those so far
+abbrev pub invariant-loop-i : goal.invariant-loop-i
+invariant-loop-i l = list_any (λ b. b == l.stop) (take l.i l.text) ≡ false
