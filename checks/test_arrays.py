@@ -1,5 +1,4 @@
-"""The block is all: no body of the engine's crates has an array, but for one byte of a device, the buffer of itoa, and the two
-tables for arguments of `cl`, which are to go.
+"""The block is all: no body of the engine's crates has an array, but for one byte of a device and the buffer of itoa.
 
 Constants, tests and arrays of no elements aside. A slice, a slice pattern and an index are no arrays.
 """
@@ -13,8 +12,6 @@ PROGRAM = 'trac_cli'
 # One byte that a device reads or writes, in these files.
 ONE_BYTE = {'trac_core/src/device/read_source.rt': ['[0]'], 'trac_core/src/device/write_sink.rt': ['[byte]']}
 PRIMITIVE = re.compile(r'(?:[ui](?:8|16|32|64|128|size)|bool|char|str|dyn|mut|as)$')
-# Where the arguments of a call stand.
-TABLES = {'trac_core/src/form_calls.rt': ['[( 0 , 0 ) ; FEW]', '[( 0 , 0 ) ; MANY]']}
 TOKEN = re.compile(r"""//[^\n]*|/\*.*?\*/|b?"(?:\\.|[^"\\])*"|b?'(?:\\(?:x..|u\{[^}]*\}|.)|[^'\\])'|'\w+|\w+|=>|->|::|\.\.=?|&&|\S""", re.DOTALL)
 OPENS, CLOSES = '([{', ')]}'
 WORDS = {'in', 'return', 'mut', 'if', 'else', 'match', 'while', 'let', 'ref', 'dyn', 'as', 'break', 'for', 'impl', 'const'}
@@ -186,16 +183,17 @@ class Arrays(unittest.TestCase):
                 if here:
                     found[path] = here
         self.assertGreater(seen, 30)
-        self.assertEqual(found, ONE_BYTE | TABLES)
+        self.assertEqual(found, ONE_BYTE)
 
     def test_a_table_of_arguments_is_found(self):
-        path = os.path.join(TOP, 'crates', 'trac_core', 'src', 'form_calls.rt')
+        path = os.path.join(TOP, 'crates', 'trac_forms', 'src', 'fill.rt')
         with open(path, encoding='utf-8') as source:
             text = source.read()
-        line = '    let from = work.pointer(form);\n'
+        line = '    let listed = list_parts(space, first, end);\n'
         self.assertEqual(text.count(line), 1)
-        table = text.replace(line, line + '    let mut table = [(0, 0); SOME];\n').replace('use trac_forms', 'const SOME: usize = 12;\nuse trac_forms')
-        self.assertEqual(sorted(arrays(table)), sorted(['[( 0 , 0 ) ; SOME]'] + arrays(text)))
+        table = text.replace(line, '    let mut table = [(0, 0); FEW];\n' + line).replace(
+            'use trac_space', 'const FEW: usize = 12;\nuse trac_space')
+        self.assertEqual((arrays(text), arrays(table)), ([], ['[( 0 , 0 ) ; FEW]']))
 
     def test_each_kind_of_array_is_found(self):
         rows = [

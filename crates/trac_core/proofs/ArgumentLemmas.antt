@@ -9,10 +9,12 @@ use Rattle.trac_space.specs.Cells.{seen, is_call, is_comma, NoCall}
 use Rattle.trac_forms.specs.Text.{Text}
 use Rattle.trac_forms.specs.FlatForms.{flat_text, text_of_cells, character_of}
 use Rattle.trac_forms.specs.Contents.{Contents, IsByte, IsStringCell, IsSound, IsTextPart, part_text}
+use Rattle.trac_forms.specs.Arguments.{before_comma}
+use Rattle.trac_forms.proofs.Parted.{before_comma-within}
 use Rattle.trac_core.specs.declared.arguments.Arguments.{Arguments}
 use Rattle.trac_core.specs.State.{argument}
 use Rattle.trac_core.specs.Flat.{in_first, texts_of}
-use Rattle.trac_core.specs.Calls.{before_comma, texts_from, texts, AreArguments}
+use Rattle.trac_core.specs.Calls.{texts_from, texts, AreArguments}
 
 -- ---- cells as contracts see them
 
@@ -86,14 +88,6 @@ texts_of-first (Head k ∷ cells) = first (texts_of cells) ∙ ap (λ t. 0 ∷ t
     first : (texts : List Text) → argument (in_first 0 texts) 0 ≡ 0 ∷ argument texts 0
     first [] = refl
     first (t ∷ ts) = refl
-
-pub before_comma-within : (cells : List Cell) → before_comma cells ≤ length cells
-before_comma-within [] = omega arith
-before_comma-within (cell ∷ cells) = go (is_comma cell) (before_comma-within cells)
-  where
-    go : (b : Bool) → before_comma cells ≤ length cells → cond b 0 (suc (before_comma cells)) ≤ suc (length cells)
-    go true h = omega arith
-    go false h = omega arith
 
 -- those after the first: none where no comma mark follows it
 later : List Cell → List Text
@@ -276,21 +270,6 @@ within-room w a b cells sound part e =
     let bounded = sound.bounded in
     let within = part.within in
     omega (arith, long, length-range w.neutral a b part.within)
-
-is_comma-seen : (cell : Cell) → is_comma (seen cell) ≡ is_comma cell
-is_comma-seen (Byte b) = refl
-is_comma-seen (Call mode link) = refl
-is_comma-seen Comma = refl
-is_comma-seen (Gap ordinal) = refl
-is_comma-seen (Head n) = refl
-
-before_comma-seen : (cells : List Cell) → before_comma (map seen cells) ≡ before_comma cells
-before_comma-seen [] = refl
-before_comma-seen (cell ∷ cells) = rw (is_comma-seen cell, before_comma-seen cells) refl
-
--- so many cells stand before the comma mark that ends the next argument
-pub found-comma : (cells part : List Cell) (n : ℕ) → map seen cells ≡ part → n ≡ before_comma cells → n ≡ before_comma part
-found-comma cells part n e found = found ∙ sym (before_comma-seen cells) ∙ ap before_comma e
 
 pub next-fits : (w : Contents) (a : Arguments) (n : ℕ) → AreArguments w a → a.from ≤ a.end → n ≡ before_comma (slice_range w.neutral a.from a.end) → a.from + n ≤ a.end
 next-fits w a n are le e =

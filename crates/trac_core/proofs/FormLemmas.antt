@@ -1,27 +1,30 @@
 -- Lists of forms, and what the functions that change them make of a call.
-use Rattle.std.proofs.Common.{◌≡◌, ℕ, suc, ◌+◌, ◌<◌, ◌≤◌, Bool, true, false, List, [], ◌∷◌, ◌++◌, length, drop, set, slice_range, subst, ◌-◌, refl, sym, ap, ◌∙◌, arith, Some, nat_le, ⊎_elim}
+use Rattle.std.proofs.Common.{◌≡◌, ℕ, zero, suc, ◌+◌, ◌<◌, ◌≤◌, Bool, true, false, List, [], ◌∷◌, ◌++◌, length, drop, set, slice_range, subst, ◌-◌, refl, sym, ap, ◌∙◌, arith, Some, nat_le, ⊎_elim}
 use Rattle.std.specs.Prelude.{if◌then◌else◌, flat_map, filter, bytes_eq, not, ◌||◌}
 use Rattle.std.specs.List.{list_any}
 use Rattle.std.proofs.lemmas.Bool.{cases_lt}
 use Rattle.std.proofs.lemmas.List.{append-nil, length-map, drop_more, drop_all, get_or-set_same, set-set, set-get_or}
 use Rattle.std.proofs.lemmas.Slice.Eq.{bytes_eq-Decides}
 use Rattle.std.proofs.lemmas.List.Edits.{length-between}
+use Rattle.std.proofs.lemmas.List.Elements.{All-nil, All-cons}
 use Rattle.trac_space.specs.declared.cell.Cell.{Cell}
 use Rattle.trac_space.specs.declared.cell.Cell.TheVariants.{Byte, Call, Comma, Gap, Head}
 use Rattle.trac_forms.specs.Text.{Text}
 use Rattle.trac_forms.specs.Form.{Form}
 use Rattle.trac_forms.specs.Segment.{segment_by}
-use Rattle.trac_forms.specs.Contents.{Contents, IsSound, form_at, name_at, body_at, pointer_at, IsTextPart, part_text}
+use Rattle.trac_forms.specs.Contents.{Contents, IsSound, form_at, name_at, body_at, pointer_at, IsTextPart, part_text, AreTextParts, part_texts}
+use Rattle.trac_forms.specs.Arguments.{before_comma, parts_between, texts_between, AreParted}
 use Rattle.trac_forms.specs.FlatForms.{character_of}
 use Rattle.trac_forms.specs.Store.{IsStore, NoneNamed, is_named, without}
 use Rattle.trac_forms.proofs.Stores.{without-none}
+use Rattle.trac_forms.proofs.Parted.{parts-first, parts-none}
 use Rattle.trac_core.specs.declared.function.Function.{Function}
 use Rattle.trac_core.specs.Meaning.{World, meaning_of, built, value_length}
 use Rattle.trac_core.specs.State.{argument}
 use Rattle.trac_core.specs.Flat.{texts_of, in_first, with_first}
 use Rattle.trac_core.specs.declared.arguments.Arguments.{Arguments}
 use Rattle.trac_core.specs.Calls.{Means, IsValue, AreArguments, texts, texts_from}
-use Rattle.trac_core.proofs.ArgumentLemmas.{none-left}
+use Rattle.trac_core.proofs.ArgumentLemmas.{none-left, taken-part, taken-text, taken-rest, taken-left}
 use Rattle.trac_core.proofs.Making.{valued-of}
 
 -- a null value, of which nothing stands at the end of neutral
@@ -85,6 +88,40 @@ some-left w a le = first_of_some (texts w a) (rw (texts_from-some w.neutral a.fr
 -- the arguments that are left are the next and those after it
 pub next-left : (w : Contents) (a b : Arguments) → a.from ≤ a.end → texts w b ≡ drop 1 (texts w a) → texts w a ≡ argument (texts w a) 0 ∷ texts w b
 next-left w a b le rest = some-left w a le ∙ ap (λ ts. argument (texts w a) 0 ∷ ts) (sym rest)
+
+-- the parts between comma marks are the arguments that are left
+abbrev AreLeft : Contents → Arguments → Type 0
+AreLeft w a = AreTextParts w.neutral (parts_between w.neutral a.from a.end) × (texts_between w.neutral a.from a.end ≡ texts w a)
+
+abbrev Part : Contents → ℕ × ℕ → Type 0
+Part w part = IsTextPart w.neutral part.0 part.1
+
+parts-past : (w : Contents) (a : Arguments) → a.end < a.from → AreLeft w a
+parts-past w a past =
+    let none = parts-none w.neutral a.from a.end past in
+    (rw none (All-nil (Part w)), ap (part_texts w.neutral) none ∙ sym (none-left w a past))
+
+parts-left : (w : Contents) (fuel : ℕ) (a : Arguments) → AreArguments w a → a.end + 1 - a.from ≤ fuel → AreLeft w a
+parts-left w zero a are few = parts-past w a (omega (arith, few))
+parts-left w (suc fuel) a are few = ⊎_elim (parts-past w a) (λ le.
+    let n = before_comma (slice_range w.neutral a.from a.end) in
+    let b : Arguments = record { from = a.from + n + 1; end = a.end } in
+    let first = parts-first w.neutral a.from a.end n le are.within refl in
+    let rest = taken-rest w a are le in
+    let later = parts-left w fuel b (taken-left w a b are le refl refl) (omega (arith, few)) in
+    (rw first (All-cons (Part w) (a.from, a.from + n) (parts_between w.neutral b.from b.end) (taken-part w a are le) later.0),
+     ap (part_texts w.neutral) first
+     ∙ ap (λ text. text ∷ texts_between w.neutral b.from b.end) (taken-text w a are le)
+     ∙ ap (λ ts. argument (texts w a) 0 ∷ ts) later.1
+     ∙ sym (next-left w a b le rest))) (cases_lt a.end a.from)
+
+pub parted : (w : Contents) (a : Arguments) → AreArguments w a → AreParted w.neutral a.from a.end
+parted w a are =
+    let sound = are.sound in
+    record { within = are.within; bounded = omega (arith, are.within, sound.fits, sound.bounded); texts = (parts-left w (a.end + 1 - a.from) a are (omega arith)).0 }
+
+pub parted-texts : (w : Contents) (a : Arguments) → AreArguments w a → texts_between w.neutral a.from a.end ≡ texts w a
+parted-texts w a are = (parts-left w (a.end + 1 - a.from) a are (omega arith)).1
 
 pub fewer-left : (w : Contents) (a b : Arguments) → a.from ≤ a.end → texts w b ≡ drop 1 (texts w a) → length (texts w b) < length (texts w a)
 fewer-left w a b le rest = omega (arith, ap length (next-left w a b le rest))

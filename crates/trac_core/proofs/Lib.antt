@@ -24,7 +24,6 @@ pub mod ArgumentLemmas
 pub mod Making
 pub mod FormLemmas
 pub mod Putting
-pub mod Filling
 pub mod MetaLemmas
 pub mod Scanning
 pub mod Together

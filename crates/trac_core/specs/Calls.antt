@@ -14,11 +14,6 @@ use Rattle.trac_core.specs.State.{Input}
 use Rattle.trac_core.specs.Meaning.{World, Gives, meaning_of, built}
 use Rattle.trac_core.specs.Flat.{texts_of}
 
--- how many cells stand before the first comma mark
-abbrev pub before_comma : List Cell → ℕ
-before_comma [] = 0
-before_comma (cell ∷ cells) = if is_comma cell then 0 else suc (before_comma cells)
-
 -- the arguments that are left to take: those from a place up to another, none once the place is past that
 abbrev pub texts_from : List Cell → ℕ → ℕ → List Text
 texts_from neutral from end = if nat_le from end then texts_of (slice_range neutral from end) else []

@@ -8,9 +8,9 @@ ghost use Rattle.trac_forms.specs.Contents.{used, part_text, IsTextPart, IsSound
 ghost use Rattle.trac_core.specs.Cells.{IsText};
 ghost use Rattle.trac_core.specs.State.{argument};
 ghost use Rattle.trac_core.specs.declared.function.Function.{Function};
-ghost use Rattle.trac_core.specs.Calls.{before_comma, AreArguments, texts, Valued, Makes};
+ghost use Rattle.trac_core.specs.Calls.{AreArguments, texts, Valued, Makes};
 
-use trac_forms::{Cell, Work};
+use trac_forms::{Cell, Work, before_comma};
 
 /// The arguments of a call that are left to take: those in the neutral string from a place up to another. None is left once
 /// the place is past that.
@@ -57,28 +57,6 @@ impl Arguments {
         ensures { IsTrue result ↔ (self.now.end + 1 ≤ self.now.from) }
     {
         self.from > self.end
-    }
-}
-
-/// How many cells stand before the first comma mark.
-fn before_comma(cells: &[Cell]) -> u32
-    requires { length cells.now ≤ 16777216 }
-    ensures { result ≡ before_comma cells.now }
-{
-    let mut i = 0;
-    // Two in a turn: the turn costs more than a look.
-    while i + 1 < cells.len() {
-        if let Cell::Comma = cells[i] {
-            return i as u32;
-        }
-        if let Cell::Comma = cells[i + 1] {
-            return i as u32 + 1;
-        }
-        i += 2;
-    }
-    match cells.get(i) {
-        Some(Cell::Comma) | None => i as u32,
-        Some(_) => i as u32 + 1,
     }
 }
 

@@ -1,23 +1,19 @@
 //! The functions that make, remove and list forms, and that call a whole form: `ds`, `ss`, `ln`, `dd`, `da`, `cl`.
-ghost use Rattle.std.specs.Prelude.{◌≡◌, ◌↔◌, ◌+◌, ◌<◌, ◌≤◌, List, ◌∷◌, ◌++◌, [], length, take, drop, true, IsTrue, MatchOption, IfSome};
+ghost use Rattle.std.specs.Prelude.{◌≡◌, ◌↔◌, ◌+◌, ◌<◌, ◌≤◌, List, ◌∷◌, ◌++◌, length, drop};
+ghost use Rattle.std.specs.Prelude.{IsTrue, MatchOption};
 ghost use Rattle.std.specs.Bool.{OnTrue};
 ghost use Rattle.trac_forms.specs.Text.{Text};
-ghost use Rattle.trac_forms.specs.Form.{fill};
-ghost use Rattle.trac_forms.specs.Search.{item_at, gap_at};
 ghost use Rattle.trac_forms.specs.Store.{NoneNamed};
 ghost use Rattle.trac_forms.specs.FlatForms.{flat_text};
-ghost use Rattle.trac_forms.specs.Contents.{used, name_at, body_at, part_text, part_texts, IsTextPart, AreTextParts, IsNamedAt, IsSound};
+ghost use Rattle.trac_forms.specs.Contents.{used, name_at, part_text, IsTextPart, IsNamedAt, IsSound};
 ghost use Rattle.trac_core.specs.State.{argument};
-ghost use Rattle.trac_core.specs.declared.function.Function.TheVariants.{DefineString, SegmentString, DeleteDefinition, DeleteAll, ListNames, CallForm};
+ghost use Rattle.trac_core.specs.declared.function.Function.TheVariants.{DefineString, SegmentString};
+ghost use Rattle.trac_core.specs.declared.function.Function.TheVariants.{DeleteDefinition, DeleteAll};
+ghost use Rattle.trac_core.specs.declared.function.Function.TheVariants.{ListNames, CallForm};
 ghost use Rattle.trac_core.specs.Calls.{AreArguments, texts, Makes};
 
 use crate::arguments::{Arguments, Made, put_part};
-use trac_forms::{FormId, Item, Work};
-
-/// How many arguments a call of a form lists in the small table.
-const FEW: usize = 12;
-/// How many it lists in the great one.
-const MANY: usize = 256;
+use trac_forms::{FormId, Work};
 
 /// `da`: all forms are removed (Mooers 1966).
 pub(crate) fn delete_all(work: &mut Work) -> Made
@@ -133,135 +129,11 @@ pub(crate) fn call_form(work: &mut Work, mut arguments: Arguments) -> Made
         return Made::Value;
     };
     let from = work.pointer(form);
-    if fill_form(work, form, from, arguments) {
+    if work.fill_body(form, from, arguments.from, arguments.end) {
         Made::Value
     } else {
         Made::Full
     }
-}
-
-/// Puts the form's body from a place on at the end of the neutral string, its gaps filled by the arguments, if there are cells
-/// for it. Where a table has places for all the arguments, each is found once.
-fn fill_form(work: &mut Work, form: FormId, from: u32, arguments: Arguments) -> bool
-    requires arguments { AreArguments work.old arguments }
-    requires known { form.0 < length work.old.forms }
-    requires within { from ≤ length (body_at work.old.forms form.0) }
-    ensures put { let text = fill (texts work.old arguments) (drop from (body_at work.old.forms form.0)) in
-        IsTrue result ↔ (used work.old + length text ≤ work.old.room) }
-    ensures last { let text = fill (texts work.old arguments) (drop from (body_at work.old.forms form.0)) in
-        OnTrue result (work.new ≡ record work.old { neutral = work.old.neutral ++ flat_text text }) }
-    ensures room { work.new.room ≡ work.old.room }
-    ensures sound { IsSound work.new }
-{
-    let mut table = [(0, 0); FEW];
-    match list_parts(work, arguments, &mut table) {
-        Some(count) => work.fill_body(form, from, &table[..count]),
-        None => fill_with_many(work, form, from, arguments),
-    }
-}
-
-/// The same by the great table, which takes longer to make.
-#[inline(never)]
-fn fill_with_many(work: &mut Work, form: FormId, from: u32, arguments: Arguments) -> bool
-    requires arguments { AreArguments work.old arguments }
-    requires known { form.0 < length work.old.forms }
-    requires within { from ≤ length (body_at work.old.forms form.0) }
-    ensures put { let text = fill (texts work.old arguments) (drop from (body_at work.old.forms form.0)) in
-        IsTrue result ↔ (used work.old + length text ≤ work.old.room) }
-    ensures last { let text = fill (texts work.old arguments) (drop from (body_at work.old.forms form.0)) in
-        OnTrue result (work.new ≡ record work.old { neutral = work.old.neutral ++ flat_text text }) }
-    ensures room { work.new.room ≡ work.old.room }
-    ensures sound { IsSound work.new }
-{
-    let mut table = [(0, 0); MANY];
-    match list_parts(work, arguments, &mut table) {
-        Some(count) => work.fill_body(form, from, &table[..count]),
-        None => fill_by_turns(work, form, from, arguments),
-    }
-}
-
-/// Lists where the arguments stand, from the first place of the table on, and gives their number. None where the table has
-/// too few places.
-fn list_parts(work: &Work, mut arguments: Arguments, table: &mut [(u32, u32)]) -> Option<usize>
-    requires { AreArguments work.now arguments }
-    ensures same { length table.new ≡ length table.old }
-    ensures parts { IfSome result (λ count. (count ≤ length table.new)
-        × (AreTextParts work.now.neutral (take count table.new)
-        × (part_texts work.now.neutral (take count table.new) ≡ texts work.now arguments))) }
-{
-    let mut count = 0;
-    while !arguments.is_empty() {
-        if count == table.len() {
-            return None;
-        }
-        table[count] = arguments.next(work);
-        count += 1;
-    }
-    Some(count)
-}
-
-/// The same for still more arguments: each is looked up where a gap asks for it.
-fn fill_by_turns(work: &mut Work, form: FormId, from: u32, arguments: Arguments) -> bool
-    requires arguments { AreArguments work.old arguments }
-    requires known { form.0 < length work.old.forms }
-    requires within { from ≤ length (body_at work.old.forms form.0) }
-    ensures put { let text = fill (texts work.old arguments) (drop from (body_at work.old.forms form.0)) in
-        IsTrue result ↔ (used work.old + length text ≤ work.old.room) }
-    ensures last { let text = fill (texts work.old arguments) (drop from (body_at work.old.forms form.0)) in
-        OnTrue result (work.new ≡ record work.old { neutral = work.old.neutral ++ flat_text text }) }
-    ensures room { work.new.room ≡ work.old.room }
-    ensures sound { IsSound work.new }
-{
-    let mut from = from;
-    while let Some(gap) = work.next_gap(form, from) {
-        if !work.copy_body(form, from, gap) {
-            return false;
-        }
-        if !fill_gap(work, arguments, form, gap) {
-            return false;
-        }
-        from = gap + 1;
-    }
-    let end = work.body_len(form);
-    work.copy_body(form, from, end)
-}
-
-/// Puts the argument of the gap at a place of the form's body at the end of the neutral string, if there are cells for it.
-fn fill_gap(work: &mut Work, arguments: Arguments, form: FormId, gap: u32) -> bool
-    requires arguments { AreArguments work.old arguments }
-    requires known { form.0 < length work.old.forms }
-    requires within { gap < length (body_at work.old.forms form.0) }
-    requires gap { gap_at (body_at work.old.forms form.0) gap ≡ true }
-    ensures put { let text = fill (texts work.old arguments) (item_at (body_at work.old.forms form.0) gap ∷ []) in
-        IsTrue result ↔ (used work.old + length text ≤ work.old.room) }
-    ensures last { let text = fill (texts work.old arguments) (item_at (body_at work.old.forms form.0) gap ∷ []) in
-        OnTrue result (work.new ≡ record work.old { neutral = work.old.neutral ++ flat_text text }) }
-    ensures room { work.new.room ≡ work.old.room }
-    ensures sound { IsSound work.new }
-{
-    match work.item(form, gap) {
-        Item::Gap(ordinal) => {
-            let part = numbered(work, arguments, ordinal);
-            put_part(work, part)
-        }
-        Item::Byte(_) => unreachable!(),
-    }
-}
-
-/// The argument of this number, from 1; a null part where it is missing.
-fn numbered(work: &Work, mut arguments: Arguments, number: u32) -> (u32, u32)
-    requires { AreArguments work.now arguments }
-    ensures part { IsTextPart work.now.neutral result.0 result.1 }
-    ensures text { part_text work.now.neutral result.0 result.1 ≡ argument ([] ∷ texts work.now arguments) number }
-{
-    let mut part = (arguments.end, arguments.end);
-    for _taken in 0..number {
-        if arguments.is_empty() {
-            return (arguments.end, arguments.end);
-        }
-        part = arguments.next(work);
-    }
-    part
 }
 
 /// The form that the next argument names, None where no form has the name.

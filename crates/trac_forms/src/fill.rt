@@ -1,15 +1,16 @@
 //! Whole forms, their gaps filled, put at the end of neutral (Mooers 1966).
-ghost use Rattle.std.specs.Prelude.{◌≡◌, ◌+◌, ◌≤◌, ◌<◌, ◌↔◌, ◌++◌, ◌∷◌, ℕ, true, false, length, take, drop, map, get_or, slice_range, IsTrue, All, MatchOption, IfSome, []};
+ghost use Rattle.std.specs.Prelude.{◌≡◌, ◌+◌, ◌≤◌, ◌<◌, ◌↔◌, ◌++◌, ℕ, true, false, [], length, take};
+ghost use Rattle.std.specs.Prelude.{IsTrue, All, MatchOption, IfSome};
 ghost use Rattle.std.specs.Bool.{OnTrue, OnFalse};
 ghost use Rattle.trac_space.specs.Lists.{used as cells_used, HasWay, with_way};
 ghost use Rattle.trac_forms.specs.Text.{Text};
-ghost use Rattle.trac_forms.specs.Form.{fill};
 ghost use Rattle.trac_forms.specs.FlatForms.{flat_text};
-ghost use Rattle.trac_forms.specs.Contents.{used, body_at, AreTextParts, part_texts, IsSound};
+ghost use Rattle.trac_forms.specs.Contents.{used, body_at, IsSound};
+ghost use Rattle.trac_forms.specs.Arguments.{AreParted, HasList, filled_body, filled_cells};
 ghost use Rattle.trac_forms.specs.Gaps.{is_byte_cell, byte_cell_at, gap_ordinal};
-ghost use Rattle.trac_forms.specs.Stored.{item_of};
 ghost use Rattle.trac_forms.specs.Index.{IsKept};
 
+use crate::arguments::{Arguments, list_parts, unlisted};
 use crate::item::FormId;
 use crate::search::is_character;
 use crate::store::{head, place_of};
@@ -18,57 +19,134 @@ use trac_space::{Cell, Space};
 
 impl<'a> Work<'a> {
     /// Puts the items of the form's body from place `from` on at the end of neutral, each gap of
-    /// ordinal k replaced by the k-th of the parts of neutral, from 1, and by nothing where there is
-    /// none. False where they don't fit.
-    pub fn fill_body(&mut self, form: FormId, from: u32, parts: &[(u32, u32)]) -> bool
+    /// ordinal k replaced by the k-th, from 1, of the texts between the comma marks of neutral from
+    /// place `first` up to `end`, and by nothing where there is none. False where they don't fit.
+    pub fn fill_body(&mut self, form: FormId, from: u32, first: u32, end: u32) -> bool
         requires known { form.0 < length self.old.forms }
         requires within { from ≤ length (body_at self.old.forms form.0) }
-        requires parts { AreTextParts self.old.neutral parts.now }
-        ensures put { let text = fill (part_texts self.old.neutral parts.now) (drop from (body_at self.old.forms form.0)) in
+        requires arguments { AreParted self.old.neutral first end }
+        ensures put { let text = filled_body self.old form.0 from first end in
             IsTrue result ↔ (used self.old + length text ≤ self.old.room) }
-        ensures last { let text = fill (part_texts self.old.neutral parts.now) (drop from (body_at self.old.forms form.0)) in
+        ensures last { let text = filled_body self.old form.0 from first end in
             OnTrue result (self.new ≡ record self.old { neutral = self.old.neutral ++ flat_text text }) }
         ensures full { OnFalse result (self.new ≡ self.old) }
         ensures sound { IsSound self.new }
     {
-        let before = self.space.neutral_len();
         let start = place_of(&self.space, self.last, self.start, form.0);
         let body = start + 3 + head(&self.space, start);
-        let end = body + head(&self.space, start + 1);
-        let filled = fill_cells(&mut self.space, body + from, end, parts);
-        if !filled {
-            self.space.cut_neutral(before);
-        }
-        filled
+        let stop = body + head(&self.space, start + 1);
+        fill_items(&mut self.space, body + from, stop, first, end)
     }
 }
 
-// Puts the items in the store from place `from` up to `end` at the end of neutral, each gap replaced
-// by the part of its number. False where they don't fit; then some of them may stand there.
-fn fill_cells(space: &mut Space, from: u32, end: u32, parts: &[(u32, u32)]) -> bool
-    requires order { from ≤ end }
-    requires within { end ≤ length space.old.store }
+// The same with the items in the store from place `from` up to `stop`.
+fn fill_items(space: &mut Space, from: u32, stop: u32, first: u32, end: u32) -> bool
+    requires order { from ≤ stop }
+    requires within { stop ≤ length space.old.store }
     requires bounded { length space.old.store ≤ 16777216 }
-    requires parts { AreTextParts space.old.neutral parts.now }
-    ensures put { let text = fill (part_texts space.old.neutral parts.now) (map item_of (slice_range space.old.store from end)) in
+    requires arguments { AreParted space.old.neutral first end }
+    ensures put { let text = filled_cells space.old from stop first end in
         IsTrue result ↔ (cells_used space.old + length text ≤ space.old.room) }
-    ensures last { let text = fill (part_texts space.old.neutral parts.now) (map item_of (slice_range space.old.store from end)) in
-        OnTrue result (space.new ≡ record space.old { neutral = space.old.neutral ++ flat_text text; spare = space.new.spare }) }
+    ensures last { let text = filled_cells space.old from stop first end in
+        OnTrue result (space.new ≡ record space.old {
+          neutral = space.old.neutral ++ flat_text text;
+          spare = space.new.spare;
+        }) }
+    ensures full { OnFalse result (space.new ≡ record space.old { spare = space.new.spare }) }
     ensures kept { IsKept space.old.spare space.new.spare }
-    ensures some { OnFalse result ((done : Text) × (space.new ≡ record space.old { neutral = space.old.neutral ++ flat_text done; spare = space.new.spare })) }
+{
+    fill_beside_list(space, from, stop, first, end)
+        || fill_or_cut(space, from, stop, unlisted(first, end))
+}
+
+// The same where there is room for a list of the arguments beside the text. False where there isn't.
+fn fill_beside_list(space: &mut Space, from: u32, stop: u32, first: u32, end: u32) -> bool
+    requires order { from ≤ stop }
+    requires within { stop ≤ length space.old.store }
+    requires bounded { length space.old.store ≤ 16777216 }
+    requires arguments { AreParted space.old.neutral first end }
+    ensures fits { let text = filled_cells space.old from stop first end in
+        IsTrue result → cells_used space.old + length text ≤ space.old.room }
+    ensures last { let text = filled_cells space.old from stop first end in
+        OnTrue result (space.new ≡ record space.old {
+          neutral = space.old.neutral ++ flat_text text;
+          spare = space.new.spare;
+        }) }
+    ensures full { OnFalse result (space.new ≡ record space.old { spare = space.new.spare }) }
+    ensures kept { IsKept space.old.spare space.new.spare }
+{
+    if end < first || space.way() < end - first + 2 {
+        return false;
+    }
+    let listed = list_parts(space, first, end);
+    let arguments = Arguments {
+        from: first,
+        end,
+        listed,
+    };
+    let filled = fill_or_cut(space, from, stop, arguments);
+    space.drop_active(listed + 1);
+    filled
+}
+
+// The same with arguments that are listed or not. False where the text doesn't fit beside what there is.
+fn fill_or_cut(space: &mut Space, from: u32, stop: u32, arguments: Arguments) -> bool
+    requires order { from ≤ stop }
+    requires within { stop ≤ length space.old.store }
+    requires bounded { length space.old.store ≤ 16777216 }
+    requires arguments { AreParted space.old.neutral arguments.from arguments.end }
+    requires listed { HasList space.old arguments }
+    ensures put { let text = filled_cells space.old from stop arguments.from arguments.end in
+        IsTrue result ↔ (cells_used space.old + length text ≤ space.old.room) }
+    ensures last { let text = filled_cells space.old from stop arguments.from arguments.end in
+        OnTrue result (space.new ≡ record space.old {
+          neutral = space.old.neutral ++ flat_text text;
+          spare = space.new.spare;
+        }) }
+    ensures full { OnFalse result (space.new ≡ record space.old { spare = space.new.spare }) }
+    ensures kept { IsKept space.old.spare space.new.spare }
+{
+    let before = space.neutral_len();
+    let filled = fill_cells(space, from, stop, arguments);
+    if !filled {
+        space.cut_neutral(before);
+    }
+    filled
+}
+
+// Puts the items in the store from place `from` up to `stop` at the end of neutral, each gap replaced
+// by the argument of its number. False where they don't fit; then some of them may stand there.
+fn fill_cells(space: &mut Space, from: u32, stop: u32, arguments: Arguments) -> bool
+    requires order { from ≤ stop }
+    requires within { stop ≤ length space.old.store }
+    requires bounded { length space.old.store ≤ 16777216 }
+    requires arguments { AreParted space.old.neutral arguments.from arguments.end }
+    requires listed { HasList space.old arguments }
+    ensures put { let text = filled_cells space.old from stop arguments.from arguments.end in
+        IsTrue result ↔ (cells_used space.old + length text ≤ space.old.room) }
+    ensures last { let text = filled_cells space.old from stop arguments.from arguments.end in
+        OnTrue result (space.new ≡ record space.old {
+          neutral = space.old.neutral ++ flat_text text;
+          spare = space.new.spare;
+        }) }
+    ensures some { OnFalse result ((done : Text) × (space.new ≡ record space.old {
+      neutral = space.old.neutral ++ flat_text done;
+      spare = space.new.spare;
+    })) }
+    ensures kept { IsKept space.old.spare space.new.spare }
 {
     let mut at = from;
     let mut way = space.way();
     loop {
-        let gap = at + characters(space.store_part(at, end));
+        let gap = at + characters(space.store_part(at, stop));
         let Some(left) = take_room(space, gap - at, way) else {
             return false;
         };
         space.put_from_store(at, gap);
-        if gap == end {
+        if gap == stop {
             return true;
         }
-        let part = numbered(parts, ordinal(space, gap));
+        let part = arguments.part(space, ordinal(space, gap));
         let Some(rest) = take_room(space, part.1 - part.0, left) else {
             return false;
         };
@@ -136,14 +214,4 @@ fn ordinal(space: &Space, i: u32) -> u32
         Some(Cell::Gap(ordinal)) => ordinal,
         _ => 0,
     }
-}
-
-// The part of this number, from 1; a null one where there is none. Number 0 gives the greatest `usize`, which is no
-// place of a list.
-#[inline]
-fn numbered(parts: &[(u32, u32)], number: u32) -> (u32, u32)
-    ensures { result ≡ get_or ((0, 0) ∷ parts.now) number (0, 0) }
-{
-    let place = (number as usize).wrapping_sub(1);
-    parts.get(place).copied().unwrap_or((0, 0))
 }

@@ -1,7 +1,7 @@
 -- A move of cells, done part by part.
 use Rattle.std.proofs.Common.{◌≡◌, ℕ, ◌+◌, ◌≤◌, List, ◌++◌, length, take, drop, sym, ap, ◌∙◌, arith, append_assoc}
 use Rattle.std.proofs.Math.Seq.{take-add}
-use Rattle.std.proofs.lemmas.List.{drop-drop, drop-take, length-drop, take-append-drop}
+use Rattle.std.proofs.lemmas.List.{drop-drop, drop-take, length-drop}
 use Rattle.std.proofs.lemmas.List.Edits.{take-paste}
 use lib.Seq.{paste}
 use Rattle.trac_space.proofs.Parts.{take-paste_below, drop-paste_above, drop-paste_at}

@@ -1,15 +1,18 @@
-use Rattle.std.proofs.Common.{◌≡◌, ℕ, ◌+◌, ◌<◌, ◌≤◌, ◌∷◌, ◌++◌, [], List, length, drop, refl, sym, ap, ◌∙◌, arith, false, Some}
+use Rattle.std.proofs.lemmas.Bool.{false≢true, cases_lt}
+use Rattle.std.proofs.Common.{⊎_elim, ◌≡◌, ℕ, ◌+◌, ◌<◌, ◌≤◌, ◌∷◌, ◌++◌, [], List, length, drop, refl, sym, ap, ◌∙◌, arith, false, Some}
 use Rattle.trac_forms.specs.Text.{Text}
 use Rattle.trac_forms.specs.Form.{fill}
 use Rattle.trac_forms.specs.FlatForms.{flat_text}
+use Rattle.trac_forms.specs.Arguments.{texts_between}
 use Rattle.trac_forms.specs.Contents.{Contents, used, body_at, pointer_at, IsNamedAt, IsSound}
 use Rattle.trac_forms.proofs.Stores.{form_named-at, form_named-none}
 use Rattle.trac_core.specs.State.{Input, argument}
 use Rattle.trac_core.specs.declared.function.Function.TheVariants.{CallForm}
 use Rattle.trac_core.specs.Meaning.{meaning_of, built, value_length}
-use Rattle.trac_core.specs.Calls.{world, texts, Means, IsValue}
+use Rattle.trac_core.specs.declared.arguments.Arguments.{Arguments}
+use Rattle.trac_core.specs.Calls.{world, texts, AreArguments, Means, IsValue}
 use Rattle.trac_core.proofs.Making.{valued-of}
-use Rattle.trac_core.proofs.FormLemmas.{unchanged}
+use Rattle.trac_core.proofs.FormLemmas.{unchanged, parted, parted-texts}
 use Rattle.trac_core.proofs.form_calls.call_form.Goals as goal
 
 -- what a call of the form means
@@ -57,23 +60,39 @@ module _ (old mid : Contents) (same : mid ≡ old) (k from : ℕ) (given ts : Li
         stands = stands ∙ ap (λ fs. record old { forms = fs; neutral = old.neutral ++ flat_text whole }) (sym forms);
       }
 
-pub returns-then-fill_form-clause-makes : goal.returns-then-fill_form-clause-makes
-returns-then-fill_form-clause-makes c = λ name.
-    let old = c.args.work.now in
-    let mid = c.next_form.new.work in
-    let ts = texts old c.args.arguments in
-    let given = texts mid c.next_form.new.arguments in
-    let rest = ap (λ w. texts w c.next_form.new.arguments) c.next_form.ensures.same ∙ c.next_form.ensures.rest in
-    (_, value old mid c.next_form.ensures.same c.in-Some.form.0 c.pointer-from.result given ts rest c.pointer-from.ensures.value name c.fill_form.new.work c.requires.sound c.in-Some.ensures.found c.if-fill_form.ensures.last (c.if-fill_form.ensures.put.0 refl))
+-- the filler is given the texts of the arguments that are left
+module _ (old mid : Contents) (same : mid ≡ old) (a : Arguments) (left : AreArguments old a) where
+  are : AreArguments mid a
+  are = rw same left
 
-pub returns-else-fill_form-clause-makes : goal.returns-else-fill_form-clause-makes
-returns-else-fill_form-clause-makes c = λ name.
+  given_is : (ts : List Text) → texts old a ≡ drop 1 ts → texts_between mid.neutral a.from a.end ≡ drop 1 ts
+  given_is ts rest = parted-texts mid a are ∙ ap (λ w. texts w a) same ∙ rest
+
+pub fill_body-requires-clause-arguments : goal.fill_body-requires-clause-arguments
+fill_body-requires-clause-arguments c =
+    let mid = c.next_form.new.work in
+    parted mid c.next_form.new.arguments (are c.args.work.now mid c.next_form.ensures.same c.next_form.new.arguments c.next_form.ensures.left)
+
+pub returns-then-fill_body-clause-makes : goal.returns-then-fill_body-clause-makes
+returns-then-fill_body-clause-makes c = λ name.
     let old = c.args.work.now in
     let mid = c.next_form.new.work in
+    let a = c.next_form.new.arguments in
     let ts = texts old c.args.arguments in
-    let given = texts mid c.next_form.new.arguments in
-    let rest = ap (λ w. texts w c.next_form.new.arguments) c.next_form.ensures.same ∙ c.next_form.ensures.rest in
+    let rest = given_is old mid c.next_form.ensures.same a c.next_form.ensures.left ts c.next_form.ensures.rest in
+    (_, value old mid c.next_form.ensures.same c.in-Some.form.0 c.pointer-from.result (texts_between mid.neutral a.from a.end) ts rest c.pointer-from.ensures.value name c.fill_body.new.self c.requires.sound c.in-Some.ensures.found c.if-fill_body.ensures.last (c.if-fill_body.ensures.put.0 refl))
+
+pub returns-else-fill_body-clause-makes : goal.returns-else-fill_body-clause-makes
+returns-else-fill_body-clause-makes c = λ name.
+    let old = c.args.work.now in
+    let mid = c.next_form.new.work in
+    let a = c.next_form.new.arguments in
+    let ts = texts old c.args.arguments in
+    let rest = given_is old mid c.next_form.ensures.same a c.next_form.ensures.left ts c.next_form.ensures.rest in
+    let given = texts_between mid.neutral a.from a.end in
     let long = size old mid c.next_form.ensures.same c.in-Some.form.0 c.pointer-from.result given ts rest c.pointer-from.ensures.value in
     let same_room = room old mid c.next_form.ensures.same c.in-Some.form.0 c.pointer-from.result given ts rest c.pointer-from.ensures.value in
-    let full : mid.room < used mid + length (fill given (drop c.pointer-from.result (body_at mid.forms c.in-Some.form.0))) = grind (arith, c.if-fill_form.ensures.put) in
+    let text = fill given (drop c.pointer-from.result (body_at mid.forms c.in-Some.form.0)) in
+    let full : mid.room < used mid + length text =
+    ⊎_elim (λ lt. lt) (λ fits. absurd (false≢true (c.if-fill_body.ensures.put.1 fits))) (cases_lt mid.room (used mid + length text)) in
     too_long old name ts c.in-Some.form.0 c.requires.sound c.in-Some.ensures.found (omega (arith, full, long, same_room))

@@ -1,6 +1,6 @@
 use Rattle.std.proofs.Common.{◌≡◌, ◌+◌, ◌≤◌, ◌-◌, length, slice_range}
 use Rattle.trac_space.specs.Lists.{used}
-use Rattle.trac_forms.specs.Contents.{part_texts}
+use Rattle.trac_forms.specs.Arguments.{texts_between}
 use Rattle.trac_forms.specs.Index.{IsKept}
 use Rattle.trac_forms.proofs.Filling.{filled, Filled}
 use Rattle.trac_forms.proofs.fill.fill_cells.Given as goal
@@ -8,14 +8,14 @@ use Rattle.trac_forms.proofs.fill.fill_cells.Given as goal
 -- the items up to a place stand, their gaps filled
 abbrev pub invariant-loop-left : goal.invariant-loop-left
 invariant-loop-left l =
-    let given = part_texts l.fn.space.neutral l.parts in
+    let given = texts_between l.fn.space.neutral l.arguments.from l.arguments.end in
     record {
-      order : l.at ≤ l.end;
+      order : l.at ≤ l.stop;
       kept : IsKept l.fn.space.spare l.space.spare;
       way : l.way + used l.space + length l.space.spare ≡ l.space.room;
-      put : Filled l.fn.space l.space (filled given (slice_range l.fn.space.store l.from l.end)) (filled given (slice_range l.fn.space.store l.at l.end));
+      put : Filled l.fn.space l.space (filled given (slice_range l.fn.space.store l.from l.stop)) (filled given (slice_range l.fn.space.store l.at l.stop));
     }
 
 -- the cells that are left
 abbrev pub decreases-loop-left : goal.decreases-loop-left
-decreases-loop-left l = l.end - l.at
+decreases-loop-left l = l.stop - l.at

@@ -1,5 +1,6 @@
 use Rattle.std.proofs.Common.{refl, arith}
-use Rattle.trac_core.proofs.ArgumentLemmas.{found-comma, next-fits, taken-part, taken-text, taken-rest, taken-left, argument-later}
+use Rattle.trac_forms.proofs.Parted.{found-comma}
+use Rattle.trac_core.proofs.ArgumentLemmas.{next-fits, taken-part, taken-text, taken-rest, taken-left, argument-later}
 use Rattle.trac_core.proofs.arguments.Arguments.next.Goals as goal
 
 pub overflow_add-to : goal.overflow_add-to

@@ -1,6 +1,6 @@
 use Rattle.std.proofs.Common.{◌≡◌, ◌≤◌, ◌+◌, ◌-◌, drop, length}
-use Rattle.trac_core.specs.Calls.{before_comma}
-use Rattle.trac_core.proofs.arguments.before_comma.Given as goal
+use Rattle.trac_forms.specs.Arguments.{before_comma}
+use Rattle.trac_forms.proofs.arguments.before_comma.Given as goal
 
 -- no comma mark stands among the cells so far
 abbrev pub invariant-loop-i : goal.invariant-loop-i

@@ -1,0 +1,131 @@
+//! The arguments of a call in neutral, found by a list of where they begin, or by their comma marks.
+ghost use Rattle.std.specs.Prelude.{◌≡◌, ◌+◌, ◌-◌, ◌<◌, ◌≤◌, length, drop};
+ghost use Rattle.trac_space.specs.Lists.{HasWay};
+ghost use Rattle.trac_forms.specs.Arguments.{before_comma, parts_between, numbered_part, IsListed, HasList};
+ghost use Rattle.trac_forms.specs.Stored.{head_at};
+
+use crate::store::number;
+use trac_space::{Cell, Space};
+
+/// The arguments of a call: what stands between the comma marks of neutral from a place up to another.
+#[derive(Clone, Copy)]
+pub(crate) struct Arguments {
+    pub(crate) from: u32,
+    pub(crate) end: u32,
+    // How many are listed before active; 0 where there is no list.
+    pub(crate) listed: u32,
+}
+
+impl Arguments {
+    /// Where the argument of a number, from 1, begins and ends; a null part where there is none.
+    #[inline]
+    pub(crate) fn part(self, space: &Space, number: u32) -> (u32, u32)
+        requires listed { HasList space.now self }
+        requires within { self.end ≤ length space.now.neutral }
+        requires bounded { self.end ≤ 16777216 }
+        ensures { result ≡ numbered_part (parts_between space.now.neutral self.from self.end) number }
+    {
+        if number == 0 {
+            return (0, 0);
+        }
+        if self.listed == 0 {
+            return find_part(space, self.from, self.end, number);
+        }
+        if self.listed < number {
+            return (0, 0);
+        }
+        let place = self.listed - number;
+        (
+            listed_number(space, place + 1),
+            listed_number(space, place) - 1,
+        )
+    }
+}
+
+// The number in the head cell at place `i` of active.
+#[inline]
+fn listed_number(space: &Space, i: u32) -> u32
+    ensures { result ≡ head_at space.now.active i }
+{
+    match space.active_at(i) {
+        Some(cell) => number(cell),
+        None => 0,
+    }
+}
+
+// Where the argument of a number begins and ends, found by the comma marks before it.
+fn find_part(space: &Space, from: u32, end: u32, number: u32) -> (u32, u32)
+    requires some { 0 < number }
+    requires within { end ≤ length space.now.neutral }
+    requires bounded { end ≤ 16777216 }
+    ensures { result ≡ numbered_part (parts_between space.now.neutral from end) number }
+{
+    let mut from = from;
+    for _before in 1..number {
+        if end < from {
+            return (0, 0);
+        }
+        from += before_comma(space.neutral_part(from, end)) + 1;
+    }
+    if end < from {
+        return (0, 0);
+    }
+    (from, from + before_comma(space.neutral_part(from, end)))
+}
+
+/// The arguments from place `from` up to `end` of neutral, where there is no list of them.
+pub(crate) fn unlisted(from: u32, end: u32) -> Arguments
+    ensures { result ≡ record { from = from; end = end; listed = 0 } }
+{
+    Arguments {
+        from,
+        end,
+        listed: 0,
+    }
+}
+
+/// Lists before active where each argument from place `from` up to `end` of neutral begins, and gives their
+/// number. The list has one cell more.
+pub(crate) fn list_parts(space: &mut Space, from: u32, end: u32) -> u32
+    requires order { from ≤ end }
+    requires within { end ≤ length space.old.neutral }
+    requires bounded { end ≤ 16777216 }
+    requires room { HasWay (end - from + 2) space.old }
+    ensures listed { IsListed space.new.active (parts_between space.old.neutral from end) result }
+    ensures few { result + from ≤ end + 1 }
+    ensures within { result + 1 ≤ length space.new.active }
+    ensures behind { drop (result + 1) space.new.active ≡ space.old.active }
+    ensures same { space.new ≡ record space.old { active = space.new.active } }
+{
+    let mut count = 0;
+    let mut from = from;
+    space.push_active(Cell::Head(from));
+    while from <= end {
+        from += before_comma(space.neutral_part(from, end)) + 1;
+        space.push_active(Cell::Head(from));
+        count += 1;
+    }
+    count
+}
+
+/// How many cells stand before the first comma mark.
+pub fn before_comma(cells: &[Cell]) -> u32
+    requires { length cells.now ≤ 16777216 }
+    ensures { result ≡ before_comma cells.now }
+{
+    let mut i = 0;
+    // Two in a turn: the turn costs more than a look.
+    while i + 1 < cells.len() {
+        if let Cell::Comma = cells[i] {
+            return i as u32;
+        }
+        if let Cell::Comma = cells[i + 1] {
+            return i as u32 + 1;
+        }
+        i += 2;
+    }
+    match cells.get(i) {
+        Some(Cell::Comma) | None => i as u32,
+        Some(_) => i as u32 + 1,
+    }
+}
