@@ -108,12 +108,13 @@ parts-left w (suc fuel) a are few = ⊎_elim (parts-past w a) (λ le.
     let b : Arguments = record { from = a.from + n + 1; end = a.end } in
     let first = parts-first w.neutral a.from a.end n le are.within refl in
     let rest = taken-rest w a are le in
-    let later = parts-left w fuel b (taken-left w a b are le refl refl) (omega (arith, few)) in
-    (rw first (All-cons (Part w) (a.from, a.from + n) (parts_between w.neutral b.from b.end) (taken-part w a are le) later.0),
-     ap (part_texts w.neutral) first
-     ∙ ap (λ text. text ∷ texts_between w.neutral b.from b.end) (taken-text w a are le)
-     ∙ ap (λ ts. argument (texts w a) 0 ∷ ts) later.1
-     ∙ sym (next-left w a b le rest))) (cases_lt a.end a.from)
+    let later = parts-left w fuel b (taken-left w a b are le refl refl) (omega (arith, few)) in (
+      rw first (All-cons (Part w) (a.from, a.from + n) (parts_between w.neutral b.from b.end) (taken-part w a are le) later.0),
+      ap (part_texts w.neutral) first
+          ∙ ap (λ text. text ∷ texts_between w.neutral b.from b.end) (taken-text w a are le)
+          ∙ ap (λ ts. argument (texts w a) 0 ∷ ts) later.1
+          ∙ sym (next-left w a b le rest),
+    )) (cases_lt a.end a.from)
 
 pub parted : (w : Contents) (a : Arguments) → AreArguments w a → AreParted w.neutral a.from a.end
 parted w a are =

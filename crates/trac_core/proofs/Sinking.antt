@@ -1,14 +1,11 @@
 -- Characters of cells that are put into a sink.
-use Rattle.std.proofs.Common.{◌≡◌, ℕ, ◌+◌, ◌-◌, ◌≤◌, List, ◌++◌, length, take, drop, slice_range, sym, ap, ◌∙◌, arith}
-use Rattle.std.proofs.Math.Seq.{take-add}
+use Rattle.std.proofs.Common.{◌≡◌, ℕ, List, ◌++◌, take, drop, sym, ap, ◌∙◌}
 use Rattle.std.proofs.lemmas.List.{take-append-drop}
-use Rattle.std.proofs.lemmas.List.Edits.{length-between}
 use Rattle.trac_space.specs.declared.cell.Cell.{Cell}
 use Rattle.trac_forms.specs.Text.{Text}
 use Rattle.trac_forms.specs.FlatForms.{text_of_cells}
 use Rattle.trac_core.specs.Devices.{Breaks}
 use Rattle.trac_core.proofs.FlatLemmas.{text_of_cells-append}
-use Rattle.trac_core.proofs.Displaying.{breaks-off, breaks-then}
 
 cells-split : (cells : List Cell) (k : ℕ) → text_of_cells cells ≡ text_of_cells (take k cells) ++ text_of_cells (drop k cells)
 cells-split cells k = ap text_of_cells (sym (take-append-drop k cells)) ∙ text_of_cells-append (take k cells) (drop k cells)

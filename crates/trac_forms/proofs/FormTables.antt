@@ -286,3 +286,19 @@ pub front-cells : (forms : List Form) (k j : ℕ) → k < length forms → k < j
 front-cells forms k j within behind =
     let e : j - 1 + 1 ≡ j = omega (arith, behind) in
     omega (arith, start-removed forms k (j - 1) (omega (arith, behind)) within, ap (start_of forms) e)
+
+-- forms that begin no earlier
+pub index-unmoved : (k count cells : ℕ) (name : ℕ → Text) (start : ℕ → ℕ) (table : List Cell) → cells ≡ 0 → IsIndexBut table count count name start → IsIndexBut table count count name (started k count cells start)
+index-unmoved k count cells name start table none index =
+    index-as table count count count count name name start (started k count cells start) index.roomy (λ j less there. (less, there, refl, same j)) (λ j less there. (less, there)) index
+  where
+    same : (j : ℕ) → started k count cells start j ≡ start j
+    same j =
+        let least : start j - cells ≡ start j = omega (arith, none) in
+        elim (nat_le j k) as (λ b. (if b then start j else (if nat_lt j count then start j - cells else start j)) ≡ start j) [
+          | true ↦ refl
+          | false ↦ elim (nat_lt j count) as (λ b. (if b then start j - cells else start j) ≡ start j) [
+              | true ↦ least
+              | false ↦ refl
+            ]
+        ]

@@ -42,7 +42,7 @@ fn hash(name: &[Cell]) -> usize
     while left > 0 {
         left -= 1;
         number = number
-            .wrapping_add(character(name[left]) as u64)
+            .wrapping_add(character(name[left]) as u64 + 1)
             .wrapping_mul(MIXER);
     }
     (number / 0x1_0000_0000) as usize
@@ -130,7 +130,11 @@ pub(crate) fn look_up(
 // How many slots a search may look at before that counts as toil.
 const FEW_SLOTS: usize = 6;
 
-// The open slot that comes first for a name of this number. None where no slot is open.
+// How many slots are looked at for a new form before the table is given up: names that are mixed to one
+// number would make it long to fill, and no shorter to search than the forms.
+const MOST_SLOTS: usize = 128;
+
+// The open slot that comes first for a name of this number. None where it doesn't come soon.
 fn open_slot(table: &[Cell], first: usize) -> Option<u32>
     requires few { length table.now ≤ 16777216 }
     requires bounded { first < 2 ^ 32 }
@@ -138,7 +142,7 @@ fn open_slot(table: &[Cell], first: usize) -> Option<u32>
     ensures within { IfSome result (λ s. s < slots (map seen table.now)) }
 {
     let slots = 2 * (table.len() / 4);
-    for i in 0..slots {
+    for i in 0..slots.min(MOST_SLOTS) {
         let slot = (first + i) & (slots - 1);
         if !is_taken(table[slot]) {
             return Some(slot as u32);
@@ -172,7 +176,7 @@ fn put_entry(space: &mut Space, slot: u32, k: u32, start: u32)
 }
 
 // Puts form `k`, which begins at `start` and whose name has the number `first`, into the table.
-// False where no slot is open.
+// False where no open slot comes soon.
 fn add(space: &mut Space, first: usize, k: u32, start: u32) -> bool
     requires bounded { first < 2 ^ 32 }
     requires place { k < quarter space.old.spare }
@@ -191,7 +195,7 @@ fn add(space: &mut Space, first: usize, k: u32, start: u32) -> bool
 }
 
 // Puts form `k`, which begins at `start`, into the table of those before it, if there is a table.
-// Where it is full it is let go.
+// Where it has no place for the form it is let go.
 #[inline(always)]
 pub(crate) fn index_form(space: &mut Space, k: u32, start: u32)
     requires whole { flat_forms (forms_in space.old.store) ≡ space.old.store }
@@ -283,6 +287,9 @@ pub(crate) fn shift_starts(space: &mut Space, k: u32, count: u32, cells: u32)
     ensures index { (name : ℕ → Text) → (start : ℕ → ℕ) → IsIndexBut space.old.spare count count name start
         → IsIndexBut space.new.spare count count name (started k count cells start) }
 {
+    if cells == 0 {
+        return;
+    }
     if space.spare_len() == 0 {
         return;
     }

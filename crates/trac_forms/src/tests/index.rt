@@ -78,6 +78,24 @@ fn index_is_kept(rt: HostRuntime) {
 }
 
 #[test]
+fn index_is_made_by_searches(rt: HostRuntime) {
+    let mut block = [Cell::Gap(7); 1200];
+    let mut work = with_forms(&mut block, 24);
+    let mut made = 0;
+    for search in 0..200u32 {
+        if made == 0 && work.space.spare_len() > 0 {
+            made = search;
+        }
+        // eleven forms behind the last one, or before it
+        let letter = b'A' + (search * 11 % 24) as u8;
+        assert!(rt; find(&mut work, part(letter)).is_some());
+    }
+    assert!(rt; work.space.spare_len() == 128);
+    // not at the first searches, and after about as many as making it costs
+    assert!(rt; 8 < made && made < 100);
+}
+
+#[test]
 fn index_is_outgrown_and_cleared(rt: HostRuntime) {
     let mut block = [Cell::Gap(7); 800];
     let mut work = with_forms(&mut block, 12);

@@ -1,4 +1,4 @@
-use Rattle.std.proofs.Common.{◌≡◌, refl, ◌+◌, ◌-◌, ◌*◌, ◌/◌, Bool, true, false, length, map, get_or, sym, ap, ◌∙◌, arith}
+use Rattle.std.proofs.Common.{◌≡◌, refl, ◌+◌, ◌-◌, ◌*◌, ◌/◌, ◌<◌, Bool, true, false, length, map, get_or, sym, ap, ◌∙◌, arith}
 use Rattle.std.specs.Prelude.{not, bit_and}
 use Rattle.trac_space.specs.declared.cell.Cell.{Cell}
 use Rattle.trac_space.specs.declared.cell.Cell.TheVariants.{Byte, Call, Comma, Gap, Head}
@@ -33,7 +33,7 @@ pub returns-then-not-is_taken-clause-open : goal.returns-then-not-is_taken-claus
 returns-then-not-is_taken-clause-open c =
     let table = c.args.table.now in
     let i = c.loop-i.i in
-    let inside = c.loop-i-test.true in
+    let inside : i < 2 * (length table / 4) = omega (arith, c.loop-i-test.true, c.min-i-end.ensures) in
     let at = cell-seen table c.args.first i inside in
     let cell = get_or table (bit_and (c.args.first + i) (2 * (length table / 4) - 1)) (Byte 0) in
     let unused : is_open cell ≡ true = not-true (is_open cell) (sym c.is_taken.ensures ∙ c.if-not-is_taken.true) in (

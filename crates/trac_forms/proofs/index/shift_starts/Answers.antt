@@ -3,7 +3,7 @@ use Rattle.std.proofs.lemmas.List.{length-set}
 use Rattle.trac_space.specs.declared.cell.Cell.TheVariants.{Head}
 use Rattle.trac_space.specs.Lists.{Lists}
 use Rattle.trac_forms.specs.Index.{IsIndexBut, start_place, start_in, earlier, started}
-use Rattle.trac_forms.proofs.FormTables.{index-started, start-there, index-earlier}
+use Rattle.trac_forms.proofs.FormTables.{index-started, start-there, index-earlier, index-unmoved}
 use Rattle.trac_forms.proofs.index.shift_starts.Goals as goal
 
 pub loop-next-init : goal.loop-next-init
@@ -46,3 +46,6 @@ returns-clause-index c = λ name start index.
     let h = c.requires (omega (arith, c.spare_len.ensures.value, c.if-spare_len-eq0.false)) in
     let all : c.loop-next.next ≡ c.args.count = omega (arith, c.loop-next.auto.next, c.loop-next.auto.next-end, c.loop-next-test.false, h.1.1.within) in
     subst (λ n. IsIndexBut c.loop-next.space.spare c.args.count c.args.count name (started c.args.k n c.args.cells start)) all (c.loop-next.invariant.index name start index)
+
+pub returns-then-cells-eq0-clause-index : goal.returns-then-cells-eq0-clause-index
+returns-then-cells-eq0-clause-index c = λ name start index. index-unmoved c.args.k c.args.count c.args.cells name start c.args.space.now.spare c.if-cells-eq0.true index
