@@ -102,8 +102,8 @@ fn take_characters(work: &mut Work, form: FormId, count: Count, default: (u32, u
     requires known { form.0 < length work.old.forms }
     requires part { IsTextPart work.old.neutral default.0 default.1 }
     requires sound { IsSound work.old }
-    ensures takes { let characters = characters (signed count.negative count.size) in
-        TakesOrDefault characters form.0 default work.old result work.new }
+    ensures takes { let part = characters (signed count.negative count.size) in
+        TakesOrDefault part form.0 default work.old result work.new }
     ensures room { work.new.room ≡ work.old.room }
     ensures sound { IsSound work.new }
 {
@@ -141,8 +141,8 @@ fn take_backward(work: &mut Work, form: FormId, count: u32, default: (u32, u32))
     requires some { 0 < count }
     requires part { IsTextPart work.old.neutral default.0 default.1 }
     requires sound { IsSound work.old }
-    ensures takes { let characters = previous_characters count in
-        TakesOrDefault characters form.0 default work.old result work.new }
+    ensures takes { let part = previous_characters count in
+        TakesOrDefault part form.0 default work.old result work.new }
     ensures room { work.new.room ≡ work.old.room }
     ensures sound { IsSound work.new }
 {
