@@ -43,8 +43,8 @@ AreValuesOf rows s = (number_of (codes "cells") rows ≡ Some s.cells)
 abbrev pub given_rows : List Text → List Row
 given_rows words =
     let rules = (built trace_command).top.rules in
-    let walked =
-    walk rules (names_of (built trace_command)) nothing_held (argument_words trace_command words) in
+    let given = argument_words trace_command words in
+    let walked = walk rules (names_of (built trace_command)) nothing_held given in
     (settled rules walked.held).rows
 
 -- the words give the option
