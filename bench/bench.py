@@ -1,8 +1,10 @@
 #!/usr/bin/env python3
-"""bench.py [--smoke] [PROGRAM]: runs the built program on jobs of several kinds, and prints a table.
+"""bench.py [--smoke] [PROGRAM]: runs the built program on jobs of several kinds, and prints a
+table.
 
-Without PROGRAM it takes the one that ./trac builds. With --smoke the jobs are small, and the output alone is looked at: a
-wrong one is a failure, no time is. m4 and valgrind add their columns where they are installed.
+Without PROGRAM it takes the one that ./trac builds. With --smoke the jobs are small, and the output
+alone is looked at: a wrong one is a failure, no time is. m4 and valgrind add their columns where
+they are installed.
 """
 import os
 import random
@@ -20,10 +22,12 @@ LINE = 'A stitch in time saves nine; the rest is silence. '
 
 
 class Job:
-    """A script, what it prints, the cells that it moves where that is known, and the same for m4 where m4 can do it."""
+    """A script, what it prints, the cells that it moves where that is known, and the same for m4
+    where m4 can do it."""
 
     def __init__(self, name, script, printed, cells=None, m4=None):
-        self.name, self.script, self.printed, self.cells, self.m4 = name, script.encode(), printed.encode(), cells, m4
+        self.name, self.script, self.printed = name, script.encode(), printed.encode()
+        self.cells, self.m4 = cells, m4
 
 
 def hanoi(n, a='1', b='2', c='3'):
@@ -59,8 +63,10 @@ def form_jobs(small):
     n = 20 if small else 1500
     defined = ''.join(f'#(ds,name{i},value {i})' for i in range(n))
     called = ''.join(f'#(cl,name{i * 7 % n})' for i in range(n))
-    in_m4 = ''.join(f"define(`name{i}',`value {i}')" for i in range(n)) + ''.join(f'name{i * 7 % n}' + '()' for i in range(n))
-    yield Job(f'{n} forms', defined + called + "'", ''.join(f'value {i * 7 % n}' for i in range(n)), None, in_m4)
+    in_m4 = ''.join(f"define(`name{i}',`value {i}')" for i in range(n))
+    in_m4 += ''.join(f'name{i * 7 % n}' + '()' for i in range(n))
+    values = ''.join(f'value {i * 7 % n}' for i in range(n))
+    yield Job(f'{n} forms', defined + called + "'", values, None, in_m4)
     n = 10 if small else 2000
     gaps = ('#(ds,F,(one AA two BB three CC four AA five BB six))#(ss,F,AA,BB,CC)'
             '#(ds,G,(#(gr,N,0,(#(ds,Z,#(cl,F,x1,yy2,zzz3))#(cl,G,#(su,N,1))))))'
@@ -77,13 +83,17 @@ def store_jobs(small):
         order = random.Random(n).choices(range(n), k=n)
         defined = ''.join(f'#(ds,entry{i},v{i})' for i in range(n))
         called = ''.join(f'#(cl,entry{i})' for i in order)
-        in_m4 = ''.join(f"define(`entry{i}',`v{i}')" for i in range(n)) + ''.join(f'entry{i}()' for i in order)
-        yield Job(f'{n} forms at random', defined + called + "'", ''.join(f'v{i}' for i in order), None, in_m4)
+        in_m4 = ''.join(f"define(`entry{i}',`v{i}')" for i in range(n))
+        in_m4 += ''.join(f'entry{i}()' for i in order)
+        values = ''.join(f'v{i}' for i in order)
+        yield Job(f'{n} forms at random', defined + called + "'", values, None, in_m4)
     n, turns = (20, 30) if small else (1000, 10000)
     store = ''.join(f'#(ds,entry{i},v{i})' for i in range(n)) + "#(ds,N,0)'"
-    yield Job(f'a counter among {n} forms', store + "#(ds,N,##(ad,##(cl,N),1))'" * turns + "##(cl,N)'", str(turns))
+    counted = "#(ds,N,##(ad,##(cl,N),1))'" * turns + "##(cl,N)'"
+    yield Job(f'a counter among {n} forms', store + counted, str(turns))
     table = ''.join(f'#(ds,entry{i},v{i})' for i in range(10))
-    yield Job('a table of ten forms', table + ''.join(f'#(cl,entry{i * 7 % 10})' for i in range(turns)) + "'",
+    called = ''.join(f'#(cl,entry{i * 7 % 10})' for i in range(turns))
+    yield Job('a table of ten forms', table + called + "'",
               ''.join(f'v{i * 7 % 10}' for i in range(turns)))
 
 
@@ -94,7 +104,8 @@ def jobs(small):
     yield from store_jobs(small)
 
 
-# A small process in between, since the memory of a new process counts from that of the one that made it.
+# A small process in between, since the memory of a new process counts from that of the one that
+# made it.
 BETWEEN = ('import os, sys; pid = os.posix_spawn(sys.argv[1], sys.argv[1:], os.environ); '
            'used = os.wait4(pid, 0)[2]; print(used.ru_maxrss * 1024, file=sys.stderr)')
 
@@ -106,7 +117,8 @@ def memory(words, given):
 
 def run(words, given):
     """Seconds, output, lines on standard error and status."""
-    with tempfile.TemporaryFile() as source, tempfile.TemporaryFile() as output, tempfile.TemporaryFile() as errors:
+    new_file = tempfile.TemporaryFile
+    with new_file() as source, new_file() as output, new_file() as errors:
         source.write(given)
         source.seek(0)
         begun = time.perf_counter()
@@ -145,7 +157,8 @@ def row(job, program):
     took, steps = min(checked(job, words) for _ in range(5))
     count = instructions(words, job.script)
     other, theirs = beside_m4(job)
-    return (job.name, shown(steps), f'{took * 1000:.1f} ms', shown(steps / took), shown(job.cells and job.cells / took),
+    return (job.name, shown(steps), f'{took * 1000:.1f} ms',
+            shown(steps / took), shown(job.cells and job.cells / took),
             shown(count), shown(count and count / steps), theirs, shown(other),
             shown((memory(words, job.script) - 8 * CELLS) / 1024, ' KB'))
 
@@ -168,7 +181,8 @@ def main():
         done = [checked(job, [program]) for job in jobs(True)]
         print(f'bench.py: {len(done)} jobs printed what they should')
         return
-    head = ('job', 'steps', 'best of 5', 'steps/s', 'cells moved/s', 'instructions', 'each step', 'm4 best of 5', 'm4 instructions', 'beside the block')
+    head = ('job', 'steps', 'best of 5', 'steps/s', 'cells moved/s', 'instructions', 'each step',
+            'm4 best of 5', 'm4 instructions', 'beside the block')
     print('| ' + ' | '.join(head) + ' |')
     print('|' + '---|' * len(head))
     for job in jobs(False):

@@ -1,4 +1,5 @@
-"""A program that reads the block while the machine over it is still used doesn't compile: the borrow checker refuses it.
+"""A program that reads the block while the machine over it is still used doesn't compile: the
+borrow checker refuses it.
 
 The programs stand in a throw-away repository, with a copy of the engine's sources.
 """
@@ -46,19 +47,24 @@ class Borrowing(unittest.TestCase):
         with tempfile.TemporaryDirectory() as top:
             place = os.path.join(top, 'crates', 'reader')
             os.makedirs(os.path.join(place, 'src'))
-            for folder in [os.path.join('crates', crate, part) for crate in CRATES for part in ('src', 'specs', 'proofs')]:
+            for folder in [os.path.join('crates', crate, part)
+                           for crate in CRATES for part in ('src', 'specs', 'proofs')]:
                 shutil.copytree(os.path.join(TOP, folder), os.path.join(top, folder))
-            for name, text in [(os.path.join(top, 'crates.txt'), lines_of_crates()), (os.path.join(top, 'HANDLES'), 'Handles allowed: none.\n'),
-                               (os.path.join(place, 'src', 'main.rt'), PROGRAM.replace('BODY', body))]:
+            for name, text in [
+                    (os.path.join(top, 'crates.txt'), lines_of_crates()),
+                    (os.path.join(top, 'HANDLES'), 'Handles allowed: none.\n'),
+                    (os.path.join(place, 'src', 'main.rt'), PROGRAM.replace('BODY', body))]:
                 with open(name, 'w', encoding='utf-8') as file:
                     file.write(text)
-            done = subprocess.run(['rt', *words], cwd=place, stdin=subprocess.DEVNULL, capture_output=True, text=True, timeout=600)
+            done = subprocess.run(['rt', *words], cwd=place, stdin=subprocess.DEVNULL,
+                                  capture_output=True, text=True, timeout=600)
             return done.returncode == 0, done.stdout + done.stderr
 
     def test_while_the_machine_is_used(self):
         passes, said = self.answer(WHILE_IT_IS_USED, 'check')
         self.assertFalse(passes)
-        self.assertRegex(said, r'main.rt:13:\d+: error\[borrow-e0502\]: cannot borrow `block` as immutable')
+        self.assertRegex(
+            said, r'main.rt:13:\d+: error\[borrow-e0502\]: cannot borrow `block` as immutable')
         self.assertEqual(said.count('error'), 1)
 
     def test_after_its_last_use(self):

@@ -1,4 +1,5 @@
-"""Each script of examples/, through the built program: it writes what stands beside it, and ends well."""
+"""Each script of examples/, through the built program: it writes what stands beside it, and ends
+well."""
 import glob
 import os
 import unittest
@@ -17,7 +18,8 @@ class Examples(unittest.TestCase):
     def test_outputs(self):
         scripts = sorted(glob.glob('*.trac', root_dir=FOLDER))
         self.assertGreaterEqual(len(scripts), 12)
-        self.assertEqual([script[:-5] + '.out' for script in scripts], sorted(glob.glob('*.out', root_dir=FOLDER)))
+        self.assertEqual([script[:-5] + '.out' for script in scripts],
+                         sorted(glob.glob('*.out', root_dir=FOLDER)))
         for script in scripts:
             with self.subTest(script=script):
                 self.assertEqual(run(read(script)), (read(script[:-5] + '.out'), '', 0))

@@ -17,15 +17,16 @@ def traced(words, *injections):
     more = [word for injection in injections for word in ('-e', f'inject={injection}')]
     with tempfile.TemporaryDirectory() as folder:
         calls = os.path.join(folder, 'calls')
-        done = subprocess.run(['strace', '-o', calls, '-e', 'trace=read,write', *more, *words], input=HELLO,
-                              capture_output=True, timeout=60)
+        done = subprocess.run(['strace', '-o', calls, '-e', 'trace=read,write', *more, *words],
+                              input=HELLO, capture_output=True, timeout=60)
         with open(calls, encoding='utf-8', errors='replace') as file:
             return (done.stdout, done.stderr.decode(), done.returncode), file.read().splitlines()
 
 
 def injected(lines, call):
     """How many calls of this kind, on the file descriptor that is named, were interrupted."""
-    return sum(line.startswith(call) and 'EINTR' in line and line.endswith('(INJECTED)') for line in lines)
+    return sum(line.startswith(call) and 'EINTR' in line and line.endswith('(INJECTED)')
+               for line in lines)
 
 
 def first_read(lines):
@@ -40,7 +41,8 @@ class Interruptions(unittest.TestCase):
         self.assertEqual(plain, wanted)
         self.assertEqual(injected(lines, ''), 0)
         first = first_read(lines)
-        for call, name, at in (('read(0,', 'read', first), ('read(0,', 'read', first + 1), ('write(1,', 'write', 1)):
+        for call, name, at in (('read(0,', 'read', first), ('read(0,', 'read', first + 1),
+                               ('write(1,', 'write', 1)):
             for more in (0, MANY - 1):
                 with self.subTest(program=words[0], call=name, at=at, more=more):
                     got, lines = traced(words, f'{name}:error=EINTR:when={at}..{at + more}')
@@ -65,5 +67,7 @@ class Interruptions(unittest.TestCase):
 
     def test_another_error_is_a_failure(self):
         first = first_read(traced([PROGRAM])[1])
-        self.assertEqual(traced([PROGRAM], f'read:error=EIO:when={first}')[0], (b'', 'trac: input failed at step 9\n', 4))
-        self.assertEqual(traced([PROGRAM], 'write:error=EIO:when=1')[0], (b'', 'trac: output failed at step 19\n', 5))
+        self.assertEqual(traced([PROGRAM], f'read:error=EIO:when={first}')[0],
+                         (b'', 'trac: input failed at step 9\n', 4))
+        self.assertEqual(traced([PROGRAM], 'write:error=EIO:when=1')[0],
+                         (b'', 'trac: output failed at step 19\n', 5))

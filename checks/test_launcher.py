@@ -1,4 +1,5 @@
-"""The launcher, over a throw-away copy of the sources and an `rt` that only writes down that it was called."""
+"""The launcher, over a throw-away copy of the sources and an `rt` that only writes down that it was
+called."""
 import os
 import shutil
 import subprocess
@@ -29,7 +30,8 @@ class Launcher(unittest.TestCase):
         self.folder = tempfile.mkdtemp()
         self.addCleanup(shutil.rmtree, self.folder)
         os.chmod(self.folder, 0o755)
-        self.top, self.tools, self.calls = (os.path.join(self.folder, name) for name in ('top', 'tools', 'calls'))
+        self.top, self.tools, self.calls = (
+            os.path.join(self.folder, name) for name in ('top', 'tools', 'calls'))
         os.mkdir(self.tools)
         for crate in CRATES:
             for part in ('src', 'specs', 'proofs'):
@@ -48,8 +50,9 @@ class Launcher(unittest.TestCase):
 
     def start(self, **more):
         environment = dict(os.environ, PATH=self.tools + ':' + os.environ['PATH'])
-        return subprocess.Popen([os.path.join(self.top, 'trac'), '--cells', '18'], stdin=subprocess.DEVNULL, text=True,
-                                stdout=subprocess.PIPE, stderr=subprocess.PIPE, env=environment, **more)
+        return subprocess.Popen([os.path.join(self.top, 'trac'), '--cells', '18'], text=True,
+                                stdin=subprocess.DEVNULL, stdout=subprocess.PIPE,
+                                stderr=subprocess.PIPE, env=environment, **more)
 
     def run_once(self, said='', **more):
         started = self.start(**more)
@@ -80,7 +83,8 @@ class Launcher(unittest.TestCase):
 
     def test_an_edit_is_built(self):
         self.run_once(FIRST)
-        for name in (SOURCE, 'crates.txt', os.path.join('crates', 'trac_space', 'specs', 'Lists.antt')):
+        for name in (SOURCE, 'crates.txt',
+                     os.path.join('crates', 'trac_space', 'specs', 'Lists.antt')):
             before = self.builds()
             self.write(name, '\n')
             self.date(name, 1)
@@ -98,7 +102,8 @@ class Launcher(unittest.TestCase):
     def test_what_an_editor_leaves_is_no_source(self):
         self.run_once(FIRST)
         folder = os.path.dirname(SOURCE)
-        for name in ('machine.rt~', '.machine.rt.swp', '#machine.rt#', '.machine.rt', '#x#', 'notes.orig'):
+        for name in ('machine.rt~', '.machine.rt.swp', '#machine.rt#', '.machine.rt', '#x#',
+                     'notes.orig'):
             self.write(os.path.join(folder, name), 'x')
             self.date(os.path.join(folder, name), 60)
         self.run_once()
@@ -144,7 +149,8 @@ class Launcher(unittest.TestCase):
         for folder, _, files in os.walk(self.top):
             os.chmod(folder, 0o555)
             for name in files:
-                os.chmod(os.path.join(folder, name), os.stat(os.path.join(folder, name)).st_mode & 0o555)
+                file = os.path.join(folder, name)
+                os.chmod(file, os.stat(file).st_mode & 0o555)
         self.addCleanup(subprocess.run, ['chmod', '-R', 'u+w', self.top], check=True)
         self.run_once(**({'user': NOBODY, 'group': NOBODY} if os.getuid() == 0 else {}))
         self.assertEqual(self.builds(), 1)

@@ -1,4 +1,5 @@
-"""The man page: it formats without a warning, and says what the program's help and the README say."""
+"""The man page: it formats without a warning, and says what the program's help and the README
+say."""
 import os
 import re
 import shutil
@@ -15,7 +16,8 @@ EXAMPLE = re.compile(r'^ +\$ printf "(.*)" \| trac (.*)\n((?: {11}\S.*\n)+)', re
 
 def formatted():
     """The page as lines of 500 columns, and what man says of it on standard error."""
-    done = subprocess.run(['man', '--warnings', '-l', PAGE], capture_output=True, env={**os.environ, **WIDE})
+    done = subprocess.run(['man', '--warnings', '-l', PAGE], capture_output=True,
+                          env={**os.environ, **WIDE})
     return done.stdout.decode(), done.stderr.decode(), done.returncode
 
 
@@ -61,10 +63,12 @@ class ManPage(unittest.TestCase):
         self.assertEqual({option.replace('<N>', 'N') for option, _ in rows}, set(self.options))
         for option, words in rows:
             for default in re.findall(r'\[default: (\d+)\]', words):
-                self.assertIn(f'The default is {default}.', self.options[option.replace('<N>', 'N')])
+                self.assertIn(f'The default is {default}.',
+                              self.options[option.replace('<N>', 'N')])
 
     def test_its_ranges_are_those_of_the_readme(self):
-        ranges = {row[0].split('`')[1]: row[1:] for row in readme_rows('| Option | Range | Default |')}
+        ranges = {row[0].split('`')[1]: row[1:]
+                  for row in readme_rows('| Option | Range | Default |')}
         self.assertEqual({option.split(', ')[-1] for option in self.options}, set(ranges))
         for option, (spans, default) in ranges.items():
             if spans:
@@ -82,7 +86,8 @@ class ManPage(unittest.TestCase):
         for status, _, line in rows:
             for text in re.findall(r'`([a-z]+: .*?)`', line):
                 wanted[text] = status
-        self.assertEqual({NUMBER.sub('#', line) for line in wanted}, {NUMBER.sub('#', line) for line in self.lines})
+        self.assertEqual({NUMBER.sub('#', line) for line in wanted},
+                         {NUMBER.sub('#', line) for line in self.lines})
         told = {NUMBER.sub('#', line): words for line, words in self.lines.items()}
         for line, status in wanted.items():
             if status:

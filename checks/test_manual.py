@@ -1,5 +1,5 @@
-"""Each script of the manual, through the built programs: it writes what the manual prints after it, and takes the steps that
-the manual shows."""
+"""Each script of the manual, through the built programs: it writes what the manual prints after it,
+and takes the steps that the manual shows."""
 import os
 import re
 import unittest
@@ -19,7 +19,8 @@ def read():
 class Manual(unittest.TestCase):
     def test_all_scripts_are_compared(self):
         text = read()
-        self.assertEqual(len(PAIR.findall(text)) + len(TRACE.findall(text)), text.count('```trac\n'))
+        self.assertEqual(len(PAIR.findall(text)) + len(TRACE.findall(text)),
+                         text.count('```trac\n'))
 
     def test_examples(self):
         pairs = PAIR.findall(read())
@@ -37,7 +38,8 @@ class Manual(unittest.TestCase):
                 self.assertTrue(shows(shown.splitlines(), lines), lines)
 
     def test_names_of_rules(self):
-        table = read().split('| The active string begins with | Name | What happens |\n|---|---|---|\n')[1].split('\n\n')[0]
+        head = '| The active string begins with | Name | What happens |\n|---|---|---|\n'
+        table = read().split(head)[1].split('\n\n')[0]
         names = [row.split(' | ')[1] for row in table.split('\n')]
         lines, _ = trace(b"\t(a),#(ps,##(zz)#)'", '--steps', '100')
         self.assertEqual(len(names), 9)
@@ -46,6 +48,7 @@ class Manual(unittest.TestCase):
 
 
 def shows(shown, lines):
-    """Whether the lines shown are all of the lines, but for those that a line of two full stops leaves out."""
+    """Whether the lines shown are all of the lines, but for those that a line of two full stops
+    leaves out."""
     pattern = ''.join(r'(?:.*\n)*' if line == '..' else re.escape(line + '\n') for line in shown)
     return re.fullmatch(pattern, ''.join(line + '\n' for line in lines)) is not None

@@ -1,4 +1,5 @@
-"""Each request for memory in turn is refused, by a small library before the C library's allocator."""
+"""Each request for memory in turn is refused, by a small library before the C library's
+allocator."""
 import os
 import subprocess
 import tempfile
@@ -15,15 +16,18 @@ BLOCK_LINE = b'trac: no memory for 18 cells\n'
 AMPLE_LINES = b'trac: 8 steps, peak 11 cells\ntrac: workspace of 18 cells full at step 9\n'
 CELL = 8
 ALLOCATORS = {'malloc', 'calloc', 'realloc', 'memalign', 'aligned_alloc', 'posix_memalign'}
-OTHER_WAYS = {'mmap', 'mmap64', 'mremap', 'brk', 'sbrk', 'valloc', 'pvalloc', 'reallocarray', 'strdup', 'syscall'}
+OTHER_WAYS = {'mmap', 'mmap64', 'mremap', 'brk', 'sbrk', 'valloc', 'pvalloc', 'reallocarray',
+              'strdup', 'syscall'}
 
 
 class Serve(unittest.TestCase):
     def test_refused_blocks(self):
-        done = subprocess.run(['rt', 'try', '--test', '--fail-alloc', '1'], cwd=os.path.join(TOP, 'crates', 'trac_cli'),
+        done = subprocess.run(['rt', 'try', '--test', '--fail-alloc', '1'],
+                              cwd=os.path.join(TOP, 'crates', 'trac_cli'),
                               capture_output=True, text=True, timeout=600)
         lines = [line.strip() for line in done.stdout.splitlines()]
-        # what the tests answer where make_block did, and serve, once it was seen that nothing was read and nothing written
+        # what the tests answer where make_block did, and serve,
+        # once it was seen that nothing was read and nothing written
         for name, answer in [('a_block_of_19_cells', 'no memory for 19 cells'),
                              ('a_run_in_a_block_of_its_own', 'no memory for the block')]:
             failed = f'test tests::{name} ... FAILED'
@@ -37,18 +41,22 @@ class Refused(unittest.TestCase):
         cls.folder = tempfile.TemporaryDirectory()
         cls.library = os.path.join(cls.folder.name, 'refusing.so')
         source = os.path.join(TOP, 'checks', 'refusing.c')
-        subprocess.run(['gcc', '-shared', '-fPIC', '-O1', '-fno-builtin', '-o', cls.library, source], check=True)
+        subprocess.run(
+            ['gcc', '-shared', '-fPIC', '-O1', '-fno-builtin', '-o', cls.library, source],
+            check=True)
 
     @classmethod
     def tearDownClass(cls):
         cls.folder.cleanup()
 
     def run_refusing(self, number, script, *words):
-        """The output, the lines, the status, the script that is left, and the sizes of the requests."""
+        """The output, the lines, the status, the script that is left, and the sizes of the
+        requests."""
         with tempfile.TemporaryFile() as given, tempfile.TemporaryFile() as requests:
             given.write(script)
             given.seek(0)
-            environment = dict(os.environ, LD_PRELOAD=self.library, REFUSED=str(number), REQUESTS=str(requests.fileno()))
+            environment = dict(os.environ, LD_PRELOAD=self.library, REFUSED=str(number),
+                               REQUESTS=str(requests.fileno()))
             done = subprocess.run([PROGRAM, *words], stdin=given, capture_output=True, timeout=60,
                                   pass_fds=[requests.fileno()], env=environment)
             left = os.read(given.fileno(), len(script))
@@ -88,7 +96,8 @@ class Refused(unittest.TestCase):
         self.assertEqual(sizes[-1], 65432 * CELL)
 
     def test_the_program_has_no_other_way_to_memory(self):
-        lines = subprocess.run(['nm', '-D', '--undefined-only', PROGRAM], check=True, capture_output=True, text=True).stdout
+        lines = subprocess.run(['nm', '-D', '--undefined-only', PROGRAM], check=True,
+                               capture_output=True, text=True).stdout
         names = {line.split()[1].split('@')[0] for line in lines.splitlines()}
         self.assertEqual(names & ALLOCATORS, {'malloc', 'realloc'})
         self.assertEqual(names & OTHER_WAYS, set())

@@ -22,11 +22,13 @@ ROWS = [
     (HELLO + '\n', '--report', 'hello', 'trac: 40 steps, peak 19 cells\n', 0),
     (HELLO, '--cells 19 --steps 29', 'hello', '', 0),
     (HELLO, '--cells 18', '', 'trac: workspace of 18 cells full at step 9\n', 1),
-    (HELLO, '--cells=18 --report', '', 'trac: 8 steps, peak 11 cells\ntrac: workspace of 18 cells full at step 9\n', 1),
+    (HELLO, '--cells=18 --report', '',
+     'trac: 8 steps, peak 11 cells\ntrac: workspace of 18 cells full at step 9\n', 1),
     (HELLO, '--steps 18', '', 'trac: allowance of 18 steps used up\n', 3),
     (HELLO, '--steps 19', 'hello', 'trac: allowance of 19 steps used up\n', 3),
     (HELLO, '--steps 28', 'hello', 'trac: allowance of 28 steps used up\n', 3),
-    (LOOP, '--steps 1000 --report', '', 'trac: 1000 steps, peak 36 cells\ntrac: allowance of 1000 steps used up\n', 3),
+    (LOOP, '--steps 1000 --report', '',
+     'trac: 1000 steps, peak 36 cells\ntrac: allowance of 1000 steps used up\n', 3),
     ("#(hl)'", '--report', '', 'trac: 13 steps, peak 13 cells\n', 0),
     ("#(ds,A,b)'", '--report', '', 'trac: 27 steps, peak 17 cells\n', 0),
     ("#(ds,A,b)'", '--cells 16', '', 'trac: workspace of 16 cells full at step 9\n', 1),
@@ -35,12 +37,14 @@ ROWS = [
     ('abc', '--report', 'abc', 'trac: 22 steps, peak 11 cells\n', 0),
 ]
 
-REFUSED = ['--cells 0', '--cells 16777217', '--cells x', '--steps 0', '--steps x', '--steps 1000000000001',
+REFUSED = ['--cells 0', '--cells 16777217', '--cells x',
+           '--steps 0', '--steps x', '--steps 1000000000001',
            'extra', '--cells', '--unknown', '--cells 1 --cells 2']
 
 
 def into_full(program, *words, script=b''):
-    """What a program says on standard error, and its status, where the device that it writes to is full."""
+    """What a program says on standard error, and its status, where the device that it writes to is
+    full."""
     with open('/dev/full', 'wb') as full:
         done = subprocess.run([program, *words], input=script, stdout=full, stderr=subprocess.PIPE)
     return done.stderr, done.returncode
@@ -57,7 +61,8 @@ def into_closed_pipe(program, *words, script=b''):
 
 def into_nothing(program, *words, script=b''):
     """The same, where standard output is closed."""
-    done = subprocess.run(['sh', '-c', '"$@" >&-', 'sh', program, *words], input=script, stderr=subprocess.PIPE)
+    done = subprocess.run(['sh', '-c', '"$@" >&-', 'sh', program, *words],
+                          input=script, stderr=subprocess.PIPE)
     return done.stderr, done.returncode
 
 
@@ -71,13 +76,17 @@ class Program(unittest.TestCase):
     def test_calls_with_many_arguments(self):
         for n in (12, 13, 256, 257, 300):
             names, texts = [f'<{i}>' for i in range(n)], [f'{i};' for i in range(n)]
-            script = '#(ds,G,%s)#(ss,G,%s)#(cl,G,%s)\'' % (''.join(names), ','.join(names), ','.join(texts))
+            parts = (''.join(names), ','.join(names), ','.join(texts))
+            script = '#(ds,G,%s)#(ss,G,%s)#(cl,G,%s)\'' % parts
             self.assertEqual(run(script.encode()), (''.join(texts).encode(), '', 0), n)
 
     def test_the_launcher_passes_words_devices_and_status(self):
-        done = subprocess.run([LAUNCHER, '--cells', '18', '--report'], input=HELLO.encode(), capture_output=True)
+        done = subprocess.run([LAUNCHER, '--cells', '18', '--report'],
+                              input=HELLO.encode(), capture_output=True)
         self.assertEqual(done.stdout, b'')
-        self.assertEqual(done.stderr, b'trac: 8 steps, peak 11 cells\ntrac: workspace of 18 cells full at step 9\n')
+        self.assertEqual(
+            done.stderr,
+            b'trac: 8 steps, peak 11 cells\ntrac: workspace of 18 cells full at step 9\n')
         self.assertEqual(done.returncode, 1)
 
     def test_words_that_are_refused(self):
@@ -109,7 +118,8 @@ class Program(unittest.TestCase):
     def test_a_usage_text_that_is_not_written(self):
         for program in (PROGRAM, TRACER):
             with open('/dev/full', 'wb') as full:
-                done = subprocess.run([program, '--unknown'], stdin=subprocess.DEVNULL, stdout=subprocess.PIPE, stderr=full)
+                done = subprocess.run([program, '--unknown'], stdin=subprocess.DEVNULL,
+                                      stdout=subprocess.PIPE, stderr=full)
             self.assertEqual((done.stdout, done.returncode), (b'', 2))
 
 
@@ -124,8 +134,8 @@ class Devices(unittest.TestCase):
             resource.setrlimit(resource.RLIMIT_FSIZE, (1000, 1000))
 
         with tempfile.TemporaryFile() as file:
-            done = subprocess.run([PROGRAM], input=b'#(ps,' + b'x' * 5000 + b")'", stdout=file, stderr=subprocess.PIPE,
-                                  preexec_fn=limit)
+            done = subprocess.run([PROGRAM], input=b'#(ps,' + b'x' * 5000 + b")'",
+                                  stdout=file, stderr=subprocess.PIPE, preexec_fn=limit)
             self.assertEqual((done.stderr, done.returncode), (b'', -signal.SIGXFSZ))
 
     def test_a_directory_as_input(self):
@@ -137,7 +147,8 @@ class Devices(unittest.TestCase):
 
     def test_standard_error_that_fails(self):
         with open('/dev/full', 'wb') as full:
-            done = subprocess.run([PROGRAM, '--report'], input=HELLO.encode(), stdout=subprocess.PIPE, stderr=full)
+            done = subprocess.run([PROGRAM, '--report'], input=HELLO.encode(),
+                                  stdout=subprocess.PIPE, stderr=full)
         self.assertEqual((done.stdout, done.returncode), (b'hello', 0))
 
     def test_what_was_printed_is_out_before_the_next_read(self):
@@ -152,7 +163,8 @@ class Devices(unittest.TestCase):
 
     def test_output_of_many_buffers(self):
         text = b'all that is printed comes out. ' * 10000
-        self.assertEqual(run(text + b"'", '--cells', '1000000', '--steps', '10000000'), (text, '', 0))
+        self.assertEqual(run(text + b"'", '--cells', '1000000', '--steps', '10000000'),
+                         (text, '', 0))
 
 
 class Stack(unittest.TestCase):
@@ -166,7 +178,8 @@ class Stack(unittest.TestCase):
         deep = 1000000
         calls = '#(ps,' * deep + 'x' + ')' * deep + "'"
         protected = '#(ps,' + '(' * deep + 'x' + ')' * deep + ")'"
-        rows = [(HELLO, 'hello'), (calls, 'x'), (protected, '(' * (deep - 1) + 'x' + ')' * (deep - 1))]
+        rows = [(HELLO, 'hello'), (calls, 'x'),
+                (protected, '(' * (deep - 1) + 'x' + ')' * (deep - 1))]
         for script, output in rows:
             with self.subTest(script=script[:20]):
                 got, lines, status = run(script, *ample, preexec_fn=limit, env={})

@@ -45,21 +45,24 @@ class Rooms(unittest.TestCase):
 
 
 def many_forms():
-    """Strings over some forms, called, redefined, cut and removed in no order, so often that an index of them is made; a long
-    text now and then takes the cells in which it lies."""
+    """Strings over some forms, called, redefined, cut and removed in no order, so often that an
+    index of them is made; a long text now and then takes the cells in which it lies."""
     draw = random.Random(13)
     names = [f'form{i}' for i in range(24)]
     calls = [f'#(ds,{name},a-{name})' for name in names]
     for _ in range(220):
         name, other = draw.choice(names), draw.choice(names)
-        calls.append(draw.choice([f'#(cl,{name})', f'#(cl,{name},{other})', f'#(cl,{name}x)', f'#(cs,{name})', f'#(ss,{name},-,r)',
-                                  f'#(ds,{name},b-{other})', f'#(ds,{name},##(cl,{other}))', f'#(dd,{name})', f'#(cr,{name})']))
+        calls.append(draw.choice([
+            f'#(cl,{name})', f'#(cl,{name},{other})', f'#(cl,{name}x)', f'#(cs,{name})',
+            f'#(ss,{name},-,r)', f'#(ds,{name},b-{other})', f'#(ds,{name},##(cl,{other}))',
+            f'#(dd,{name})', f'#(cr,{name})']))
     long = 'a long text that fills the block ' * 9
     return "'".join(long if i % 60 == 59 else call for i, call in enumerate(calls)) + "'#(ln,/)'"
 
 
 class Index(unittest.TestCase):
-    """An index of the forms lies in free cells: in each room it comes and goes elsewhere, and nothing may depend on it."""
+    """An index of the forms lies in free cells: in each room it comes and goes elsewhere, and
+    nothing may depend on it."""
 
     def steps(self, script, cells):
         """For each step its need, and what was printed before it."""
@@ -82,7 +85,9 @@ class Index(unittest.TestCase):
             with self.subTest(cells=cells):
                 fault = next((i for i, (need, _) in enumerate(steps) if need > cells), None)
                 if fault is None:
-                    self.assertEqual(report(script, '--cells', str(cells)), (output, count, peak, 0))
+                    self.assertEqual(report(script, '--cells', str(cells)),
+                                     (output, count, peak, 0))
                 else:
                     held = max([need for need, _ in steps[:fault]], default=0)
-                    self.assertEqual(report(script, '--cells', str(cells)), (steps[fault][1].encode(), fault, held, WORKSPACE))
+                    self.assertEqual(report(script, '--cells', str(cells)),
+                                     (steps[fault][1].encode(), fault, held, WORKSPACE))

@@ -1,4 +1,5 @@
-"""Cost that grows with the length of the strings or the number of forms would take minutes here, not seconds.
+"""Cost that grows with the length of the strings or the number of forms would take minutes here,
+not seconds.
 
 The limits are ten times what a run takes or more, so that a busy machine passes.
 """

@@ -1,4 +1,5 @@
-"""Traces: the tables of steps of two scripts that were worked by hand, row by row, and what becomes of odd bytes and of faults."""
+"""Traces: the tables of steps of two scripts that were worked by hand, row by row, and what becomes
+of odd bytes and of faults."""
 import unittest
 
 from trac import trace
@@ -16,7 +17,8 @@ NOTHING = [
     (9, 'end of call', 9, 8, None),
 ]
 
-# A greeting: its steps up to the 8th are those of a run over no input, and from the 22nd on they are so again.
+# A greeting: its steps up to the 8th are those of a run over
+# no input, and from the 22nd on they are so again.
 HELLO = [
     (9, 'end of call', 9, 19, '#(ps,hello))'),
     (10, 'active call', 16, 16, 'ps,hello))'),
@@ -33,13 +35,15 @@ HELLO = [
     (21, 'idling', 0, 11, '#(ps,#(rs))'),
 ]
 
-# A form that is defined: the step, the size before it and its need, for the steps where something is built or leaves.
+# A form that is defined: the step, the size before it and its
+# need, for the steps where something is built or leaves.
 DEFINED = [(9, 9, 17), (10, 14, 14), (17, 13, 17), (18, 10, 9), (19, 5, 16), (27, 14, 13)]
 
 
 def rows(lines):
     """The steps of a trace: number, rule, size, need, neutral and active string."""
-    return [(int(line[:6]), line[8:21].rstrip(), int(line[21:27]), int(line[27:33]), *line[35:].split('|', 1))
+    return [(int(line[:6]), line[8:21].rstrip(), int(line[21:27]), int(line[27:33]),
+             *line[35:].split('|', 1))
             for line in lines[1:-1] if 'prints: ' not in line[:16]]
 
 
@@ -69,7 +73,8 @@ class Tables(unittest.TestCase):
         self.assertEqual((lines[-1], status), ('input ended: 29 steps, peak 19 cells', 0))
 
     def test_a_form(self):
-        found = {number: (size, need) for number, _, size, need, _, _ in rows(trace(b"#(ds,A,b)'")[0])}
+        found = {number: (size, need)
+                 for number, _, size, need, _, _ in rows(trace(b"#(ds,A,b)'")[0])}
         for number, size, need in DEFINED:
             self.assertEqual(found[number], (size, need))
         found = {number: need for number, _, _, need, _, _ in rows(trace(b"#(ds,A,b)'" * 3)[0])}

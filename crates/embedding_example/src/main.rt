@@ -1,5 +1,5 @@
-//! How a program of one's own uses the engine: a script is run at once, and another one so many steps a turn. The workspaces
-//! are arrays, and the engine takes no memory.
+//! How a program of one's own uses the engine: a script is run at once, and another one so many
+//! steps a turn. The workspaces are arrays, and the engine takes no memory.
 #![tactic(auto)]
 
 ghost use Rattle.std.specs.Prelude.{◌≡◌, None};

@@ -1,24 +1,30 @@
 -- The lines that the program writes on standard error, without their line feed.
-use Rattle.std.specs.Prelude.{◌+◌, ◌++◌, ◌==◌, ℕ, Bool, List, Option, Some, None, codes, not, decimal, false}
+use Rattle.std.specs.Prelude.{◌+◌, ◌++◌, ◌==◌, ℕ, Bool, List, Option, Some, None, codes, not}
+use Rattle.std.specs.Prelude.{decimal, false}
 use Rattle.std.specs.List.{list_all}
 use Rattle.clap.specs.declared.error.kind.ErrorKind.{ErrorKind}
 use Rattle.clap.specs.declared.error.kind.ErrorKind.TheVariants.{DisplayHelp, OutOfMemory}
 use Rattle.trac_core.specs.declared.machine.Fate.{Fate}
-use Rattle.trac_core.specs.declared.machine.Fate.TheVariants.{Halted, InputEnded, Workspace, Steps, InputFailed, OutputFailed}
+use Rattle.trac_core.specs.declared.machine.Fate.TheVariants.{Halted, InputEnded, Workspace, Steps}
+use Rattle.trac_core.specs.declared.machine.Fate.TheVariants.{InputFailed, OutputFailed}
 
 abbrev pub is_one_line : List ℕ → Bool
 is_one_line = list_all (λ b. not (b == 10))
 
--- the line on a run with this fate, in a workspace of so many cells, with so many steps allowed and done
+-- the line on a run with this fate, in a workspace of so
+-- many cells, with so many steps allowed and done
 abbrev pub fault_text : Fate → ℕ → ℕ → ℕ → Option (List ℕ)
 fault_text Halted cells allowed done = None
 fault_text InputEnded cells allowed done = None
 fault_text Workspace cells allowed done =
-    Some (codes "trac: workspace of " ++ decimal cells ++ codes " cells full at step " ++ decimal (done + 1))
+    Some (codes "trac: workspace of " ++ decimal cells
+    ++ codes " cells full at step " ++ decimal (done + 1))
 fault_text Steps cells allowed done =
     Some (codes "trac: allowance of " ++ decimal allowed ++ codes " steps used up")
-fault_text InputFailed cells allowed done = Some (codes "trac: input failed at step " ++ decimal (done + 1))
-fault_text OutputFailed cells allowed done = Some (codes "trac: output failed at step " ++ decimal (done + 1))
+fault_text InputFailed cells allowed done =
+    Some (codes "trac: input failed at step " ++ decimal (done + 1))
+fault_text OutputFailed cells allowed done =
+    Some (codes "trac: output failed at step " ++ decimal (done + 1))
 
 abbrev pub report_text : ℕ → ℕ → List ℕ
 report_text done peak =
@@ -42,7 +48,8 @@ refusal_status DisplayHelp = 0
 refusal_status OutOfMemory = 6
 refusal_status _ = 2
 
--- the same, once the error was shown or could not be: a help that could not be written is an output that failed
+-- the same, once the error was shown or could not be: a
+-- help that could not be written is an output that failed
 abbrev pub shown_status : ErrorKind → Bool → ℕ
 shown_status DisplayHelp false = 5
 shown_status kind shown = refusal_status kind

@@ -1,10 +1,10 @@
 //! Buffers of fixed size in front of a reader and behind a writer.
-ghost use Rattle.std.specs.Prelude.{◌≡◌, ◌+◌, ◌≤◌, ◌<◌, [], length, take, slice_range, true, false, IfErr, IfOk, OnErr, OnOk};
+ghost use Rattle.std.specs.Prelude.{◌≡◌, ◌+◌, ◌≤◌, ◌<◌, length, take, slice_range, true, false};
+ghost use Rattle.std.specs.Prelude.{IfErr, IfOk, OnErr, OnOk};
 ghost use Rattle.std.specs.IoError.{error_kind};
 ghost use Rattle.std.specs.Io.{ReadsAtMost, WritesAtMost};
 ghost use Rattle.std.specs.Io.KnownBytes.{Appends, IsAtEnd, Keeps, ReadConsumes, WriteAppends};
 ghost use Rattle.trac_forms.specs.FlatForms.{text_of_cells};
-ghost use Rattle.trac_cli.specs.Buffered.{ahead, behind};
 ghost use Rattle.trac_cli.specs.Devices.{Counts};
 
 use crate::devices::{InputDevice, OutputDevice};
@@ -26,6 +26,8 @@ pub struct BufferedReader<R> {
 }
 
 impl<R: Read> BufferedReader<R> {
+    ghost use Rattle.trac_cli.specs.Buffered.{unread};
+
     /// The reader, with nothing read ahead.
     pub fn new(reader: R) -> BufferedReader<R>
         ensures nothing { (result.start ≡ 0) × (result.end ≡ 0) }
@@ -61,11 +63,11 @@ impl<R: Read> BufferedReader<R> {
 
     // Reads once where nothing is held.
     fn fill(&mut self) -> io::Result<()>
-        ensures bytes { Keeps (ahead self.old.bytes self.old.start self.old.end (R.remaining self.old.device.reader))
-            (ahead self.new.bytes self.new.start self.new.end (R.remaining self.new.device.reader)) }
+        ensures bytes { Keeps (unread R.remaining self.old) (unread R.remaining self.new) }
         ensures failures { Counts self.old.device.failures self.new.device.failures result }
         ensures kind { IfErr result (λ e. self.new.device.last_failure ≡ Some (error_kind e)) }
-        ensures held { self.old.start < self.old.end → (self.new.device ≡ self.old.device) × (self.new.start < self.new.end) }
+        ensures held { self.old.start < self.old.end →
+            (self.new.device ≡ self.old.device) × (self.new.start < self.new.end) }
         ensures end { OnOk result (self.new.start ≡ self.new.end →
             IsAtEnd (R.remaining self.new.device.reader) × (self.new.device.has_ended ≡ true)) }
         ensures err { OnErr result (self.new.start ≡ self.new.end) }
@@ -85,12 +87,13 @@ impl<R: Read> BufferedReader<R> {
     #[inline(never)]
     fn read_part(&mut self, buf: &mut [u8]) -> io::Result<usize>
         ensures bound { ReadsAtMost result buf.new }
-        ensures bytes { ReadConsumes (ahead self.old.bytes self.old.start self.old.end (R.remaining self.old.device.reader))
-            (ahead self.new.bytes self.new.start self.new.end (R.remaining self.new.device.reader)) result buf.new }
+        ensures bytes { ReadConsumes (unread R.remaining self.old) (unread R.remaining self.new)
+            result buf.new }
         ensures failures { Counts self.old.device.failures self.new.device.failures result }
         ensures kind { IfErr result (λ e. self.new.device.last_failure ≡ Some (error_kind e)) }
         ensures held { self.old.start < self.old.end → self.new.device ≡ self.old.device }
-        ensures end { IfOk result (λ n. n ≡ 0 → 0 < length buf.new → self.new.device.has_ended ≡ true) }
+        ensures end { IfOk result (λ n.
+            n ≡ 0 → 0 < length buf.new → self.new.device.has_ended ≡ true) }
     {
         self.fill()?;
         let n = (self.end - self.start).min(buf.len());
@@ -101,17 +104,20 @@ impl<R: Read> BufferedReader<R> {
 }
 
 impl<R: Read> Read for BufferedReader<R> {
-    ghost remaining = { λ r. ahead r.bytes r.start r.end (R.remaining r.device.reader) };
+    ghost use Rattle.trac_cli.specs.Buffered.{unread};
+
+    ghost remaining = { λ r. unread R.remaining r };
 
     #[inline]
     fn read(&mut self, buf: &mut [u8]) -> io::Result<usize>
         ensures bound { ReadsAtMost result buf.new }
-        ensures bytes { ReadConsumes (ahead self.old.bytes self.old.start self.old.end (R.remaining self.old.device.reader))
-            (ahead self.new.bytes self.new.start self.new.end (R.remaining self.new.device.reader)) result buf.new }
+        ensures bytes { ReadConsumes (unread R.remaining self.old) (unread R.remaining self.new)
+            result buf.new }
         ensures failures { Counts self.old.device.failures self.new.device.failures result }
         ensures kind { IfErr result (λ e. self.new.device.last_failure ≡ Some (error_kind e)) }
         ensures held { self.old.start < self.old.end → self.new.device ≡ self.old.device }
-        ensures end { IfOk result (λ n. n ≡ 0 → 0 < length buf.new → self.new.device.has_ended ≡ true) }
+        ensures end { IfOk result (λ n.
+            n ≡ 0 → 0 < length buf.new → self.new.device.has_ended ≡ true) }
     {
         if buf.len() == 1 && self.start < self.end {
             buf[0] = self.bytes[self.start];
@@ -135,6 +141,8 @@ pub struct BufferedWriter<W> {
 }
 
 impl<W: Write> BufferedWriter<W> {
+    ghost use Rattle.trac_cli.specs.Buffered.{accepted, WaitsOn};
+
     /// The writer, with nothing held back.
     pub fn new(writer: W) -> BufferedWriter<W>
         ensures nothing { (result.start ≡ 0) × (result.end ≡ 0) }
@@ -151,13 +159,11 @@ impl<W: Write> BufferedWriter<W> {
 
     // Writes all that waits. After a failure the rest waits on.
     fn write_out(&mut self) -> io::Result<()>
-        ensures bytes { Keeps (behind self.old.bytes self.old.start self.old.end (W.contents self.old.device.writer))
-            (behind self.new.bytes self.new.start self.new.end (W.contents self.new.device.writer)) }
+        ensures bytes { Keeps (accepted W.contents self.old) (accepted W.contents self.new) }
         ensures failures { Counts self.old.device.failures self.new.device.failures result }
         ensures kind { IfErr result (λ e. self.new.device.last_failure ≡ Some (error_kind e)) }
         ensures empty { OnOk result ((self.new.start ≡ 0) × (self.new.end ≡ 0)) }
-        ensures rest { OnErr result ((self.new.bytes ≡ self.old.bytes) × (self.new.end ≡ self.old.end)
-            × (self.old.start ≤ self.new.start) × (self.new.start < self.new.end)) }
+        ensures rest { OnErr result (WaitsOn self.old self.new) }
     {
         let all = &self.bytes[..];
         let (written, result) = write_until_failure(&all[self.start..self.end], &mut self.device);
@@ -170,14 +176,12 @@ impl<W: Write> BufferedWriter<W> {
 
     // Writes all that waits, where no byte more can wait.
     fn make_room(&mut self) -> io::Result<()>
-        ensures bytes { Keeps (behind self.old.bytes self.old.start self.old.end (W.contents self.old.device.writer))
-            (behind self.new.bytes self.new.start self.new.end (W.contents self.new.device.writer)) }
+        ensures bytes { Keeps (accepted W.contents self.old) (accepted W.contents self.new) }
         ensures failures { Counts self.old.device.failures self.new.device.failures result }
         ensures kind { IfErr result (λ e. self.new.device.last_failure ≡ Some (error_kind e)) }
         ensures same { self.old.end < 8192 → self.new ≡ self.old }
         ensures room { OnOk result (self.new.end < 8192) }
-        ensures rest { OnErr result ((self.new.bytes ≡ self.old.bytes) × (self.new.end ≡ self.old.end)
-            × (self.old.start ≤ self.new.start) × (self.new.start < self.new.end)) }
+        ensures rest { OnErr result (WaitsOn self.old self.new) }
     {
         if self.end < CAPACITY {
             return Ok(());
@@ -189,14 +193,13 @@ impl<W: Write> BufferedWriter<W> {
     #[inline(never)]
     fn write_part(&mut self, buf: &[u8]) -> io::Result<usize>
         ensures bound { WritesAtMost result buf.now }
-        ensures bytes { WriteAppends (behind self.old.bytes self.old.start self.old.end (W.contents self.old.device.writer))
-            (behind self.new.bytes self.new.start self.new.end (W.contents self.new.device.writer)) result buf.now }
+        ensures bytes { WriteAppends (accepted W.contents self.old) (accepted W.contents self.new)
+            result buf.now }
         ensures failures { Counts self.old.device.failures self.new.device.failures result }
         ensures kind { IfErr result (λ e. self.new.device.last_failure ≡ Some (error_kind e)) }
         ensures some { IfOk result (λ n. 0 < length buf.now → 0 < n) }
         ensures room { self.old.end < 8192 → self.new.device ≡ self.old.device }
-        ensures rest { OnErr result ((self.new.bytes ≡ self.old.bytes) × (self.new.end ≡ self.old.end)
-            × (self.old.start ≤ self.new.start) × (self.new.start < self.new.end)) }
+        ensures rest { OnErr result (WaitsOn self.old self.new) }
     {
         self.make_room()?;
         let n = (CAPACITY - self.end).min(buf.len());
@@ -208,14 +211,13 @@ impl<W: Write> BufferedWriter<W> {
     /// Takes the characters of some cells, once there is room.
     pub fn write_cells(&mut self, text: &[Cell]) -> io::Result<usize>
         ensures bound { WritesAtMost result (text_of_cells text.now) }
-        ensures bytes { WriteAppends (behind self.old.bytes self.old.start self.old.end (W.contents self.old.device.writer))
-            (behind self.new.bytes self.new.start self.new.end (W.contents self.new.device.writer)) result (text_of_cells text.now) }
+        ensures bytes { WriteAppends (accepted W.contents self.old) (accepted W.contents self.new)
+            result (text_of_cells text.now) }
         ensures failures { Counts self.old.device.failures self.new.device.failures result }
         ensures kind { IfErr result (λ e. self.new.device.last_failure ≡ Some (error_kind e)) }
         ensures some { IfOk result (λ n. 0 < length text.now → 0 < n) }
         ensures room { self.old.end < 8192 → self.new.device ≡ self.old.device }
-        ensures rest { OnErr result ((self.new.bytes ≡ self.old.bytes) × (self.new.end ≡ self.old.end)
-            × (self.old.start ≤ self.new.start) × (self.new.start < self.new.end)) }
+        ensures rest { OnErr result (WaitsOn self.old self.new) }
     {
         self.make_room()?;
         let n = (CAPACITY - self.end).min(text.len());
@@ -230,7 +232,8 @@ fn write_until_failure<W: Write>(bytes: &[u8], to: &mut OutputDevice<W>) -> (usi
     ensures bound { result.0 ≤ length bytes.now }
     ensures all { OnOk result.1 (result.0 ≡ length bytes.now) }
     ensures rest { OnErr result.1 (result.0 < length bytes.now) }
-    ensures bytes { Appends (W.contents to.old.writer) (W.contents to.new.writer) (take result.0 bytes.now) }
+    ensures bytes { Appends (W.contents to.old.writer) (W.contents to.new.writer)
+        (take result.0 bytes.now) }
     ensures failures { Counts to.old.failures to.new.failures result.1 }
     ensures kind { IfErr result.1 (λ e. to.new.last_failure ≡ Some (error_kind e)) }
 {
@@ -245,19 +248,20 @@ fn write_until_failure<W: Write>(bytes: &[u8], to: &mut OutputDevice<W>) -> (usi
 }
 
 impl<W: Write> Write for BufferedWriter<W> {
-    ghost contents = { λ w. behind w.bytes w.start w.end (W.contents w.device.writer) };
+    ghost use Rattle.trac_cli.specs.Buffered.{accepted, WaitsOn};
+
+    ghost contents = { λ w. accepted W.contents w };
 
     #[inline]
     fn write(&mut self, buf: &[u8]) -> io::Result<usize>
         ensures bound { WritesAtMost result buf.now }
-        ensures bytes { WriteAppends (behind self.old.bytes self.old.start self.old.end (W.contents self.old.device.writer))
-            (behind self.new.bytes self.new.start self.new.end (W.contents self.new.device.writer)) result buf.now }
+        ensures bytes { WriteAppends (accepted W.contents self.old) (accepted W.contents self.new)
+            result buf.now }
         ensures failures { Counts self.old.device.failures self.new.device.failures result }
         ensures kind { IfErr result (λ e. self.new.device.last_failure ≡ Some (error_kind e)) }
         ensures some { IfOk result (λ n. 0 < length buf.now → 0 < n) }
         ensures room { self.old.end < 8192 → self.new.device ≡ self.old.device }
-        ensures rest { OnErr result ((self.new.bytes ≡ self.old.bytes) × (self.new.end ≡ self.old.end)
-            × (self.old.start ≤ self.new.start) × (self.new.start < self.new.end)) }
+        ensures rest { OnErr result (WaitsOn self.old self.new) }
     {
         if buf.len() == 1 && self.end < CAPACITY {
             self.bytes[self.end] = buf[0];
@@ -268,8 +272,7 @@ impl<W: Write> Write for BufferedWriter<W> {
     }
 
     fn flush(&mut self) -> io::Result<()>
-        ensures bytes { Keeps (behind self.old.bytes self.old.start self.old.end (W.contents self.old.device.writer))
-            (behind self.new.bytes self.new.start self.new.end (W.contents self.new.device.writer)) }
+        ensures bytes { Keeps (accepted W.contents self.old) (accepted W.contents self.new) }
         ensures failures { Counts self.old.device.failures self.new.device.failures result }
         ensures kind { IfErr result (λ e. self.new.device.last_failure ≡ Some (error_kind e)) }
         ensures empty { OnOk result ((self.new.start ≡ 0) × (self.new.end ≡ 0)) }

@@ -9,8 +9,8 @@ ghost use Rattle.trac_cli.specs.Devices.{Counts};
 use std::io;
 use std::io::{Read, Write};
 
-/// A reader, the number of its failed reads, the kind of the last failure, and whether the last read
-/// found it ended.
+/// A reader, the number of its failed reads, the kind of the
+/// last failure, and whether the last read found it ended.
 #[derive(Drop)]
 pub struct InputDevice<R> {
     reader: R,
@@ -37,7 +37,8 @@ impl<R: Read> InputDevice<R> {
     pub fn read(&mut self, buf: &mut [u8]) -> io::Result<usize>
         requires room { 0 < length buf.old }
         ensures bound { ReadsAtMost result buf.new }
-        ensures bytes { ReadConsumes (R.remaining self.old.reader) (R.remaining self.new.reader) result buf.new }
+        ensures bytes { ReadConsumes (R.remaining self.old.reader) (R.remaining self.new.reader)
+            result buf.new }
         ensures failures { Counts self.old.failures self.new.failures result }
         ensures kind { IfErr result (λ e. self.new.last_failure ≡ Some (error_kind e)) }
         ensures end { IfOk result (λ n. (n ≡ 0) ↔ (self.new.has_ended ≡ true)) }
@@ -82,7 +83,8 @@ impl<W: Write> OutputDevice<W> {
     pub fn write(&mut self, bytes: &[u8]) -> io::Result<usize>
         requires some { 0 < length bytes.now }
         ensures bound { IfOk result (λ n. (0 < n) × (n ≤ length bytes.now)) }
-        ensures bytes { WriteAppends (W.contents self.old.writer) (W.contents self.new.writer) result bytes.now }
+        ensures bytes { WriteAppends (W.contents self.old.writer) (W.contents self.new.writer)
+            result bytes.now }
         ensures failures { Counts self.old.failures self.new.failures result }
         ensures kind { IfErr result (λ e. self.new.last_failure ≡ Some (error_kind e)) }
         ensures unflushed { self.new.is_flushed ≡ false }

@@ -1,15 +1,16 @@
 //! The program's source: a reader behind its buffer.
-ghost use Rattle.std.specs.Prelude.{◌≡◌, ℕ, ◌+◌, ◌-◌, ◌^◌, ◌<◌, ◌≤◌, List, [], length, take, false, true, IsSome, unwrap_or};
-ghost use Rattle.trac_core.specs.Devices.{Stream, Gives, Streams, failures_of_next, has_byte};
+ghost use Rattle.std.specs.Prelude.{◌≡◌, ◌+◌, ◌-◌, ◌^◌, ◌<◌, false, true, IsSome};
+ghost use Rattle.trac_core.specs.Devices.{Gives, failures_of_next, told_stream};
 ghost use Rattle.trac_core.specs.Slices.{IfTells};
-ghost use Rattle.trac_cli.specs.Buffered.{ahead};
+ghost use Rattle.trac_cli.specs.Buffered.{unread};
 
 use crate::buffered::BufferedReader;
 use std::io::Read;
 use trac_core::{Next, RetryingReader, Source, Work};
 
-/// A source over a reader behind a buffer, which gives what the buffer holds at once. A read that was interrupted is tried again,
-/// each other error is a failure; after a read of no byte it has ended, and reads no more. This processor's own choice.
+/// A source over a reader behind a buffer, which gives what the buffer holds at once. A read that
+/// was interrupted is tried again, each other error is a failure; after a read of no byte it has
+/// ended, and reads no more. This processor's own choice.
 #[derive(Drop)]
 pub struct Input<R> {
     reader: BufferedReader<RetryingReader<R>>,
@@ -21,7 +22,8 @@ impl<R: Read> Input<R> {
     /// A source that gives what the reader gives.
     pub fn new(reader: R) -> Input<R>
         ensures tells { IsSome (R.remaining reader) → ⟦<Input<R> as Source>⟧.tells result }
-        ensures stream { ⟦<Input<R> as Source>⟧.stream result ≡ record { bytes = unwrap_or (R.remaining reader) []; ended = false } }
+        ensures stream { ⟦<Input<R> as Source>⟧.stream result ≡
+            told_stream (R.remaining reader) false }
         ensures none { ⟦<Input<R> as Source>⟧.failure_count result ≡ 0 }
     {
         Input {
@@ -33,9 +35,9 @@ impl<R: Read> Input<R> {
 }
 
 impl<R: Read> Source for Input<R> {
-    ghost tells = { λ s. IfTells (ahead s.reader.bytes s.reader.start s.reader.end (R.remaining s.reader.device.reader.reader)) s.ended };
+    ghost tells = { λ s. IfTells (unread (λ r. R.remaining r.reader) s.reader) s.ended };
 
-    ghost stream = { λ s. record { bytes = unwrap_or (ahead s.reader.bytes s.reader.start s.reader.end (R.remaining s.reader.device.reader.reader)) []; ended = s.ended } };
+    ghost stream = { λ s. told_stream (unread (λ r. R.remaining r.reader) s.reader) s.ended };
 
     ghost failure_count = { λ s. s.failures };
 
@@ -47,11 +49,12 @@ impl<R: Read> Source for Input<R> {
     fn next(&mut self) -> Next
         requires { self.old.failures < 2 ^ 64 - 1 }
         ensures ended { self.old.ended ≡ true → (result ≡ Next.End) × (self.new ≡ self.old) }
-        ensures gives { IfTells (ahead self.old.reader.bytes self.old.reader.start self.old.reader.end (R.remaining self.old.reader.device.reader.reader)) self.old.ended →
-            Gives (record { bytes = unwrap_or (ahead self.old.reader.bytes self.old.reader.start self.old.reader.end (R.remaining self.old.reader.device.reader.reader)) []; ended = self.old.ended }) result
-            (record { bytes = unwrap_or (ahead self.new.reader.bytes self.new.reader.start self.new.reader.end (R.remaining self.new.reader.device.reader.reader)) []; ended = self.new.ended }) }
-        ensures told { IfTells (ahead self.old.reader.bytes self.old.reader.start self.old.reader.end (R.remaining self.old.reader.device.reader.reader)) self.old.ended →
-            IfTells (ahead self.new.reader.bytes self.new.reader.start self.new.reader.end (R.remaining self.new.reader.device.reader.reader)) self.new.ended }
+        ensures gives { IfTells (unread (λ r. R.remaining r.reader) self.old.reader) self.old.ended →
+            Gives (told_stream (unread (λ r. R.remaining r.reader) self.old.reader) self.old.ended)
+            result
+            (told_stream (unread (λ r. R.remaining r.reader) self.new.reader) self.new.ended) }
+        ensures told { IfTells (unread (λ r. R.remaining r.reader) self.old.reader) self.old.ended →
+            IfTells (unread (λ r. R.remaining r.reader) self.new.reader) self.new.ended }
         ensures counts { self.new.failures ≡ self.old.failures + failures_of_next result }
     {
         if self.ended {

@@ -1,6 +1,7 @@
 //! The lines on standard error, and the exit status. Both are this processor's own choice.
-ghost use Rattle.std.specs.Prelude.{◌≡◌, ◌+◌, ◌≤◌, ◌++◌, List, ℕ, [], length, take, true, option_map, decimal};
-ghost use Rattle.trac_cli.specs.Lines.{fault_text, is_one_line, memory_text, report_text, status_of};
+ghost use Rattle.std.specs.Prelude.{◌≡◌, ◌+◌, ◌≤◌, ◌++◌, List, ℕ, [], length, take, true, decimal};
+ghost use Rattle.trac_cli.specs.Lines.{fault_text, is_one_line, memory_text, report_text};
+ghost use Rattle.trac_cli.specs.Lines.{status_of};
 
 use crate::settings::Settings;
 use itoa::Buffer;
@@ -65,7 +66,8 @@ impl Line {
 /// The line on a run that did not end well, or `None` where it halted or its input ended. It tells
 /// the cells or the steps of the settings, or the step that was not done: one more than were.
 pub fn fault_line(report: &Report, settings: &Settings) -> Option<Line>
-    ensures { result ≡ fault_text report.now.fate settings.now.cells settings.now.steps report.now.steps }
+    ensures { result ≡
+        fault_text report.now.fate settings.now.cells settings.now.steps report.now.steps }
 {
     let next = u128::from(report.steps) + 1;
     let mut line = Line::new();

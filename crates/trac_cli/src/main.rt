@@ -59,7 +59,8 @@ fn refused_words<R: Eprint>(rt: &R, kind: io::ErrorKind) -> u8 {
     USAGE
 }
 
-// Shows what clap answered in place of settings, and gives the status. That standard error fails is ignored.
+// Shows what clap answered in place of settings, and gives
+// the status. That standard error fails is ignored.
 fn refused<R: Print + Eprint>(rt: &R, error: &clap::Error) -> u8
     ensures { (shown : Bool) × (result ≡ shown_status (kind_of error.now) shown) }
 {
@@ -71,7 +72,8 @@ fn refused<R: Print + Eprint>(rt: &R, error: &clap::Error) -> u8
     status_when_shown(kind, error.print(rt).is_ok())
 }
 
-// The status once an error of the words was shown or could not be: a help that can't be written is an output that failed.
+// The status once an error of the words was shown or could not
+// be: a help that can't be written is an output that failed.
 fn status_when_shown(kind: ErrorKind, is_shown: bool) -> u8
     ensures { result ≡ shown_status kind is_shown }
 {

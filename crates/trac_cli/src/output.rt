@@ -1,15 +1,15 @@
 //! The program's sink: a writer behind its buffer.
-ghost use Rattle.std.specs.Prelude.{◌≡◌, ℕ, ◌+◌, ◌-◌, ◌^◌, ◌<◌, [], true, IsSome, unwrap_or, OnOk};
-ghost use Rattle.trac_core.specs.Devices.{failures_of, after_put, Prints};
-ghost use Rattle.trac_cli.specs.Buffered.{behind};
+ghost use Rattle.std.specs.Prelude.{◌≡◌, ◌+◌, ◌-◌, ◌<◌, [], true, IsSome, unwrap_or};
+ghost use Rattle.trac_cli.specs.Buffered.{accepted};
 
 use crate::buffered::BufferedWriter;
 use std::io::Write;
 use trac_core::{Cell, RetryingWriter, Sink, SinkFailed};
 
-/// A sink over a writer behind a buffer, by writes of one byte or of many. It is flushed where nothing waits in the buffer and the
-/// writer was flushed after its last write. A call that was interrupted is tried again; another error, or a write of no byte, is a
-/// failure. This processor's own choice.
+/// A sink over a writer behind a buffer, by writes of one byte or of many. It
+/// is flushed where nothing waits in the buffer and the writer was flushed
+/// after its last write. A call that was interrupted is tried again; another
+/// error, or a write of no byte, is a failure. This processor's own choice.
 #[derive(Drop)]
 pub struct Output<W> {
     writer: BufferedWriter<RetryingWriter<W>>,
@@ -31,9 +31,9 @@ impl<W: Write> Output<W> {
 }
 
 impl<W: Write> Sink for Output<W> {
-    ghost tells = { λ s. IsSome (behind s.writer.bytes s.writer.start s.writer.end (W.contents s.writer.device.writer.writer)) };
+    ghost tells = { λ s. IsSome (accepted (λ w. W.contents w.writer) s.writer) };
 
-    ghost written = { λ s. unwrap_or (behind s.writer.bytes s.writer.start s.writer.end (W.contents s.writer.device.writer.writer)) [] };
+    ghost written = { λ s. unwrap_or (accepted (λ w. W.contents w.writer) s.writer) [] };
 
     ghost flushed = { λ s. (s.writer.start ≡ s.writer.end) × (s.writer.device.is_flushed ≡ true) };
 

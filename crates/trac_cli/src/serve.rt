@@ -1,8 +1,9 @@
 //! A run in a block of its own.
-ghost use Rattle.std.specs.Prelude.{◌≡◌, ◌≢◌, ℕ, ◌+◌, ◌-◌, ◌^◌, ◌<◌, ◌≤◌, OnErr, IfOk, MatchResult};
+ghost use Rattle.std.specs.Prelude.{◌≡◌, ◌≢◌, ◌+◌, ◌-◌, ◌^◌, ◌<◌, ◌≤◌, OnErr, IfOk};
 ghost use Rattle.trac_core.specs.declared.machine.Fate.TheVariants.{OutputFailed};
 ghost use Rattle.trac_core.specs.Devices.{Sent};
-ghost use Rattle.trac_core.specs.Machine.{Reports, course, made, reported_input_failures, reported_output_failures};
+ghost use Rattle.trac_core.specs.Machine.{Reports, course, made, reported_input_failures};
+ghost use Rattle.trac_core.specs.Machine.{reported_output_failures};
 
 use crate::settings::Settings;
 use std::alloc::Global;
@@ -15,9 +16,9 @@ use trac_space::make_block;
 #[error("no memory for the block")]
 pub struct NoMemory;
 
-/// Makes the block of cells that the settings say, and runs the script that the source gives over it, with the steps that the
-/// settings allow. An error is want of memory for the block; then source and sink are as they were. This processor's own
-/// choice.
+/// Makes the block of cells that the settings say, and runs the script that the source gives over
+/// it, with the steps that the settings allow. An error is want of memory for the block; then
+/// source and sink are as they were. This processor's own choice.
 pub fn serve<I: Source, O: Sink>(
     alloc: Global,
     settings: &Settings,
@@ -27,10 +28,16 @@ pub fn serve<I: Source, O: Sink>(
     requires source_counts { I.failure_count source.old < 2 ^ 64 - 1 }
     requires sink_counts { O.failure_count sink.old < 2 ^ 64 - 1 }
     ensures reports { I.tells source.old → O.tells sink.old → IfOk result (λ report.
-        Reports report.fate (course (made settings.now.cells settings.now.steps) (I.stream source.old) (O.written sink.old) (I.stream source.new) (O.written sink.new)) report) }
-    ensures input_failed { IfOk result (λ report. I.failure_count source.new ≡ I.failure_count source.old + reported_input_failures report.fate) }
-    ensures output_failed { IfOk result (λ report. O.failure_count sink.new ≡ O.failure_count sink.old + reported_output_failures report.fate) }
-    ensures sent { IfOk result (λ report. report.fate ≢ OutputFailed → Sent O.tells O.flushed O.written sink.old sink.new) }
+        let machine = made settings.now.cells settings.now.steps in
+        let course = course machine (I.stream source.old) (O.written sink.old)
+        (I.stream source.new) (O.written sink.new) in
+        Reports report.fate course report) }
+    ensures input_failed { IfOk result (λ report. I.failure_count source.new ≡
+        I.failure_count source.old + reported_input_failures report.fate) }
+    ensures output_failed { IfOk result (λ report. O.failure_count sink.new ≡
+        O.failure_count sink.old + reported_output_failures report.fate) }
+    ensures sent { IfOk result (λ report. report.fate ≢ OutputFailed →
+        Sent O.tells O.flushed O.written sink.old sink.new) }
     ensures steps { IfOk result (λ report. report.steps ≤ settings.now.steps) }
     ensures peak { IfOk result (λ report. report.peak ≤ settings.now.cells) }
     ensures no_memory { OnErr result ((source.new ≡ source.old) × (sink.new ≡ sink.old)) }

@@ -23,7 +23,8 @@ impl Settings {
     /// out of range.
     pub fn new(cells: u32, steps: u64, report: bool) -> Option<Settings>
         ensures none { IsNone result ↔ ¬ AreInRange cells steps }
-        ensures some { IfSome result (λ s. (s.cells ≡ cells) × (s.steps ≡ steps) × (s.report ≡ report)) }
+        ensures some { IfSome result (λ s.
+            (s.cells ≡ cells) × (s.steps ≡ steps) × (s.report ≡ report)) }
     {
         if cells == 0 || cells > MOST_CELLS || steps == 0 || steps > MOST_STEPS {
             return None;

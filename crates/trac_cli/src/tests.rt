@@ -1,4 +1,5 @@
-//! What no clause says: the texts, the statuses, whole rows from the words to the lines, calls that are interrupted, and the command's answers to words that are written out.
+//! What no clause says: the texts, the statuses, whole rows from the words to the lines, calls that
+//! are interrupted, and the command's answers to words that are written out.
 ghost use Rattle.std.specs.Prelude.{◌≡◌, ◌≤◌, length};
 
 use crate::buffered::{BufferedReader, BufferedWriter};
@@ -24,7 +25,8 @@ const LOOP: &str = "#(ds,L,(#(cl,L)))#(cl,L)'";
 
 type Lines = (&'static str, &'static str, u8);
 
-/// Options beside `--report`, and a script; what it prints, and the line of the report, the line on the fault and the status.
+/// Options beside `--report`, and a script; what it prints, and
+/// the line of the report, the line on the fault and the status.
 const ROWS: [(&[&str], &str, &str, Lines); 16] = [
     (&[], "", "", ("trac: 9 steps, peak 11 cells", "", 0)),
     (
@@ -369,7 +371,8 @@ fn lines_of_reports(rt: HostRuntime) -> Result<(), Fail> {
     Ok(())
 }
 
-// From the words to the lines: what is printed, the line of the report, the line on the fault, the status.
+// From the words to the lines: what is printed, the line of
+// the report, the line on the fault, the status.
 fn comes_to(
     rt: &impl Abort,
     settings: &Settings,

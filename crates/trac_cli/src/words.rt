@@ -1,7 +1,8 @@
 //! The program's words, read by clap.
-ghost use Rattle.std.specs.Prelude.{◌≡◌, IfOk, IfErr, map, string_bytes, None, true, false};
+ghost use Rattle.std.specs.Prelude.{◌≡◌, IfOk, IfErr, map, string_bytes, true, false};
 ghost use Rattle.clap.specs.Words.{FailsBy, app_of, fault_of, kind_of, matches_of, rule_of, takes};
-ghost use Rattle.trac_cli.specs.CommandLine.{AreValuesOf, HasDefaults, number_option, report_flag, trac_command};
+ghost use Rattle.trac_cli.specs.CommandLine.{AreValuesOf, HasDefaults, number_option, report_flag};
+ghost use Rattle.trac_cli.specs.CommandLine.{trac_command};
 
 use crate::settings::{MOST_CELLS, MOST_STEPS, Settings};
 use clap::builder::ValueParser;
@@ -14,9 +15,11 @@ use std::alloc::{AllocError, Global};
 /// error is clap's, for words that it refuses, for help, or for want of memory. The command is
 /// this processor's own choice.
 pub fn settings_from(alloc: Global, words: Vec<String>) -> Result<Settings, Error>
-    ensures taken { IfOk result (AreValuesOf (matches_of trac_command (map string_bytes words.items))) }
+    ensures taken { let texts = map string_bytes words.items in
+        IfOk result (AreValuesOf (matches_of trac_command texts)) }
     ensures defaults { IfOk result (HasDefaults (map string_bytes words.items)) }
-    ensures passes { IfErr result (λ e. takes trac_command (map string_bytes words.items) ≡ true → kind_of e ≡ ErrorKind.OutOfMemory) }
+    ensures passes { let texts = map string_bytes words.items in
+        IfErr result (λ e. takes trac_command texts ≡ true → kind_of e ≡ ErrorKind.OutOfMemory) }
     ensures kinds { FailsBy (fault_of trac_command (map string_bytes words.items)) result }
 {
     let matches = command(alloc)?.try_get_matches_from(words.as_slice())?;

@@ -1,5 +1,6 @@
 -- What a try of one step over the contents of a workspace says of each machine that holds them.
-use Rattle.std.specs.Prelude.{◌≡◌, ℕ, ◌+◌, ◌<◌, ◌≤◌, Bool, true, false, List, ◌∷◌, ◌++◌, length, take, Option, Some, None, slice_get}
+use Rattle.std.specs.Prelude.{◌≡◌, ℕ, ◌+◌, ◌<◌, ◌≤◌, Bool, true, false, List, ◌∷◌, ◌++◌, length}
+use Rattle.std.specs.Prelude.{◌≢◌, drop, take, Option, Some, None, slice_get}
 use Rattle.trac_space.specs.declared.cell.Cell.{Cell}
 use Rattle.trac_space.specs.declared.cell.Cell.TheVariants.{Byte}
 use Rattle.trac_space.specs.declared.cell.Mode.{Mode}
@@ -11,12 +12,13 @@ use Rattle.trac_forms.specs.FlatForms.{flat_text, text_of_cells}
 use Rattle.trac_forms.specs.Contents.{Contents, used, IsSound}
 use Rattle.trac_core.specs.declared.function.Function.{Function}
 use Rattle.trac_core.specs.declared.machine.Fate.{Fate}
-use Rattle.trac_core.specs.declared.machine.Fate.TheVariants.{Workspace}
+use Rattle.trac_core.specs.declared.machine.Fate.TheVariants.{Workspace, Steps, InputFailed}
+use Rattle.trac_core.specs.declared.machine.Fate.TheVariants.{OutputFailed}
 use Rattle.trac_core.specs.Devices.{Stream}
 use Rattle.trac_core.specs.Function.{function_named}
-use Rattle.trac_core.specs.State.{Input, argument}
+use Rattle.trac_core.specs.State.{Input, State, argument}
 use Rattle.trac_core.specs.Step.{Next, step, need, reads_to_end}
-use Rattle.trac_core.specs.Flat.{memory_of, arguments_at}
+use Rattle.trac_core.specs.Flat.{memory_of, mode_at, arguments_at}
 use Rattle.trac_core.specs.Machine.{MachineState, moment, state_with, Answers, counted}
 
 -- the contents of a workspace, a meta character, a source and what a sink holds
@@ -27,33 +29,48 @@ pub record Scene : Type 0 where
   pub written : Text
 
 abbrev pub scene : Contents → ℕ → Stream → Text → Scene
-scene contents meta source written = record { contents = contents; meta = meta; source = source; written = written }
+scene contents meta source written =
+    record { contents = contents; meta = meta; source = source; written = written }
 
--- for each machine that holds these contents and may step, the answer is right, once the need is counted
+-- for each machine that holds these contents and may step,
+-- the answer is right, once the need is counted
 abbrev pub Tried : Scene → Option Fate → ℕ → Scene → Type 0
 Tried old answer needed new =
-    (m : MachineState) → m.room ≡ old.contents.room → m.memory ≡ memory_of old.meta old.contents → m.steps < m.allowance →
+    (m : MachineState) → m.room ≡ old.contents.room →
+    m.memory ≡ memory_of old.meta old.contents → m.steps < m.allowance →
     Answers (moment m old.source old.written) answer
     (moment (counted m (memory_of new.meta new.contents) needed answer) new.source new.written)
 
+-- the state of these contents, with a meta character, an input and an output
+abbrev pub state_over : Contents → ℕ → Input → Text → State
+state_over w meta input output = state_with (memory_of meta w) input output
+
 -- a step that reads and prints nothing leads from contents to contents, and needs so many cells
 pub record Scans (old new : Contents) (needed : ℕ) : Type 0 where
-  pub goes : (meta : ℕ) (input : Input) (output : Text) → step (state_with (memory_of meta old) input output) ≡ Next (state_with (memory_of meta new) input output)
-  pub needs : (meta : ℕ) (input : Input) (output : Text) → need (state_with (memory_of meta old) input output) ≡ needed
-  pub reads : (meta : ℕ) (input : Input) (output : Text) → reads_to_end (state_with (memory_of meta old) input output) ≡ false
+  pub goes : (meta : ℕ) (input : Input) (output : Text) →
+      step (state_over old meta input output) ≡ Next (state_over new meta input output)
+  pub needs : (meta : ℕ) (input : Input) (output : Text) →
+      need (state_over old meta input output) ≡ needed
+  pub reads : (meta : ℕ) (input : Input) (output : Text) →
+      reads_to_end (state_over old meta input output) ≡ false
 
 -- such a step was done, or needs more than the room
 abbrev pub Scanned : Option Fate → ℕ → Contents → Contents → Type 0
 Scanned None needed old new = Scans old new needed
-Scanned (Some Workspace) needed old new = (meta : ℕ) (input : Input) (output : Text) → old.room < need (state_with (memory_of meta old) input output)
+Scanned (Some Workspace) needed old new =
+    (meta : ℕ) (input : Input) (output : Text) → old.room < need (state_over old meta input output)
 Scanned (Some _) needed old new = ⊥
+
+-- neither device failed, and the allowance was not used up
+abbrev pub NoneFailed : Option Fate → Type 0
+NoneFailed fate = (fate ≢ Some InputFailed) × (fate ≢ Some OutputFailed) × (fate ≢ Some Steps)
 
 -- a right parenthesis that closes no call, if one begins the active string
 abbrev pub ClosesNone : Contents → Type 0
 ClosesNone w = slice_get (text_of_cells w.active) 0 ≡ Some 41 → NoCall w.neutral
 
--- the innermost call, whose mark stands at the place, is performed by the right parenthesis that active begins with; w has
--- that parenthesis no more
+-- the innermost call, whose mark stands at the place, is performed by the right parenthesis that
+-- active begins with; w has that parenthesis no more
 pub record Performs (old w : Contents) (place : ℕ) : Type 0 where
   pub same : old ≡ record w { active = Byte 41 ∷ w.active }
   pub innermost : IsLastCall w.neutral place
@@ -66,7 +83,15 @@ pub record IsCall (w : Contents) (place : ℕ) (function : Option Function) : Ty
 
 -- for each machine that is to perform this call, the answer is right
 abbrev pub TriedCall : ℕ → Scene → Option Fate → ℕ → Scene → Type 0
-TriedCall place w answer needed new = (old : Contents) → Performs old w.contents place → Tried (record w { contents = old }) answer needed new
+TriedCall place w answer needed new =
+    (old : Contents) → Performs old w.contents place →
+    Tried (record w { contents = old }) answer needed new
+
+-- the same for whatever meta character, source and sink, which stay as they are
+abbrev pub TriedOnContents : ℕ → Contents → Option Fate → ℕ → Contents → Type 0
+TriedOnContents place old answer needed new =
+    (meta : ℕ) (source : Stream) (written : Text) →
+    TriedCall place (scene old meta source written) answer needed (scene new meta source written)
 
 -- the function of the call whose mark stands at the place
 abbrev pub function_at : List Cell → ℕ → Option Function
@@ -74,11 +99,22 @@ function_at neutral place = function_named (argument (arguments_at neutral place
 
 -- the call leaves, and its value goes before the active string or to the end of the neutral one
 abbrev pub delivered : Mode → Bool → Text → ℕ → Contents → Contents
-delivered Active forced value place w = record w { active = flat_text value ++ w.active; neutral = take place w.neutral }
-delivered Neutral true value place w = record w { active = flat_text value ++ w.active; neutral = take place w.neutral }
-delivered Neutral false value place w = record w { neutral = take place w.neutral ++ flat_text value }
+delivered Active forced value place w =
+    record w { active = flat_text value ++ w.active; neutral = take place w.neutral }
+delivered Neutral true value place w =
+    record w { active = flat_text value ++ w.active; neutral = take place w.neutral }
+delivered Neutral false value place w =
+    record w { neutral = take place w.neutral ++ flat_text value }
 
--- these bytes left the source, at most two more than the free cells of a workspace with one cell more
+-- the same where the value stands in the neutral string from a place on, and the call's mark, whose
+-- mode counts, at another
+abbrev pub value_delivered : (place from : ℕ) → Bool → Contents → Contents
+value_delivered place from forced w =
+    delivered (mode_at w.neutral place) forced (text_of_cells (drop from w.neutral)) place
+    (record w { neutral = take from w.neutral })
+
+-- these bytes left the source, at most two more than the
+-- free cells of a workspace with one cell more
 pub record TakesFrom (w : Contents) (old new : Stream) (taken : Text) : Type 0 where
   pub consumed : old.bytes ≡ taken ++ new.bytes
   pub few : length taken + used w ≤ w.room + 1

@@ -1,9 +1,12 @@
 -- Results of bits, made of octal digits that stand in the neutral string.
 use Rattle.std.specs.Prelude.{ℕ, ◌-◌, ◌*◌, ◌<◌, ◌≤◌, List, length, slice_range, pos}
 use Rattle.trac_space.specs.declared.cell.Cell.{Cell}
+use Rattle.trac_forms.specs.Text.{Text}
 use Rattle.trac_core.specs.declared.bit_strings.BitResult.{BitResult}
-use Rattle.trac_core.specs.declared.bit_strings.BitResult.TheVariants.{Union, Intersection, Complement, Shift, Rotation}
-use Rattle.trac_core.specs.BitString.{Bits, union, intersection, complement, shifted, rotated}
+use Rattle.trac_core.specs.declared.bit_strings.BitResult.TheVariants.{Union, Intersection}
+use Rattle.trac_core.specs.declared.bit_strings.BitResult.TheVariants.{Complement, Shift, Rotation}
+use Rattle.trac_core.specs.BitString.{Bits, octal, union, intersection, complement, shifted}
+use Rattle.trac_core.specs.BitString.{rotated}
 use Rattle.trac_core.specs.Digits.{IsOctal, bits_of_cells, signed}
 
 -- the cells of a part are octal digits
@@ -31,3 +34,7 @@ bits_made neutral (Intersection a b) = intersection (bits_at neutral a) (bits_at
 bits_made neutral (Complement a) = complement (bits_at neutral a)
 bits_made neutral (Shift by a) = shifted (signed by.negative by.size) (bits_at neutral a)
 bits_made neutral (Rotation by a) = rotated (pos by) (bits_at neutral a)
+
+-- its octal digits
+abbrev pub octal_made : List Cell → BitResult → Text
+octal_made neutral result = octal (bits_made neutral result)

@@ -1,5 +1,6 @@
 -- What contracts say of the devices that a machine reads from and writes to.
-use Rattle.std.specs.Prelude.{◌≡◌, ℕ, ◌<◌, Bool, true, false, List, [], ◌∷◌, ◌++◌, ◌==◌, length, Result, Ok, Err, ◌⊎◌}
+use Rattle.std.specs.Prelude.{◌≡◌, ℕ, ◌<◌, Bool, true, false, List, [], ◌∷◌, ◌++◌, ◌==◌, length}
+use Rattle.std.specs.Prelude.{Option, Result, Ok, Err, ◌⊎◌, unwrap_or}
 use Rattle.std.specs.List.{list_any}
 use Rattle.trac_core.specs.declared.device.Next.{Next}
 use Rattle.trac_core.specs.declared.device.Next.TheVariants.{Byte, End, Failed}
@@ -8,6 +9,10 @@ use Rattle.trac_core.specs.declared.device.Next.TheVariants.{Byte, End, Failed}
 pub record Stream : Type 0 where
   pub bytes : List ℕ
   pub ended : Bool
+
+-- where a reader stands that tells its bytes, if it does, and has ended or not
+abbrev pub told_stream : Option (List ℕ) → Bool → Stream
+told_stream told ended = record { bytes = unwrap_or told []; ended = ended }
 
 -- a source that stands at old may answer this and then stands at new
 abbrev pub Gives : Stream → Next → Stream → Type 0
@@ -44,7 +49,8 @@ after_put written byte (Err e) = written
 
 -- a first part of a text was written behind what was written before
 abbrev pub Breaks : List ℕ → List ℕ → List ℕ → Type 0
-Breaks old text new = (put : List ℕ) × ((rest : List ℕ) × ((text ≡ put ++ rest) × (new ≡ old ++ put)))
+Breaks old text new =
+    (put : List ℕ) × ((rest : List ℕ) × ((text ≡ put ++ rest) × (new ≡ old ++ put)))
 
 -- a text was written behind what was written before, and after an error a first part of it
 abbrev pub Prints : {A E : Type 0} → Result A E → List ℕ → List ℕ → List ℕ → Type 0
@@ -52,5 +58,7 @@ Prints (Ok x) old text new = new ≡ old ++ text
 Prints (Err e) old text new = Breaks old text new
 
 -- a sink was not called; or bytes were put, and then all that it had taken was sent on
-abbrev pub Sent : {S : Type 0} → (tells flushed : S → Type 0) → (written : S → List ℕ) → S → S → Type 0
-Sent tells flushed written old new = (new ≡ old) ⊎ (flushed new × (tells old → length (written old) < length (written new)))
+abbrev pub Sent :
+    {S : Type 0} → (tells flushed : S → Type 0) → (written : S → List ℕ) → S → S → Type 0
+Sent tells flushed written old new =
+    (new ≡ old) ⊎ (flushed new × (tells old → length (written old) < length (written new)))

@@ -1,10 +1,16 @@
 -- What contracts say of the display of a form.
-use Rattle.std.specs.Prelude.{[], Option, Some, None}
+use Rattle.std.specs.Prelude.{ℕ, [], Option, Some, None}
 use Rattle.trac_forms.specs.Text.{Text}
 use Rattle.trac_forms.specs.Form.{Form}
+use Rattle.trac_forms.specs.Store.{form_named}
+use Rattle.trac_forms.specs.Contents.{Contents, part_text}
 use Rattle.trac_core.specs.Meaning.{show_form}
 
 -- the display of a form, if there is one
 abbrev pub display : Option Form → Text
 display None = []
 display (Some form) = show_form form
+
+-- the display of the form that a part of the neutral string names, null where there is none
+abbrev pub display_named : Contents → ℕ × ℕ → Text
+display_named w name = display (form_named (part_text w.neutral name.0 name.1) w.forms)

@@ -21,14 +21,17 @@ no_neutral = record { base = []; calls = [] }
 -- a character at the end of the last argument of the innermost of these calls, or of the base text
 abbrev pub with_character : List OpenCall → ℕ → Neutral → Neutral
 with_character [] c n = record n { base = n.base ++ c ∷ [] }
-with_character (call ∷ outer) c n = record n { calls = record call { last = call.last ++ c ∷ [] } ∷ outer }
+with_character (call ∷ outer) c n =
+    record n { calls = record call { last = call.last ++ c ∷ [] } ∷ outer }
 
--- a comma mark begins an argument; outside all calls, where none ever stands, it counts as a character
+-- a comma mark begins an argument; outside all calls, where
+-- none ever stands, it counts as a character
 abbrev pub with_comma : List OpenCall → Neutral → Neutral
 with_comma [] n = record n { base = n.base ++ 44 ∷ [] }
 with_comma (call ∷ outer) n = record n { calls = begin_argument (call ∷ outer) }
 
--- a neutral string with one more cell; a gap or a head, which never stand there, count as characters
+-- a neutral string with one more cell; a gap or a head,
+-- which never stand there, count as characters
 abbrev pub with_cell : Neutral → Cell → Neutral
 with_cell n (Byte c) = with_character n.calls c n
 with_cell n (Call mode _) = record n { calls = begin_call mode n.calls }
@@ -46,7 +49,8 @@ abbrev pub neutral_of : List Cell → Neutral
 neutral_of cells = with_cells no_neutral cells
 
 abbrev pub memory_with : Neutral → Text → List Form → ℕ → Memory
-memory_with n active forms meta = record { active = active; base = n.base; calls = n.calls; forms = forms; meta = meta }
+memory_with n active forms meta =
+    record { active = active; base = n.base; calls = n.calls; forms = forms; meta = meta }
 
 -- the memory of a meta character and the contents of a workspace
 abbrev pub memory_of : ℕ → Contents → Memory

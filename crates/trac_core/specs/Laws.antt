@@ -4,7 +4,7 @@ use Rattle.trac_forms.specs.Text.{Text}
 use Rattle.trac_core.specs.declared.machine.Fate.TheVariants.{InputEnded, Workspace, Steps}
 use Rattle.trac_core.specs.Protected.{IsBalanced}
 use Rattle.trac_core.specs.State.{Input, first}
-use Rattle.trac_core.specs.Run.{run}
+use Rattle.trac_core.specs.Run.{Run, run}
 
 -- the second text begins with the first
 abbrev pub IsPrefix : Text → Text → Type 0
@@ -50,11 +50,17 @@ LessRoom =
     (run room allowance (first input)).fate ≢ Workspace →
     smaller < (run room allowance (first input)).peak →
     ((run smaller allowance (first input)).fate ≡ Workspace)
-    × IsPrefix (run smaller allowance (first input)).output (run room allowance (first input)).output
+    × IsPrefix (run smaller allowance (first input)).output
+    (run room allowance (first input)).output
 
 -- the input `#(ps,(`, the text, `))'`, then ended
 abbrev pub quoting : Text → Input
 quoting text = record { text = codes "#(ps,(" ++ (text ++ codes "))'"); fails = false }
+
+-- the run that prints a text in 25 steps
+abbrev pub quoted : Text → Run
+quoted text =
+    record { output = text; left = []; fate = InputEnded; steps = 25; peak = 16 + length text }
 
 -- a balanced text without an apostrophe is printed as it is
 abbrev pub Quoted : Type 0
@@ -64,4 +70,4 @@ Quoted =
     All (λ c. c ≢ 39) text →
     16 + length text ≤ room →
     25 ≤ allowance →
-    run room allowance (first (quoting text)) ≡ record { output = text; left = []; fate = InputEnded; steps = 25; peak = 16 + length text }
+    run room allowance (first (quoting text)) ≡ quoted text

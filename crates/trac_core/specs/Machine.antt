@@ -1,8 +1,10 @@
 -- What contracts see of a machine, what a step of it answers, and what a run of it reports.
-use Rattle.std.specs.Prelude.{◌≡◌, ◌≢◌, ℕ, ◌+◌, ◌<◌, ◌≤◌, max, Bool, true, false, [], ◌++◌, length, Option, Some, None}
+use Rattle.std.specs.Prelude.{◌≡◌, ◌≢◌, ℕ, ◌+◌, ◌<◌, ◌≤◌, max, Bool, true, false, [], ◌++◌, length}
+use Rattle.std.specs.Prelude.{Option, Some, None}
 use Rattle.trac_forms.specs.Text.{Text}
 use Rattle.trac_core.specs.declared.machine.Fate.{Fate}
-use Rattle.trac_core.specs.declared.machine.Fate.TheVariants.{Halted, InputEnded, Workspace, Steps, InputFailed, OutputFailed}
+use Rattle.trac_core.specs.declared.machine.Fate.TheVariants.{Halted, InputEnded, Workspace, Steps}
+use Rattle.trac_core.specs.declared.machine.Fate.TheVariants.{InputFailed, OutputFailed}
 use Rattle.trac_core.specs.declared.machine.Report.{Report}
 use Rattle.trac_core.specs.Devices.{Stream}
 use Rattle.trac_core.specs.State.{Memory, Input, State, empty, first, size}
@@ -20,7 +22,15 @@ pub record MachineState : Type 0 where
 
 -- a machine that was just made
 abbrev pub made : ℕ → ℕ → MachineState
-made room allowance = record { memory = empty; room = room; allowance = allowance; steps = 0; peak = 0; fate = None }
+made room allowance =
+    record {
+      memory = empty;
+      room = room;
+      allowance = allowance;
+      steps = 0;
+      peak = 0;
+      fate = None;
+    }
 
 -- a machine holds to its limits
 pub record KeepsLimits (m : MachineState) : Type 0 where
@@ -106,8 +116,8 @@ pub record EndsRun (fate : Fate) (old new : Moment) : Type 0 where
   pub source : new.source.bytes ≡ old.source.bytes
   pub written : new.written ≡ old.written
 
--- one more step is done, and the moment after it stands for the next state; a source that had ended, or that was read to
--- the end by a call of `rs`, has ended
+-- one more step is done, and the moment after it stands for the next state; a source that had
+-- ended, or that was read to the end by a call of `rs`, has ended
 pub record GoesOn (old new : Moment) : Type 0 where
   pub may : MayStep old.machine (state_of old)
   pub goes : step (state_of old) ≡ Next (state_of new)
@@ -120,7 +130,8 @@ abbrev pub Answers : Moment → Option Fate → Moment → Type 0
 Answers old (Some Steps) new = StopsAtAllowance old new
 Answers old (Some Workspace) new = StopsAtRoom old new
 Answers old (Some InputFailed) new = (given : Text) × StopsAtInput old new given
-Answers old (Some OutputFailed) new = (next : State) × ((put : Text) × ((rest : Text) × StopsAtOutput old new next put rest))
+Answers old (Some OutputFailed) new =
+    (next : State) × ((put : Text) × ((rest : Text) × StopsAtOutput old new next put rest))
 Answers old (Some Halted) new = EndsRun Halted old new
 Answers old (Some InputEnded) new = EndsRun InputEnded old new
 Answers old None new = GoesOn old new
@@ -191,13 +202,15 @@ pub record RanToFailure (c : Course) (report : Report) (given : Text) : Type 0 w
   pub consumed : c.bytes ≡ given ++ c.bytes_left
   pub is_report : IsReportOf (run c.room c.allowance (first (failing given))) c report
 
--- the sink failed in the step after those reported: of what it prints, put and rest, only put was written
+-- the sink failed in the step after those reported: of what
+-- it prints, put and rest, only put was written
 pub record BrokeOff (c : Course) (report : Report) (put rest : Text) : Type 0 where
   pub allowed : report.steps < c.allowance
   pub before_step : (run_of c report.steps).fate ≡ Steps
   pub after_step : (run_of c (report.steps + 1)).fate ≡ Steps
   pub peak : report.peak ≡ (run_of c (report.steps + 1)).peak
-  pub prints : (run_of c (report.steps + 1)).output ≡ (run_of c report.steps).output ++ (put ++ rest)
+  pub prints :
+      (run_of c (report.steps + 1)).output ≡ (run_of c report.steps).output ++ (put ++ rest)
   pub some : put ++ rest ≢ []
   pub written : c.after ≡ c.before ++ ((run_of c report.steps).output ++ put)
 
@@ -222,13 +235,23 @@ course m old_source old_written new_source new_written =
       after = new_written;
     }
 
+-- the machine after a step that was done: one step more, and what it needed
+abbrev pub one_step_on : Option Fate → Memory → ℕ → MachineState → MachineState
+one_step_on fate memory needed m =
+    record m { memory = memory; steps = m.steps + 1; peak = max m.peak needed; fate = fate }
+
+-- the machine after a step in which a device failed: it isn't counted, and what it needed is
+abbrev pub broken_off : Option Fate → Memory → ℕ → MachineState → MachineState
+broken_off fate memory needed m =
+    record m { memory = memory; peak = max m.peak needed; fate = fate }
+
 -- the machine after an answer, with this memory and with what the step needed
 abbrev pub counted : MachineState → Memory → ℕ → Option Fate → MachineState
-counted m memory needed None = record m { memory = memory; steps = m.steps + 1; peak = max m.peak needed; fate = None }
-counted m memory needed (Some Halted) = record m { memory = memory; steps = m.steps + 1; peak = max m.peak needed; fate = Some Halted }
-counted m memory needed (Some InputEnded) = record m { memory = memory; steps = m.steps + 1; peak = max m.peak needed; fate = Some InputEnded }
-counted m memory needed (Some InputFailed) = record m { memory = memory; peak = max m.peak needed; fate = Some InputFailed }
-counted m memory needed (Some OutputFailed) = record m { memory = memory; peak = max m.peak needed; fate = Some OutputFailed }
+counted m memory needed None = one_step_on None memory needed m
+counted m memory needed (Some Halted) = one_step_on (Some Halted) memory needed m
+counted m memory needed (Some InputEnded) = one_step_on (Some InputEnded) memory needed m
+counted m memory needed (Some InputFailed) = broken_off (Some InputFailed) memory needed m
+counted m memory needed (Some OutputFailed) = broken_off (Some OutputFailed) memory needed m
 counted m memory needed (Some Workspace) = record m { memory = memory; fate = Some Workspace }
 counted m memory needed (Some Steps) = record m { memory = memory; fate = Some Steps }
 

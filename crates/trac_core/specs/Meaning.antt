@@ -1,5 +1,7 @@
 -- What each call means.
-use Rattle.std.specs.Prelude.{ℕ, ◌+◌, Bool, true, false, not, List, [], ◌∷◌, ◌++◌, drop, length, ℤ, pos, Option, Some, None, ◌==◌, if◌then◌else◌, codes, bytes_eq, decimal, int_lt, flat_map, filter}
+use Rattle.std.specs.Prelude.{ℕ, ◌+◌, Bool, true, false, not, List, [], ◌∷◌, ◌++◌, drop, length, ℤ}
+use Rattle.std.specs.Prelude.{pos, Option, Some, None, ◌==◌, if◌then◌else◌, codes, bytes_eq}
+use Rattle.std.specs.Prelude.{decimal, int_lt, flat_map, filter}
 use Rattle.std.specs.Fmt.{signed_decimal}
 use Rattle.std.specs.List.{before_first, position_or_len, list_any}
 use Rattle.trac_forms.specs.declared.item.Item.{Item}
@@ -11,10 +13,20 @@ use Rattle.trac_forms.specs.Store.{form_named, changed, defined}
 use Rattle.trac_core.specs.declared.machine.Fate.{Fate}
 use Rattle.trac_core.specs.declared.machine.Fate.TheVariants.{Halted, InputEnded, InputFailed}
 use Rattle.trac_core.specs.Number.{number, prefix, arith}
-use Rattle.trac_core.specs.BitString.{Bits, bits, octal, octal_prefix, union, intersection, complement, shifted, rotated}
+use Rattle.trac_core.specs.BitString.{Bits, bits, octal, octal_prefix, union, intersection}
+use Rattle.trac_core.specs.BitString.{complement, shifted, rotated}
 use Rattle.trac_core.specs.State.{Input, argument}
 use Rattle.trac_core.specs.declared.function.Function.{Function}
-use Rattle.trac_core.specs.declared.function.Function.TheVariants.{ReadString, ReadCharacter, ChangeMeta, PrintString, Halt, DefineString, SegmentString, DeleteDefinition, DeleteAll, ListNames, PrintForm, CallForm, CallSegment, CallCharacter, CallNumber, InitialPart, CallRestore, Equal, Greater, Arithmetic, Union, Intersection, Complement, Shift, Rotate}
+use Rattle.trac_core.specs.declared.function.Function.TheVariants.{ReadString, ReadCharacter}
+use Rattle.trac_core.specs.declared.function.Function.TheVariants.{ChangeMeta, PrintString, Halt}
+use Rattle.trac_core.specs.declared.function.Function.TheVariants.{DefineString, SegmentString}
+use Rattle.trac_core.specs.declared.function.Function.TheVariants.{DeleteDefinition, DeleteAll}
+use Rattle.trac_core.specs.declared.function.Function.TheVariants.{ListNames, PrintForm, CallForm}
+use Rattle.trac_core.specs.declared.function.Function.TheVariants.{CallSegment, CallCharacter}
+use Rattle.trac_core.specs.declared.function.Function.TheVariants.{CallNumber, InitialPart}
+use Rattle.trac_core.specs.declared.function.Function.TheVariants.{CallRestore, Equal, Greater}
+use Rattle.trac_core.specs.declared.function.Function.TheVariants.{Arithmetic, Union, Intersection}
+use Rattle.trac_core.specs.declared.function.Function.TheVariants.{Complement, Shift, Rotate}
 use Rattle.trac_core.specs.Part.{Part, next_segment, characters, initial_part}
 
 -- what calls read and change
@@ -23,7 +35,8 @@ pub record World : Type 0 where
   pub meta : ℕ
   pub input : Input
 
--- a value, whether it goes to the active string whatever the call's mode, the world afterwards, and what is printed
+-- a value, whether it goes to the active string whatever the
+-- call's mode, the world afterwards, and what is printed
 pub record Answer : Type 0 where
   pub value : Text
   pub forced : Bool
@@ -105,7 +118,17 @@ with_form name change world = record world { forms = changed name change world.f
 -- a part of a form is taken and its pointer moved, or z is the value
 abbrev pub take_part : Text → Option Part → Text → World → Meaning
 take_part name None z world = forced z world
-take_part name (Some part) z world = valued part.text (with_form name (λ form. record form { pointer = part.pointer }) world)
+take_part name (Some part) z world =
+    valued part.text (with_form name (λ form. record form { pointer = part.pointer }) world)
+
+-- the form with gaps in place of the texts that the call gives, and the pointer at the start
+abbrev pub segmented : List Text → Form → Form
+segmented args form =
+    record form { body = segment_by (drop 2 args) 1 form.body; pointer = 0 }
+
+-- whether the call gives the form's name
+abbrev pub is_listed : List Text → Form → Bool
+is_listed args form = list_any (bytes_eq form.name) (drop 1 args)
 
 -- the prefix and the result, or z
 abbrev pub result_or : Option ℤ → Text → Text → World → Meaning
@@ -116,6 +139,19 @@ result_or (Some n) before z world = valued (before ++ signed_decimal n) world
 abbrev pub bits_result : Text → Bits → World → Meaning
 bits_result before l world = valued (before ++ octal l) world
 
+-- the form that the first argument after the function's name names
+abbrev pub form_of_call : List Text → World → Option Form
+form_of_call args world = form_named (argument args 1) world.forms
+
+-- the meaning where there is such a form
+abbrev pub on_form_of_call : List Text → World → (Form → Meaning) → Meaning
+on_form_of_call args world meaning = on_form (form_of_call args world) meaning world
+
+-- a part of that form is taken, or z is the value
+abbrev pub take_of_call : List Text → World → (Form → Option Part) → Text → Meaning
+take_of_call args world part z =
+    on_form_of_call args world (λ form. take_part (argument args 1) (part form) z world)
+
 -- what a function makes of the arguments
 unfoldable pub meaning_of : Function → List Text → World → Meaning
 meaning_of ReadString args world = read_string (before_meta world) (from_meta world) world
@@ -123,26 +159,55 @@ meaning_of ReadCharacter args world = read_character world.input.text world.inpu
 meaning_of ChangeMeta args world = change_meta (argument args 1) world
 meaning_of PrintString args world = printing (argument args 1) world
 meaning_of Halt args world = Ends Halted
-meaning_of DefineString args world = silent (record world { forms = defined (argument args 1) (argument args 2) world.forms })
-meaning_of SegmentString args world = on_form (form_named (argument args 1) world.forms) (λ form. silent (with_form (argument args 1) (λ form. record form { body = segment_by (drop 2 args) 1 form.body; pointer = 0 }) world)) world
-meaning_of DeleteDefinition args world = silent (record world { forms = filter (λ form. not (list_any (bytes_eq form.name) (drop 1 args))) world.forms })
+meaning_of DefineString args world =
+    silent (record world { forms = defined (argument args 1) (argument args 2) world.forms })
+meaning_of SegmentString args world =
+    on_form_of_call args world (λ form. silent (with_form (argument args 1) (segmented args) world))
+meaning_of DeleteDefinition args world =
+    silent (record world { forms = filter (λ form. not (is_listed args form)) world.forms })
 meaning_of DeleteAll args world = silent (record world { forms = [] })
-meaning_of ListNames args world = valued (flat_map (λ form. argument args 1 ++ form.name) world.forms) world
-meaning_of PrintForm args world = on_form (form_named (argument args 1) world.forms) (λ form. printing (show_form form) world) world
-meaning_of CallForm args world = on_form (form_named (argument args 1) world.forms) (λ form. valued (fill (drop 2 args) (after_pointer form)) world) world
-meaning_of CallSegment args world = on_form (form_named (argument args 1) world.forms) (λ form. take_part (argument args 1) (next_segment form) (argument args 2) world) world
-meaning_of CallCharacter args world = on_form (form_named (argument args 1) world.forms) (λ form. take_part (argument args 1) (characters (pos 1) form) (argument args 2) world) world
-meaning_of CallNumber args world = on_form (form_named (argument args 1) world.forms) (λ form. take_part (argument args 1) (characters (number (argument args 2)) form) (argument args 3) world) world
-meaning_of InitialPart args world = on_form (form_named (argument args 1) world.forms) (λ form. take_part (argument args 1) (initial_part (argument args 2) form) (argument args 3) world) world
-meaning_of CallRestore args world = on_form (form_named (argument args 1) world.forms) (λ form. silent (with_form (argument args 1) (λ form. record form { pointer = 0 }) world)) world
-meaning_of Equal args world = valued (if bytes_eq (argument args 1) (argument args 2) then argument args 3 else argument args 4) world
-meaning_of Greater args world = valued (if int_lt (number (argument args 2)) (number (argument args 1)) then argument args 3 else argument args 4) world
-meaning_of (Arithmetic operation) args world = result_or (arith operation (number (argument args 1)) (number (argument args 2))) (prefix (argument args 1)) (argument args 3) world
-meaning_of Union args world = bits_result (octal_prefix (argument args 1)) (union (bits (argument args 1)) (bits (argument args 2))) world
-meaning_of Intersection args world = bits_result (octal_prefix (argument args 1)) (intersection (bits (argument args 1)) (bits (argument args 2))) world
-meaning_of Complement args world = bits_result (octal_prefix (argument args 1)) (complement (bits (argument args 1))) world
-meaning_of Shift args world = bits_result (octal_prefix (argument args 2)) (shifted (number (argument args 1)) (bits (argument args 2))) world
-meaning_of Rotate args world = bits_result (octal_prefix (argument args 2)) (rotated (number (argument args 1)) (bits (argument args 2))) world
+meaning_of ListNames args world =
+    valued (flat_map (λ form. argument args 1 ++ form.name) world.forms) world
+meaning_of PrintForm args world =
+    on_form_of_call args world (λ form. printing (show_form form) world)
+meaning_of CallForm args world =
+    on_form_of_call args world (λ form. valued (fill (drop 2 args) (after_pointer form)) world)
+meaning_of CallSegment args world = take_of_call args world next_segment (argument args 2)
+meaning_of CallCharacter args world =
+    take_of_call args world (characters (pos 1)) (argument args 2)
+meaning_of CallNumber args world =
+    take_of_call args world (characters (number (argument args 2))) (argument args 3)
+meaning_of InitialPart args world =
+    take_of_call args world (initial_part (argument args 2)) (argument args 3)
+meaning_of CallRestore args world =
+    on_form_of_call args world
+    (λ form. silent (with_form (argument args 1) (λ form. record form { pointer = 0 }) world))
+meaning_of Equal args world =
+    valued
+    (if bytes_eq (argument args 1) (argument args 2) then argument args 3 else argument args 4)
+    world
+meaning_of Greater args world =
+    valued
+    (if int_lt (number (argument args 2)) (number (argument args 1)) then argument args 3
+    else argument args 4)
+    world
+meaning_of (Arithmetic operation) args world =
+    result_or (arith operation (number (argument args 1)) (number (argument args 2)))
+    (prefix (argument args 1)) (argument args 3) world
+meaning_of Union args world =
+    bits_result (octal_prefix (argument args 1))
+    (union (bits (argument args 1)) (bits (argument args 2))) world
+meaning_of Intersection args world =
+    bits_result (octal_prefix (argument args 1))
+    (intersection (bits (argument args 1)) (bits (argument args 2))) world
+meaning_of Complement args world =
+    bits_result (octal_prefix (argument args 1)) (complement (bits (argument args 1))) world
+meaning_of Shift args world =
+    bits_result (octal_prefix (argument args 2))
+    (shifted (number (argument args 1)) (bits (argument args 2))) world
+meaning_of Rotate args world =
+    bits_result (octal_prefix (argument args 2))
+    (rotated (number (argument args 1)) (bits (argument args 2))) world
 
 -- a name that is no function gives a null value
 abbrev pub meaning : Option Function → List Text → World → Meaning

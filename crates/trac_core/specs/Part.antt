@@ -1,5 +1,7 @@
 -- The parts of a form that calls take.
-use Rattle.std.specs.Prelude.{ℕ, zero, suc, ◌+◌, ◌-◌, min, List, [], ◌∷◌, take, length, reverse, ℤ, pos, negsuc, Option, Some, None, if◌then◌else◌, nat_lt, take_while}
+use Rattle.std.specs.Prelude.{ℕ, zero, suc, ◌+◌, ◌-◌, min, List, [], ◌∷◌, take, length, reverse, ℤ}
+use Rattle.std.specs.Prelude.{pos, negsuc, Option, Some, None, if◌then◌else◌, nat_lt, take_while}
+use Rattle.std.specs.Prelude.{slice_range}
 use Rattle.trac_forms.specs.declared.item.Item.{Item}
 use Rattle.trac_forms.specs.declared.item.Item.TheVariants.{Byte, Gap}
 use Rattle.trac_forms.specs.Text.{Text}
@@ -10,6 +12,15 @@ use Rattle.trac_forms.specs.Segment.{place_of}
 pub record Part : Type 0 where
   pub text : Text
   pub pointer : ℕ
+
+-- the characters of a body between two places
+abbrev pub characters_between : List Item → ℕ → ℕ → Text
+characters_between body from to = text_of (slice_range body from to)
+
+-- these characters, with the pointer afterwards
+abbrev pub part_between : List Item → ℕ × ℕ → ℕ → Part
+part_between body places pointer =
+    record { text = characters_between body places.0 places.1; pointer = pointer }
 
 -- the shortest prefix with n characters, or all items where there are fewer
 abbrev pub first_characters : ℕ → List Item → List Item
@@ -25,10 +36,17 @@ last_characters n items = reverse (first_characters n (reverse items))
 -- the characters up to the next gap; the pointer goes past the gap
 abbrev pub segment_from : ℕ → List Item → List Item → Option Part
 segment_from pointer [] front = None
-segment_from pointer (item ∷ items) front = Some (record { text = text_of front; pointer = if nat_lt (length front) (length (item ∷ items)) then pointer + length front + 1 else pointer + length front })
+segment_from pointer (item ∷ items) front =
+    Some (record {
+      text = text_of front;
+      pointer =
+          if nat_lt (length front) (length (item ∷ items)) then pointer + length front + 1
+          else pointer + length front;
+    })
 
 abbrev pub next_segment : Form → Option Part
-next_segment form = segment_from form.pointer (after_pointer form) (take_while is_character (after_pointer form))
+next_segment form =
+    segment_from form.pointer (after_pointer form) (take_while is_character (after_pointer form))
 
 -- a part that has a character
 abbrev pub unless_null : Part → Option Part
@@ -44,11 +62,15 @@ backward form u = unless_null (record { text = text_of u; pointer = form.pointer
 
 -- the next n characters after the pointer, all of them where fewer follow
 abbrev pub next_characters : ℕ → Form → Option Part
-next_characters n form = forward form (first_characters (min n (length (text_of (after_pointer form)))) (after_pointer form))
+next_characters n form =
+    forward form
+    (first_characters (min n (length (text_of (after_pointer form)))) (after_pointer form))
 
 -- the last n characters before the pointer, all of them where there are fewer
 abbrev pub previous_characters : ℕ → Form → Option Part
-previous_characters n form = backward form (last_characters (min n (length (text_of (before_pointer form)))) (before_pointer form))
+previous_characters n form =
+    backward form
+    (last_characters (min n (length (text_of (before_pointer form)))) (before_pointer form))
 
 -- so many characters forward, or backward where the number is negative
 abbrev pub characters : ℤ → Form → Option Part
@@ -59,7 +81,11 @@ characters (negsuc n) form = previous_characters (suc n) form
 -- the characters before the first occurrence of the text; the pointer goes past it
 abbrev pub up_to : Option ℕ → Text → Form → Option Part
 up_to None text form = None
-up_to (Some i) text form = Some (record { text = text_of (take i (after_pointer form)); pointer = form.pointer + i + length text })
+up_to (Some i) text form =
+    Some (record {
+      text = text_of (take i (after_pointer form));
+      pointer = form.pointer + i + length text;
+    })
 
 abbrev pub initial_part : Text → Form → Option Part
 initial_part [] form = Some (record { text = []; pointer = form.pointer })

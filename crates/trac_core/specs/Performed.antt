@@ -1,9 +1,11 @@
 -- The function that the next step performs.
 use Rattle.std.specs.Prelude.{Bool, true, false, List, [], ◌∷◌, Option, Some, None}
 use Rattle.trac_core.specs.declared.function.Function.{Function}
-use Rattle.trac_core.specs.declared.function.Function.TheVariants.{ReadString, ReadCharacter, PrintString, PrintForm}
+use Rattle.trac_core.specs.declared.function.Function.TheVariants.{ReadString, ReadCharacter}
+use Rattle.trac_core.specs.declared.function.Function.TheVariants.{PrintString, PrintForm}
 use Rattle.trac_core.specs.State.{OpenCall, Memory}
-use Rattle.trac_core.specs.Rule.{Rule, LoadIdling, DeleteLayout, AddProtected, ClearActive, BeginArgument, BeginCall, EndCall, AddCharacter, rule}
+use Rattle.trac_core.specs.Rule.{Rule, LoadIdling, DeleteLayout, AddProtected, ClearActive}
+use Rattle.trac_core.specs.Rule.{BeginArgument, BeginCall, EndCall, AddCharacter, rule}
 use Rattle.trac_core.specs.Step.{function_of}
 
 -- the function of the innermost of these calls, if the rule performs it

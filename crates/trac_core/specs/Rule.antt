@@ -1,5 +1,6 @@
 -- The rules of scanning: which one fits the beginning of the active string.
-use Rattle.std.specs.Prelude.{ℕ, Bool, ◌||◌, [], ◌∷◌, drop, Option, Some, None, ◌==◌, if◌then◌else◌, codes, bytes_eq, take}
+use Rattle.std.specs.Prelude.{ℕ, Bool, ◌||◌, [], ◌∷◌, drop, Option, Some, None, ◌==◌, if◌then◌else◌}
+use Rattle.std.specs.Prelude.{codes, bytes_eq, take}
 use Rattle.trac_space.specs.declared.cell.Mode.{Mode}
 use Rattle.trac_space.specs.declared.cell.Mode.TheVariants.{Active, Neutral}
 use Rattle.trac_forms.specs.Text.{Text}

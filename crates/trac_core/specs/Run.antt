@@ -2,11 +2,13 @@
 use Rattle.std.specs.Prelude.{ℕ, zero, suc, max, Bool, true, false, nat_lt}
 use Rattle.trac_forms.specs.Text.{Text}
 use Rattle.trac_core.specs.declared.machine.Fate.{Fate}
-use Rattle.trac_core.specs.declared.machine.Fate.TheVariants.{Halted, InputEnded, Workspace, Steps, InputFailed, OutputFailed}
+use Rattle.trac_core.specs.declared.machine.Fate.TheVariants.{Halted, InputEnded, Workspace, Steps}
+use Rattle.trac_core.specs.declared.machine.Fate.TheVariants.{InputFailed, OutputFailed}
 use Rattle.trac_core.specs.State.{State}
 use Rattle.trac_core.specs.Step.{Outcome, Next, Over, step, need}
 
--- what a run gives: its output, the input that it leaves, how it ended, the steps done and the greatest need
+-- what a run gives: its output, the input that it leaves,
+-- how it ended, the steps done and the greatest need
 pub record Run : Type 0 where
   pub output : Text
   pub left : Text
@@ -25,15 +27,30 @@ counted OutputFailed = 0
 
 -- the run is over before its next step
 abbrev pub stopped : Fate → State → Run
-stopped fate state = record { output = state.output; left = state.input.text; fate = fate; steps = 0; peak = 0 }
+stopped fate state =
+    record { output = state.output; left = state.input.text; fate = fate; steps = 0; peak = 0 }
 
 -- a run after one more step
 abbrev pub one_more : ℕ → Run → Run
-one_more cells run = record { output = run.output; left = run.left; fate = run.fate; steps = suc run.steps; peak = max cells run.peak }
+one_more cells run =
+    record {
+      output = run.output;
+      left = run.left;
+      fate = run.fate;
+      steps = suc run.steps;
+      peak = max cells run.peak;
+    }
 
 -- what follows a step, which needed so many cells
 abbrev pub go_on : ℕ → Outcome → State → (State → Run) → Run
-go_on cells (Over fate) state rest = record { output = state.output; left = state.input.text; fate = fate; steps = counted fate; peak = cells }
+go_on cells (Over fate) state rest =
+    record {
+      output = state.output;
+      left = state.input.text;
+      fate = fate;
+      steps = counted fate;
+      peak = cells;
+    }
 go_on cells (Next next) state rest = one_more cells (rest next)
 
 -- a step whose need may be greater than the room

@@ -1,15 +1,21 @@
 -- What contracts say of the devices over memory.
-use Rattle.std.specs.Prelude.{◌≡◌, ℕ, ◌+◌, Bool, true, false, List, [], ◌∷◌, Option, Some, None, length, take, if◌then◌else◌, nat_le}
+use Rattle.std.specs.Prelude.{◌≡◌, ℕ, ◌+◌, Bool, true, false, List, [], ◌∷◌, Option, Some, None}
+use Rattle.std.specs.Prelude.{length, take, if◌then◌else◌, nat_le}
 use Rattle.trac_core.specs.declared.device.Next.{Next}
 use Rattle.trac_core.specs.declared.device.Next.TheVariants.{Byte, End, Failed}
+use Rattle.trac_core.specs.Devices.{Stream}
 
--- a source over memory: the bytes that it gives, whether a failure or the end follows them, whether it has ended, and
--- its failures so far
+-- a source over memory: the bytes that it gives, whether a failure or the end follows them, whether
+-- it has ended, and its failures so far
 pub record SliceInput : Type 0 where
   pub bytes : List ℕ
   pub fails : Bool
   pub ended : Bool
   pub failures : ℕ
+
+-- where a source over memory stands
+abbrev pub stream_in : SliceInput → Stream
+stream_in s = record { bytes = s.bytes; ended = s.ended }
 
 -- a source that gives these bytes and then ends, or fails at a place within them
 abbrev pub slice_input : List ℕ → Option ℕ → SliceInput
@@ -44,8 +50,8 @@ IfTells None ended = ⊥
 IfTells (Some bytes) true = bytes ≡ []
 IfTells (Some bytes) false = Unit {0}
 
--- a sink over memory: what was written, for how many bytes there is room, the flushes up to the one that fails, the
--- failures so far, and whether all that was taken has been sent on
+-- a sink over memory: what was written, for how many bytes there is room, the flushes up to the one
+-- that fails, the failures so far, and whether all that was taken has been sent on
 pub record SliceOutput : Type 0 where
   pub written : List ℕ
   pub room : ℕ

@@ -50,12 +50,15 @@ call_cells call = 1 + (length call.last + sum_by (λ text. length text + 1) call
 
 -- the cells of the strings and of all forms
 abbrev pub size : Memory → ℕ
-size memory = length memory.active + length memory.base + sum_by call_cells memory.calls + cells memory.forms
+size memory =
+    length memory.active + length memory.base + sum_by call_cells memory.calls + cells memory.forms
 
--- the text at the end of the last argument of the innermost open call, or of the base text where no call is open
+-- the text at the end of the last argument of the innermost
+-- open call, or of the base text where no call is open
 abbrev pub add_to : List OpenCall → Text → Memory → Memory
 add_to [] text memory = record memory { base = memory.base ++ text }
-add_to (call ∷ outer) text memory = record memory { calls = record call { last = call.last ++ text } ∷ outer }
+add_to (call ∷ outer) text memory =
+    record memory { calls = record call { last = call.last ++ text } ∷ outer }
 
 abbrev pub add : Text → Memory → Memory
 add text memory = add_to memory.calls text memory

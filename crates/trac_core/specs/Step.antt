@@ -1,16 +1,19 @@
 -- One step.
-use Rattle.std.specs.Prelude.{ℕ, ◌+◌, ◌-◌, Bool, true, false, List, [], ◌∷◌, ◌++◌, Option, None, Some, codes, not, ◌&&◌, ◌==◌}
+use Rattle.std.specs.Prelude.{ℕ, ◌+◌, ◌-◌, Bool, true, false, List, [], ◌∷◌, ◌++◌, Option, None}
+use Rattle.std.specs.Prelude.{Some, codes, not, ◌&&◌, ◌==◌}
 use Rattle.std.specs.List.{list_any}
 use Rattle.trac_space.specs.declared.cell.Mode.{Mode}
 use Rattle.trac_space.specs.declared.cell.Mode.TheVariants.{Active, Neutral}
 use Rattle.trac_forms.specs.Text.{Text}
 use Rattle.trac_forms.specs.Store.{cells}
 use Rattle.trac_core.specs.declared.machine.Fate.{Fate}
-use Rattle.trac_core.specs.State.{OpenCall, Memory, State, arguments, argument, size, add, begin_argument, begin_call}
+use Rattle.trac_core.specs.State.{OpenCall, Memory, State, arguments, argument, size, add}
+use Rattle.trac_core.specs.State.{begin_argument, begin_call}
 use Rattle.trac_core.specs.declared.function.Function.{Function}
 use Rattle.trac_core.specs.Function.{function_named, is_read_string}
 use Rattle.trac_core.specs.Meaning.{World, Meaning, Gives, Ends, meaning, built}
-use Rattle.trac_core.specs.Rule.{Rule, LoadIdling, DeleteLayout, AddProtected, ClearActive, BeginArgument, BeginCall, EndCall, AddCharacter, rule}
+use Rattle.trac_core.specs.Rule.{Rule, LoadIdling, DeleteLayout, AddProtected, ClearActive}
+use Rattle.trac_core.specs.Rule.{BeginArgument, BeginCall, EndCall, AddCharacter, rule}
 
 -- a step gives the next state or ends the run
 pub data Outcome : Type 0 where
@@ -26,7 +29,8 @@ abbrev pub function_of : OpenCall → Option Function
 function_of call = function_named (argument (arguments call) 0)
 
 abbrev pub world_of : State → World
-world_of state = record { forms = state.memory.forms; meta = state.memory.meta; input = state.input }
+world_of state =
+    record { forms = state.memory.forms; meta = state.memory.meta; input = state.input }
 
 -- the value before the active string, or at the end of the neutral string
 abbrev pub deliver : Mode → Bool → Text → Memory → Memory
@@ -38,7 +42,9 @@ deliver Neutral false value memory = add value memory
 abbrev pub perform : Mode → Meaning → State → Outcome
 perform mode (Ends fate) state = Over fate
 perform mode (Gives answer) state = Next (record {
-  memory = deliver mode answer.forced answer.value (record state.memory { forms = answer.world.forms; meta = answer.world.meta });
+  memory =
+      deliver mode answer.forced answer.value
+      (record state.memory { forms = answer.world.forms; meta = answer.world.meta });
   input = answer.world.input;
   output = state.output ++ answer.printed;
 })
@@ -46,7 +52,9 @@ perform mode (Gives answer) state = Next (record {
 -- the innermost open call is performed; with no open call nothing else happens
 abbrev pub end_call : List OpenCall → State → Outcome
 end_call [] state = Next state
-end_call (call ∷ outer) state = perform call.mode (meaning (function_of call) (arguments call) (world_of state)) (record state { memory = record state.memory { calls = outer } })
+end_call (call ∷ outer) state =
+    perform call.mode (meaning (function_of call) (arguments call) (world_of state))
+    (record state { memory = record state.memory { calls = outer } })
 
 -- the state with another memory
 abbrev pub with_memory : Memory → State → State
@@ -57,14 +65,21 @@ abbrev pub with_active : Text → State → State
 with_active text state = with_memory (record state.memory { active = text }) state
 
 abbrev pub follow : Rule → State → Outcome
-follow LoadIdling state = Next (with_memory (record state.memory { active = idling; base = []; calls = [] }) state)
+follow LoadIdling state =
+    Next (with_memory (record state.memory { active = idling; base = []; calls = [] }) state)
 follow (DeleteLayout rest) state = Next (with_active rest state)
-follow (AddProtected inside rest) state = Next (with_memory (add inside (record state.memory { active = rest })) state)
+follow (AddProtected inside rest) state =
+    Next (with_memory (add inside (record state.memory { active = rest })) state)
 follow ClearActive state = Next (with_active [] state)
-follow (BeginArgument rest) state = Next (with_memory (record state.memory { active = rest; calls = begin_argument state.memory.calls }) state)
-follow (BeginCall mode rest) state = Next (with_memory (record state.memory { active = rest; calls = begin_call mode state.memory.calls }) state)
+follow (BeginArgument rest) state =
+    Next (with_memory
+    (record state.memory { active = rest; calls = begin_argument state.memory.calls }) state)
+follow (BeginCall mode rest) state =
+    Next (with_memory
+    (record state.memory { active = rest; calls = begin_call mode state.memory.calls }) state)
 follow (EndCall rest) state = end_call state.memory.calls (with_active rest state)
-follow (AddCharacter c rest) state = Next (with_memory (add (c ∷ []) (record state.memory { active = rest })) state)
+follow (AddCharacter c rest) state =
+    Next (with_memory (add (c ∷ []) (record state.memory { active = rest })) state)
 
 -- the next state, or an end
 unfoldable pub step : State → Outcome
@@ -73,7 +88,8 @@ step state = follow (rule state.memory.active) state
 -- the cells that a right parenthesis needs
 abbrev pub end_need : List OpenCall → State → ℕ
 end_need [] state = size state.memory
-end_need (call ∷ outer) state = size state.memory - 1 + built (function_of call) (arguments call) (world_of state)
+end_need (call ∷ outer) state =
+    size state.memory - 1 + built (function_of call) (arguments call) (world_of state)
 
 abbrev pub need_by : Rule → State → ℕ
 need_by LoadIdling state = cells state.memory.forms + 11
@@ -92,7 +108,8 @@ need state = need_by (rule state.memory.active) state
 -- whether a call reads a text that no meta character follows
 abbrev pub reads_last : Option Function → World → Bool
 reads_last None world = false
-reads_last (Some function) world = is_read_string function && not (list_any (λ c. c == world.meta) world.input.text)
+reads_last (Some function) world =
+    is_read_string function && not (list_any (λ c. c == world.meta) world.input.text)
 
 abbrev pub end_reads_last : List OpenCall → World → Bool
 end_reads_last [] world = false

@@ -2,16 +2,22 @@
 use Rattle.std.specs.Prelude.{◌==◌, if◌then◌else◌}
 use Rattle.trac_space.specs.declared.cell.Mode.TheVariants.{Active, Neutral as NeutralMode}
 use Rattle.trac_core.specs.declared.machine.view.ScanningRule.{ScanningRule}
-use Rattle.trac_core.specs.declared.machine.view.ScanningRule.TheVariants.{Idling, Layout, Protection, Argument, ActiveCall, NeutralCall, NumberSign, EndOfCall, Character}
+use Rattle.trac_core.specs.declared.machine.view.ScanningRule.TheVariants.{Idling, Layout}
+use Rattle.trac_core.specs.declared.machine.view.ScanningRule.TheVariants.{Protection, Argument}
+use Rattle.trac_core.specs.declared.machine.view.ScanningRule.TheVariants.{ActiveCall, NeutralCall}
+use Rattle.trac_core.specs.declared.machine.view.ScanningRule.TheVariants.{NumberSign, EndOfCall}
+use Rattle.trac_core.specs.declared.machine.view.ScanningRule.TheVariants.{Character}
 use Rattle.trac_core.specs.State.{Memory}
 use Rattle.trac_core.specs.Flat.{Neutral}
-use Rattle.trac_core.specs.Rule.{Rule, LoadIdling, DeleteLayout, AddProtected, ClearActive, BeginArgument, BeginCall, EndCall, AddCharacter}
+use Rattle.trac_core.specs.Rule.{Rule, LoadIdling, DeleteLayout, AddProtected, ClearActive}
+use Rattle.trac_core.specs.Rule.{BeginArgument, BeginCall, EndCall, AddCharacter}
 
 -- the neutral string of a memory
 abbrev pub neutral_in : Memory → Neutral
 neutral_in memory = record { base = memory.base; calls = memory.calls }
 
--- the row of the table of scanning rules in which a rule stands; a left parenthesis has one row, with a match and without
+-- the row of the table of scanning rules in which a rule stands;
+-- a left parenthesis has one row, with a match and without
 abbrev pub row_of : Rule → ScanningRule
 row_of LoadIdling = Idling
 row_of (DeleteLayout rest) = Layout

@@ -13,13 +13,15 @@ use crate::writing::put_bytes;
 use itoa::Buffer;
 use trac_forms::Work;
 
-/// `ad,N1,N2,Z`, `su,N1,N2,Z`, `ml,N1,N2,Z` and `dv,N1,N2,Z`: the prefix of N1 and after it the sum, difference, product or
-/// quotient of the numbers of N1 and N2 in decimal (Mooers 1966). Z, which goes to the active string whatever the call's
-/// mode, where a number or the result is outside the range of arithmetic or a divisor is 0; the range and that the quotient
-/// is rounded towards 0 are this processor's own choice.
+/// `ad,N1,N2,Z`, `su,N1,N2,Z`, `ml,N1,N2,Z` and `dv,N1,N2,Z`: the prefix of N1 and after it the
+/// sum, difference, product or quotient of the numbers of N1 and N2 in decimal (Mooers 1966). Z,
+/// which goes to the active string whatever the call's mode, where a number or the result is
+/// outside the range of arithmetic or a divisor is 0; the range and that the quotient is rounded
+/// towards 0 are this processor's own choice.
 pub(crate) fn arithmetic(work: &mut Work, operation: Arith, mut arguments: Arguments) -> Made
     requires { AreArguments work.old arguments }
-    ensures makes { (name : Text) → Makes (Arithmetic operation) (name ∷ texts work.old arguments) work.old result work.new }
+    ensures makes { (name : Text) →
+        Makes (Arithmetic operation) (name ∷ texts work.old arguments) work.old result work.new }
     ensures room { work.new.room ≡ work.old.room }
     ensures sound { IsSound work.new }
 {
@@ -38,7 +40,9 @@ pub(crate) fn arithmetic(work: &mut Work, operation: Arith, mut arguments: Argum
 fn give_number(work: &mut Work, prefix: (u32, u32), number: i128) -> Made
     requires prefix { IsTextPart work.old.neutral prefix.0 prefix.1 }
     ensures makes { (function : Function) (args : List Text) →
-        Valued function args work.old.forms (part_text work.old.neutral prefix.0 prefix.1 ++ signed_decimal number) false work.old.forms →
+        let before = part_text work.old.neutral prefix.0 prefix.1 in
+        let value = before ++ signed_decimal number in
+        Valued function args work.old.forms value false work.old.forms →
         Makes function args work.old result work.new }
     ensures room { work.new.room ≡ work.old.room }
     ensures sound { IsSound work.new }

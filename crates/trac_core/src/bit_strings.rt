@@ -5,16 +5,18 @@ ghost use Rattle.trac_forms.specs.FlatForms.{flat_text};
 ghost use Rattle.trac_forms.specs.Contents.{used, part_text, IsTextPart, IsSound};
 ghost use Rattle.trac_core.specs.BitString.{bits, octal, octal_prefix};
 ghost use Rattle.trac_core.specs.Digits.{bits_of_cells, IsOctal};
-ghost use Rattle.trac_core.specs.BitResults.{bits_at, bits_made, AreDigits, AreFor};
+ghost use Rattle.trac_core.specs.BitResults.{bits_at, AreDigits, AreFor, octal_made};
 ghost use Rattle.trac_core.specs.declared.function.Function.{Function};
-ghost use Rattle.trac_core.specs.declared.function.Function.TheVariants.{Union, Intersection, Complement, Shift, Rotate};
+ghost use Rattle.trac_core.specs.declared.function.Function.TheVariants.{Union, Intersection};
+ghost use Rattle.trac_core.specs.declared.function.Function.TheVariants.{Complement, Shift, Rotate};
 ghost use Rattle.trac_core.specs.Calls.{AreArguments, texts, Valued, Makes};
 
 use crate::arguments::{Arguments, Made, put_part, text};
 use crate::values::{self, Count};
 use trac_forms::{Cell, Work};
 
-/// A result of bits, with the parts of the neutral string where the octal digits stand that it is made of.
+/// A result of bits, with the parts of the neutral string
+/// where the octal digits stand that it is made of.
 #[derive(Clone, Copy)]
 pub(crate) enum BitResult {
     Union((u32, u32), (u32, u32)),
@@ -24,11 +26,13 @@ pub(crate) enum BitResult {
     Rotation(u32, (u32, u32)),
 }
 
-/// `bu,A,B`: the prefix of A and after it the union of the bit strings of A and B in octal digits (Mooers 1966). That the
-/// shorter is filled with zeros at the left, and that the prefix of B is dropped, is this processor's own choice.
+/// `bu,A,B`: the prefix of A and after it the union of the bit strings of A and B in octal digits
+/// (Mooers 1966). That the shorter is filled with zeros at the left, and that the prefix of B is
+/// dropped, is this processor's own choice.
 pub(crate) fn union(work: &mut Work, mut arguments: Arguments) -> Made
     requires { AreArguments work.old arguments }
-    ensures makes { (name : Text) → Makes Union (name ∷ texts work.old arguments) work.old result work.new }
+    ensures makes { (name : Text) →
+        Makes Union (name ∷ texts work.old arguments) work.old result work.new }
     ensures room { work.new.room ≡ work.old.room }
     ensures sound { IsSound work.new }
 {
@@ -39,11 +43,13 @@ pub(crate) fn union(work: &mut Work, mut arguments: Arguments) -> Made
     give_bits(work, (first.0, left.0), BitResult::Union(left, right))
 }
 
-/// `bi,A,B`: the prefix of A and after it the intersection of the bit strings of A and B in octal digits (Mooers 1966).
-/// That the longer is cut at the left, and that the prefix of B is dropped, is this processor's own choice.
+/// `bi,A,B`: the prefix of A and after it the intersection of the bit strings
+/// of A and B in octal digits (Mooers 1966). That the longer is cut at the
+/// left, and that the prefix of B is dropped, is this processor's own choice.
 pub(crate) fn intersection(work: &mut Work, mut arguments: Arguments) -> Made
     requires { AreArguments work.old arguments }
-    ensures makes { (name : Text) → Makes Intersection (name ∷ texts work.old arguments) work.old result work.new }
+    ensures makes { (name : Text) →
+        Makes Intersection (name ∷ texts work.old arguments) work.old result work.new }
     ensures room { work.new.room ≡ work.old.room }
     ensures sound { IsSound work.new }
 {
@@ -58,10 +64,12 @@ pub(crate) fn intersection(work: &mut Work, mut arguments: Arguments) -> Made
     )
 }
 
-/// `bc,O`: the prefix of O and after it the octal digits of its bit string with each bit turned over (Mooers 1966).
+/// `bc,O`: the prefix of O and after it the octal digits of
+/// its bit string with each bit turned over (Mooers 1966).
 pub(crate) fn complement(work: &mut Work, mut arguments: Arguments) -> Made
     requires { AreArguments work.old arguments }
-    ensures makes { (name : Text) → Makes Complement (name ∷ texts work.old arguments) work.old result work.new }
+    ensures makes { (name : Text) →
+        Makes Complement (name ∷ texts work.old arguments) work.old result work.new }
     ensures room { work.new.room ≡ work.old.room }
     ensures sound { IsSound work.new }
 {
@@ -70,12 +78,14 @@ pub(crate) fn complement(work: &mut Work, mut arguments: Arguments) -> Made
     give_bits(work, (first.0, digits.0), BitResult::Complement(digits))
 }
 
-/// `bs,D,O`: the prefix of O and after it the octal digits of its bit string, shifted by as many bits as the number of D says,
-/// to the left where that is positive and to the right where it is negative (Mooers 1966). That zeros come in and the length
-/// is kept, and that the number may have any length, is this processor's own choice.
+/// `bs,D,O`: the prefix of O and after it the octal digits of its bit string, shifted by as many
+/// bits as the number of D says, to the left where that is positive and to the right where it is
+/// negative (Mooers 1966). That zeros come in and the length is kept, and that the number may have
+/// any length, is this processor's own choice.
 pub(crate) fn shift(work: &mut Work, mut arguments: Arguments) -> Made
     requires { AreArguments work.old arguments }
-    ensures makes { (name : Text) → Makes Shift (name ∷ texts work.old arguments) work.old result work.new }
+    ensures makes { (name : Text) →
+        Makes Shift (name ∷ texts work.old arguments) work.old result work.new }
     ensures room { work.new.room ≡ work.old.room }
     ensures sound { IsSound work.new }
 {
@@ -86,12 +96,14 @@ pub(crate) fn shift(work: &mut Work, mut arguments: Arguments) -> Made
     give_bits(work, (shifted.0, digits.0), BitResult::Shift(by, digits))
 }
 
-/// `br,D,O`: the prefix of O and after it the octal digits of its bit string, rotated by as many bits as the number of D says,
-/// to the left where that is positive and to the right where it is negative (Mooers 1966). That the length is kept, and that
-/// the number may have any length, is this processor's own choice.
+/// `br,D,O`: the prefix of O and after it the octal digits of its bit string,
+/// rotated by as many bits as the number of D says, to the left where that is
+/// positive and to the right where it is negative (Mooers 1966). That the length is
+/// kept, and that the number may have any length, is this processor's own choice.
 pub(crate) fn rotate(work: &mut Work, mut arguments: Arguments) -> Made
     requires { AreArguments work.old arguments }
-    ensures makes { (name : Text) → Makes Rotate (name ∷ texts work.old arguments) work.old result work.new }
+    ensures makes { (name : Text) →
+        Makes Rotate (name ∷ texts work.old arguments) work.old result work.new }
     ensures room { work.new.room ≡ work.old.room }
     ensures sound { IsSound work.new }
 {
@@ -108,8 +120,10 @@ fn digits_of(work: &Work, part: (u32, u32)) -> (u32, u32)
     requires { IsTextPart work.now.neutral part.0 part.1 }
     ensures digits { AreDigits work.now.neutral result }
     ensures before { IsTextPart work.now.neutral part.0 result.0 }
-    ensures prefix { part_text work.now.neutral part.0 result.0 ≡ octal_prefix (part_text work.now.neutral part.0 part.1) }
-    ensures bits { bits_at work.now.neutral result ≡ bits (part_text work.now.neutral part.0 part.1) }
+    ensures prefix { let text = part_text work.now.neutral part.0 part.1 in
+        part_text work.now.neutral part.0 result.0 ≡ octal_prefix text }
+    ensures bits { let text = part_text work.now.neutral part.0 part.1 in
+        bits_at work.now.neutral result ≡ bits text }
 {
     (part.0 + values::octal_start(text(work, part)), part.1)
 }
@@ -129,7 +143,7 @@ fn digit_cells<'a>(work: &'a Work, part: (u32, u32)) -> &'a [Cell]
 /// How many octal digits a result has.
 fn digits_made(work: &Work, bits: BitResult) -> u32
     requires { AreFor work.now.neutral bits }
-    ensures { result ≡ length (octal (bits_made work.now.neutral bits)) }
+    ensures { result ≡ length (octal_made work.now.neutral bits) }
 {
     match bits {
         BitResult::Union(a, b) => (a.1 - a.0).max(b.1 - b.0),
@@ -143,7 +157,7 @@ fn digits_made(work: &Work, bits: BitResult) -> u32
 /// The octal digit at a place of a result, counted from the left; None past its end.
 fn digit_made(work: &Work, bits: BitResult, place: u32) -> Option<u8>
     requires { AreFor work.now.neutral bits }
-    ensures { result ≡ slice_get (octal (bits_made work.now.neutral bits)) place }
+    ensures { result ≡ slice_get (octal_made work.now.neutral bits) place }
 {
     match bits {
         BitResult::Union(a, b) => {
@@ -166,8 +180,9 @@ fn digit_made(work: &Work, bits: BitResult, place: u32) -> Option<u8>
 /// Puts the octal digits of a result at the end of the neutral string, which there are cells for.
 fn put_digits(work: &mut Work, bits: BitResult)
     requires parts { AreFor work.old.neutral bits }
-    requires fits { used work.old + length (octal (bits_made work.old.neutral bits)) ≤ work.old.room }
-    ensures put { work.new ≡ record work.old { neutral = work.old.neutral ++ flat_text (octal (bits_made work.old.neutral bits)) } }
+    requires fits { used work.old + length (octal_made work.old.neutral bits) ≤ work.old.room }
+    ensures put { let digits = octal_made work.old.neutral bits in
+        work.new ≡ record work.old { neutral = work.old.neutral ++ flat_text digits } }
     ensures sound { IsSound work.new }
 {
     prove!(work.used() <= work.room());
@@ -178,12 +193,15 @@ fn put_digits(work: &mut Work, bits: BitResult)
     }
 }
 
-/// A part of the neutral string, and the octal digits of a result behind it, are the value of a call.
+/// A part of the neutral string, and the octal digits of a
+/// result behind it, are the value of a call.
 fn give_bits(work: &mut Work, prefix: (u32, u32), bits: BitResult) -> Made
     requires prefix { IsTextPart work.old.neutral prefix.0 prefix.1 }
     requires parts { AreFor work.old.neutral bits }
     ensures makes { (function : Function) (args : List Text) →
-        Valued function args work.old.forms (part_text work.old.neutral prefix.0 prefix.1 ++ octal (bits_made work.old.neutral bits)) false work.old.forms →
+        let before = part_text work.old.neutral prefix.0 prefix.1 in
+        let value = before ++ octal_made work.old.neutral bits in
+        Valued function args work.old.forms value false work.old.forms →
         Makes function args work.old result work.new }
     ensures room { work.new.room ≡ work.old.room }
     ensures sound { IsSound work.new }

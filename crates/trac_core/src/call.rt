@@ -1,16 +1,19 @@
 //! Calls: one is performed when its right parenthesis is scanned.
-ghost use Rattle.std.specs.Prelude.{◌≡◌, ◌≢◌, ℕ, ◌+◌, ◌-◌, ◌<◌, ◌≤◌, ◌^◌, List, [], ◌∷◌, ◌++◌, length, take, drop, None, Some, slice_get, All, true, false, ◌||◌};
+ghost use Rattle.std.specs.Prelude.{◌≡◌, ◌≢◌, ◌+◌, ◌-◌, ◌<◌, ◌≤◌, ◌^◌, ◌∷◌, length, drop, None};
+ghost use Rattle.std.specs.Prelude.{Some, slice_get, All, true, false, ◌||◌};
 ghost use Rattle.trac_space.specs.Calls.{IsLastCall};
 ghost use Rattle.trac_forms.specs.Text.{Text};
 ghost use Rattle.trac_forms.specs.FlatForms.{text_of_cells};
 ghost use Rattle.trac_forms.specs.Contents.{IsByte, IsSound, used};
-ghost use Rattle.trac_core.specs.Devices.{Stream, Sent};
+ghost use Rattle.trac_core.specs.Devices.{Sent};
 ghost use Rattle.trac_core.specs.Flat.{memory_of, mode_of, mode_at, is_active_mode, arguments_at};
 ghost use Rattle.trac_core.specs.Function.{is_plain};
 ghost use Rattle.trac_core.specs.Performed.{performs, reads_input, prints_output};
 ghost use Rattle.trac_core.specs.Calls.{AreArguments, texts, Makes};
 ghost use Rattle.trac_core.specs.Machine.{input_failures, output_failures};
-ghost use Rattle.trac_core.specs.Attempts.{scene, Tried, TriedCall, IsCall, function_at, delivered, TakesFrom, TakesAtMost};
+ghost use Rattle.trac_core.specs.Attempts.{scene, Tried, TriedCall, IsCall, function_at, delivered};
+ghost use Rattle.trac_core.specs.Attempts.{TakesFrom, TakesAtMost, TriedOnContents, NoneFailed};
+ghost use Rattle.trac_core.specs.Attempts.{value_delivered};
 
 use crate::arguments::{Arguments, Made, text};
 use crate::device::{Sink, Source};
@@ -33,15 +36,22 @@ pub(crate) fn advance<I: Source, O: Sink>(
     requires sink_counts { O.failure_count sink.old < 2 ^ 64 - 1 }
     requires sound { IsSound work.old }
     ensures tried { I.tells source.old → O.tells sink.old →
-        Tried (scene work.old meta.old (I.stream source.old) (O.written sink.old)) result.fate result.need
+        Tried (scene work.old meta.old (I.stream source.old) (O.written sink.old))
+        result.fate result.need
         (scene work.new meta.new (I.stream source.new) (O.written sink.new)) }
-    ensures input_failed { I.failure_count source.new ≡ I.failure_count source.old + input_failures None result.fate }
-    ensures output_failed { O.failure_count sink.new ≡ O.failure_count sink.old + output_failures None result.fate }
-    ensures sent { result.fate ≢ Some Fate.OutputFailed → Sent O.tells O.flushed O.written sink.old sink.new }
+    ensures input_failed { I.failure_count source.new ≡
+        I.failure_count source.old + input_failures None result.fate }
+    ensures output_failed { O.failure_count sink.new ≡
+        O.failure_count sink.old + output_failures None result.fate }
+    ensures sent { result.fate ≢ Some Fate.OutputFailed →
+        Sent O.tells O.flushed O.written sink.old sink.new }
     ensures unspent { result.fate ≢ Some Fate.Steps }
-    ensures unread { reads_input (performs (memory_of meta.old work.old)) ≡ false → source.new ≡ source.old }
-    ensures unprinted { prints_output (performs (memory_of meta.old work.old)) ≡ false → sink.new ≡ sink.old }
-    ensures takes { I.tells source.old → (taken : Text) × TakesAtMost work.old (I.stream source.old) (I.stream source.new) taken }
+    ensures unread { reads_input (performs (memory_of meta.old work.old)) ≡ false →
+        source.new ≡ source.old }
+    ensures unprinted { prints_output (performs (memory_of meta.old work.old)) ≡ false →
+        sink.new ≡ sink.old }
+    ensures takes { I.tells source.old → (taken : Text) ×
+        TakesAtMost work.old (I.stream source.old) (I.stream source.new) taken }
     ensures told_source { I.tells source.old → I.tells source.new }
     ensures told_sink { O.tells sink.old → O.tells sink.new }
     ensures fits { result.need ≤ work.old.room }
@@ -56,7 +66,8 @@ pub(crate) fn advance<I: Source, O: Sink>(
     scan(work)
 }
 
-/// The right parenthesis is deleted, and the innermost call, whose mark stands at the place, is performed.
+/// The right parenthesis is deleted, and the innermost
+/// call, whose mark stands at the place, is performed.
 fn close<I: Source, O: Sink>(
     work: &mut Work,
     place: u32,
@@ -70,15 +81,22 @@ fn close<I: Source, O: Sink>(
     requires sink_counts { O.failure_count sink.old < 2 ^ 64 - 1 }
     requires sound { IsSound work.old }
     ensures tried { I.tells source.old → O.tells sink.old →
-        Tried (scene work.old meta.old (I.stream source.old) (O.written sink.old)) result.fate result.need
+        Tried (scene work.old meta.old (I.stream source.old) (O.written sink.old))
+        result.fate result.need
         (scene work.new meta.new (I.stream source.new) (O.written sink.new)) }
-    ensures input_failed { I.failure_count source.new ≡ I.failure_count source.old + input_failures None result.fate }
-    ensures output_failed { O.failure_count sink.new ≡ O.failure_count sink.old + output_failures None result.fate }
-    ensures sent { result.fate ≢ Some Fate.OutputFailed → Sent O.tells O.flushed O.written sink.old sink.new }
+    ensures input_failed { I.failure_count source.new ≡
+        I.failure_count source.old + input_failures None result.fate }
+    ensures output_failed { O.failure_count sink.new ≡
+        O.failure_count sink.old + output_failures None result.fate }
+    ensures sent { result.fate ≢ Some Fate.OutputFailed →
+        Sent O.tells O.flushed O.written sink.old sink.new }
     ensures unspent { result.fate ≢ Some Fate.Steps }
-    ensures unread { reads_input (performs (memory_of meta.old work.old)) ≡ false → source.new ≡ source.old }
-    ensures unprinted { prints_output (performs (memory_of meta.old work.old)) ≡ false → sink.new ≡ sink.old }
-    ensures takes { I.tells source.old → (taken : Text) × TakesAtMost work.old (I.stream source.old) (I.stream source.new) taken }
+    ensures unread { reads_input (performs (memory_of meta.old work.old)) ≡ false →
+        source.new ≡ source.old }
+    ensures unprinted { prints_output (performs (memory_of meta.old work.old)) ≡ false →
+        sink.new ≡ sink.old }
+    ensures takes { I.tells source.old → (taken : Text) ×
+        TakesAtMost work.old (I.stream source.old) (I.stream source.new) taken }
     ensures told_source { I.tells source.old → I.tells source.new }
     ensures told_sink { O.tells sink.old → O.tells sink.new }
     ensures fits { result.need ≤ work.old.room }
@@ -89,7 +107,8 @@ fn close<I: Source, O: Sink>(
     perform(work, place, meta, source, sink)
 }
 
-/// The innermost call, whose mark stands at the place and whose right parenthesis was deleted, is performed.
+/// The innermost call, whose mark stands at the place and
+/// whose right parenthesis was deleted, is performed.
 fn perform<I: Source, O: Sink>(
     work: &mut Work,
     place: u32,
@@ -102,15 +121,22 @@ fn perform<I: Source, O: Sink>(
     requires sink_counts { O.failure_count sink.old < 2 ^ 64 - 1 }
     requires sound { IsSound work.old }
     ensures tried { I.tells source.old → O.tells sink.old →
-        TriedCall place (scene work.old meta.old (I.stream source.old) (O.written sink.old)) result.fate result.need
+        TriedCall place (scene work.old meta.old (I.stream source.old) (O.written sink.old))
+        result.fate result.need
         (scene work.new meta.new (I.stream source.new) (O.written sink.new)) }
-    ensures input_failed { I.failure_count source.new ≡ I.failure_count source.old + input_failures None result.fate }
-    ensures output_failed { O.failure_count sink.new ≡ O.failure_count sink.old + output_failures None result.fate }
-    ensures sent { result.fate ≢ Some Fate.OutputFailed → Sent O.tells O.flushed O.written sink.old sink.new }
+    ensures input_failed { I.failure_count source.new ≡
+        I.failure_count source.old + input_failures None result.fate }
+    ensures output_failed { O.failure_count sink.new ≡
+        O.failure_count sink.old + output_failures None result.fate }
+    ensures sent { result.fate ≢ Some Fate.OutputFailed →
+        Sent O.tells O.flushed O.written sink.old sink.new }
     ensures unspent { result.fate ≢ Some Fate.Steps }
-    ensures unread { reads_input (function_at work.old.neutral place) ≡ false → source.new ≡ source.old }
-    ensures unprinted { prints_output (function_at work.old.neutral place) ≡ false → sink.new ≡ sink.old }
-    ensures takes { I.tells source.old → (taken : Text) × TakesFrom work.old (I.stream source.old) (I.stream source.new) taken }
+    ensures unread { reads_input (function_at work.old.neutral place) ≡ false →
+        source.new ≡ source.old }
+    ensures unprinted { prints_output (function_at work.old.neutral place) ≡ false →
+        sink.new ≡ sink.old }
+    ensures takes { I.tells source.old → (taken : Text) ×
+        TakesFrom work.old (I.stream source.old) (I.stream source.new) taken }
     ensures told_source { I.tells source.old → I.tells source.new }
     ensures told_sink { O.tells sink.old → O.tells sink.new }
     ensures fits { result.need ≤ work.old.room }
@@ -139,8 +165,7 @@ fn perform<I: Source, O: Sink>(
 /// A call of a name that is no function has a null value (this processor's own choice).
 fn skip(work: &mut Work, place: u32) -> Attempt
     requires { IsCall work.old place None }
-    ensures tried { (meta : ℕ) (source : Stream) (written : Text) →
-        TriedCall place (scene work.old meta source written) result.fate result.need (scene work.new meta source written) }
+    ensures tried { TriedOnContents place work.old result.fate result.need work.new }
     ensures fate { result.fate ≡ None }
     ensures fits { result.need ≤ work.old.room }
     ensures room { work.new.room ≡ work.old.room }
@@ -151,15 +176,15 @@ fn skip(work: &mut Work, place: u32) -> Attempt
     Attempt { fate: None, need }
 }
 
-/// A call of a function that neither reads nor prints, nor changes the meta character, nor ends the run.
+/// A call of a function that neither reads nor prints, nor
+/// changes the meta character, nor ends the run.
 fn evaluate(work: &mut Work, place: u32, function: Function, arguments: Arguments) -> Attempt
     requires call { IsCall work.old place (Some function) }
     requires plain { is_plain function ≡ true }
     requires arguments { AreArguments work.old arguments }
     requires rest { texts work.old arguments ≡ drop 1 (arguments_at work.old.neutral place) }
-    ensures tried { (meta : ℕ) (source : Stream) (written : Text) →
-        TriedCall place (scene work.old meta source written) result.fate result.need (scene work.new meta source written) }
-    ensures fate { (result.fate ≢ Some Fate.InputFailed) × (result.fate ≢ Some Fate.OutputFailed) × (result.fate ≢ Some Fate.Steps) }
+    ensures tried { TriedOnContents place work.old result.fate result.need work.new }
+    ensures fate { NoneFailed result.fate }
     ensures fits { result.need ≤ work.old.room }
     ensures room { work.new.room ≡ work.old.room }
     ensures sound { IsSound work.new }
@@ -195,7 +220,8 @@ fn evaluate(work: &mut Work, place: u32, function: Function, arguments: Argument
 fn value_of(work: &mut Work, function: Function, arguments: Arguments) -> Made
     requires plain { is_plain function ≡ true }
     requires arguments { AreArguments work.old arguments }
-    ensures makes { (name : Text) → Makes function (name ∷ texts work.old arguments) work.old result work.new }
+    ensures makes { (name : Text) →
+        Makes function (name ∷ texts work.old arguments) work.old result work.new }
     ensures room { work.new.room ≡ work.old.room }
     ensures sound { IsSound work.new }
 {
@@ -228,15 +254,14 @@ fn value_of(work: &mut Work, function: Function, arguments: Arguments) -> Made
     }
 }
 
-/// The call whose mark stands at the place leaves, and its value, which stands from another place on, goes before the
-/// active string or stays.
+/// The call whose mark stands at the place leaves, and its value, which stands from another place
+/// on, goes before the active string or stays.
 #[inline]
 pub(crate) fn deliver(work: &mut Work, place: u32, from: u32, forced: bool)
     requires order { place < from }
     requires within { from ≤ length work.old.neutral }
     requires value { All IsByte (drop from work.old.neutral) }
-    ensures delivered { work.new ≡ delivered (mode_at work.old.neutral place) forced (text_of_cells (drop from work.old.neutral)) place
-        (record work.old { neutral = take from work.old.neutral }) }
+    ensures delivered { work.new ≡ value_delivered place from forced work.old }
     ensures sound { IsSound work.new }
 {
     if is_scanned_again(work, place, forced) {

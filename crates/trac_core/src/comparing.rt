@@ -12,7 +12,8 @@ use trac_forms::Work;
 /// `eq,A,B,X,Y`: X where A and B are the same text, else Y (Mooers 1966).
 pub(crate) fn equal(work: &mut Work, mut arguments: Arguments) -> Made
     requires { AreArguments work.old arguments }
-    ensures makes { (name : Text) → Makes Equal (name ∷ texts work.old arguments) work.old result work.new }
+    ensures makes { (name : Text) →
+        Makes Equal (name ∷ texts work.old arguments) work.old result work.new }
     ensures room { work.new.room ≡ work.old.room }
     ensures sound { IsSound work.new }
 {
@@ -28,11 +29,12 @@ pub(crate) fn equal(work: &mut Work, mut arguments: Arguments) -> Made
     give(work, value)
 }
 
-/// `gr,N1,N2,X,Y`: X where the number of N1 is greater than that of N2, else Y (Mooers 1966). That the numbers may have any
-/// length is this processor's own choice.
+/// `gr,N1,N2,X,Y`: X where the number of N1 is greater than that of N2, else Y (Mooers 1966). That
+/// the numbers may have any length is this processor's own choice.
 pub(crate) fn greater(work: &mut Work, mut arguments: Arguments) -> Made
     requires { AreArguments work.old arguments }
-    ensures makes { (name : Text) → Makes Greater (name ∷ texts work.old arguments) work.old result work.new }
+    ensures makes { (name : Text) →
+        Makes Greater (name ∷ texts work.old arguments) work.old result work.new }
     ensures room { work.new.room ≡ work.old.room }
     ensures sound { IsSound work.new }
 {

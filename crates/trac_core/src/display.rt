@@ -1,14 +1,14 @@
 //! The function that displays a form: `pf`.
-ghost use Rattle.std.specs.Prelude.{◌≡◌, ◌≢◌, ℕ, ◌+◌, ◌-◌, ◌<◌, ◌≤◌, ◌^◌, [], ◌∷◌, ◌++◌, drop, length, Some, slice_range, OnErr, OnOk, codes, decimal};
-ghost use Rattle.trac_forms.specs.Store.{form_named};
-ghost use Rattle.trac_forms.specs.Contents.{form_at, body_at, part_text, IsTextPart, IsSound};
+ghost use Rattle.std.specs.Prelude.{◌≡◌, ◌≢◌, ℕ, ◌+◌, ◌-◌, ◌<◌, ◌≤◌, ◌^◌, [], ◌∷◌, ◌++◌, drop};
+ghost use Rattle.std.specs.Prelude.{length, Some, slice_range, OnErr, OnOk, codes, decimal};
+ghost use Rattle.trac_forms.specs.Contents.{form_at, body_at, IsTextPart, IsSound};
 ghost use Rattle.trac_core.specs.Devices.{Stream, failures_of, Prints, Sent};
 ghost use Rattle.trac_core.specs.Flat.{arguments_at};
 ghost use Rattle.trac_core.specs.Calls.{AreArguments, texts};
 ghost use Rattle.trac_core.specs.Machine.{output_failures};
 ghost use Rattle.trac_core.specs.Attempts.{scene, TriedCall, IsCall};
 ghost use Rattle.trac_core.specs.Meaning.{show, show_form};
-ghost use Rattle.trac_core.specs.Display.{display};
+ghost use Rattle.trac_core.specs.Display.{display_named};
 
 use crate::arguments::Arguments;
 use crate::device::{Sink, SinkFailed};
@@ -19,8 +19,9 @@ use crate::transfer::print_bytes;
 use itoa::Buffer;
 use trac_forms::{FormId, Item, Work};
 
-/// `pf,N`: the form N is displayed, and the sink flushed once: its characters as they are, each gap as its ordinal in angle
-/// brackets, and `<^>` at the pointer. A form that isn't defined prints nothing. The display is this processor's own choice.
+/// `pf,N`: the form N is displayed, and the sink flushed once: its characters as they are, each gap
+/// as its ordinal in angle brackets, and `<^>` at the pointer. A form that isn't defined prints
+/// nothing. The display is this processor's own choice.
 pub(crate) fn print_form<O: Sink>(
     work: &mut Work,
     place: u32,
@@ -35,8 +36,10 @@ pub(crate) fn print_form<O: Sink>(
         TriedCall place (scene work.old meta source (O.written sink.old)) result.fate result.need
         (scene work.new meta source (O.written sink.new)) }
     ensures fate { (result.fate ≢ Some Fate.InputFailed) × (result.fate ≢ Some Fate.Steps) }
-    ensures output_failed { O.failure_count sink.new ≡ O.failure_count sink.old + output_failures None result.fate }
-    ensures sent { result.fate ≢ Some Fate.OutputFailed → Sent O.tells O.flushed O.written sink.old sink.new }
+    ensures output_failed { O.failure_count sink.new ≡
+        O.failure_count sink.old + output_failures None result.fate }
+    ensures sent { result.fate ≢ Some Fate.OutputFailed →
+        Sent O.tells O.flushed O.written sink.old sink.new }
     ensures told { O.tells sink.old → O.tells sink.new }
     ensures fits { result.need ≤ work.old.room }
     ensures room { work.new.room ≡ work.old.room }
@@ -62,10 +65,10 @@ fn show_named<O: Sink>(work: &mut Work, name: (u32, u32), sink: &mut O) -> Resul
     requires sound { IsSound work.old }
     requires counts { O.failure_count sink.old < 2 ^ 64 - 1 }
     ensures prints { O.tells sink.old →
-        Prints result (O.written sink.old) (display (form_named (part_text work.old.neutral name.0 name.1) work.old.forms)) (O.written sink.new) }
-    ensures some { OnErr result (display (form_named (part_text work.old.neutral name.0 name.1) work.old.forms) ≢ []) }
-    ensures untouched { display (form_named (part_text work.old.neutral name.0 name.1) work.old.forms) ≡ [] → sink.new ≡ sink.old }
-    ensures flushed { OnOk result (display (form_named (part_text work.old.neutral name.0 name.1) work.old.forms) ≢ [] → O.flushed sink.new) }
+        Prints result (O.written sink.old) (display_named work.old name) (O.written sink.new) }
+    ensures some { OnErr result (display_named work.old name ≢ []) }
+    ensures untouched { display_named work.old name ≡ [] → sink.new ≡ sink.old }
+    ensures flushed { OnOk result (display_named work.old name ≢ [] → O.flushed sink.new) }
     ensures same { work.new ≡ work.old }
     ensures told { O.tells sink.old → O.tells sink.new }
     ensures counts { O.failure_count sink.new ≡ O.failure_count sink.old + failures_of result }
@@ -80,7 +83,8 @@ fn show_named<O: Sink>(work: &mut Work, name: (u32, u32), sink: &mut O) -> Resul
 fn show_form<O: Sink>(work: &Work, form: FormId, sink: &mut O) -> Result<(), SinkFailed>
     requires known { form.0 < length work.now.forms }
     requires counts { O.failure_count sink.old < 2 ^ 64 - 1 }
-    ensures prints { O.tells sink.old → Prints result (O.written sink.old) (show_form (form_at work.now.forms form.0)) (O.written sink.new) }
+    ensures prints { let text = show_form (form_at work.now.forms form.0) in
+        O.tells sink.old → Prints result (O.written sink.old) text (O.written sink.new) }
     ensures flushed { OnOk result (O.flushed sink.new) }
     ensures told { O.tells sink.old → O.tells sink.new }
     ensures counts { O.failure_count sink.new ≡ O.failure_count sink.old + failures_of result }
@@ -104,7 +108,8 @@ fn show_items<O: Sink>(
     requires order { from ≤ to }
     requires within { to ≤ length (body_at work.now.forms form.0) }
     requires counts { O.failure_count sink.old < 2 ^ 64 - 1 }
-    ensures prints { O.tells sink.old → Prints result (O.written sink.old) (show (slice_range (body_at work.now.forms form.0) from to)) (O.written sink.new) }
+    ensures prints { let text = show (slice_range (body_at work.now.forms form.0) from to) in
+        O.tells sink.old → Prints result (O.written sink.old) text (O.written sink.new) }
     ensures told { O.tells sink.old → O.tells sink.new }
     ensures counts { O.failure_count sink.new ≡ O.failure_count sink.old + failures_of result }
 {
@@ -117,7 +122,8 @@ fn show_items<O: Sink>(
 /// Puts the display of an item into a sink.
 fn show_item<O: Sink>(item: Item, sink: &mut O) -> Result<(), SinkFailed>
     requires { O.failure_count sink.old < 2 ^ 64 - 1 }
-    ensures prints { O.tells sink.old → Prints result (O.written sink.old) (show (item ∷ [])) (O.written sink.new) }
+    ensures prints { O.tells sink.old →
+        Prints result (O.written sink.old) (show (item ∷ [])) (O.written sink.new) }
     ensures told { O.tells sink.old → O.tells sink.new }
     ensures counts { O.failure_count sink.new ≡ O.failure_count sink.old + failures_of result }
 {
@@ -130,7 +136,8 @@ fn show_item<O: Sink>(item: Item, sink: &mut O) -> Result<(), SinkFailed>
 /// Puts an ordinal in angle brackets into a sink.
 fn show_gap<O: Sink>(ordinal: u32, sink: &mut O) -> Result<(), SinkFailed>
     requires { O.failure_count sink.old < 2 ^ 64 - 1 }
-    ensures prints { O.tells sink.old → Prints result (O.written sink.old) (codes "<" ++ decimal ordinal ++ codes ">") (O.written sink.new) }
+    ensures prints { let text = codes "<" ++ decimal ordinal ++ codes ">" in
+        O.tells sink.old → Prints result (O.written sink.old) text (O.written sink.new) }
     ensures told { O.tells sink.old → O.tells sink.new }
     ensures counts { O.failure_count sink.new ≡ O.failure_count sink.old + failures_of result }
 {

@@ -1,27 +1,34 @@
 //! The functions that take a part of a form: `cs`, `cc`, `cn`, `in`, and `cr`.
-ghost use Rattle.std.specs.Prelude.{◌≡◌, ◌↔◌, ℕ, ◌+◌, ◌-◌, ◌<◌, ◌≤◌, ◌++◌, ◌∷◌, min, take, drop, reverse, length, slice_range, pos, Some, None, IsTrue, true, false};
-ghost use Rattle.std.specs.Bool.{OnTrue, OnFalse};
+ghost use Rattle.std.specs.Prelude.{◌≡◌, ◌↔◌, ℕ, ◌+◌, ◌-◌, ◌<◌, ◌≤◌, ◌++◌, ◌∷◌, min, take, drop};
+ghost use Rattle.std.specs.Prelude.{reverse, length, Some, None, IsTrue, true, false};
+ghost use Rattle.std.specs.Bool.{OnTrue};
 ghost use Rattle.trac_forms.specs.Text.{Text};
-ghost use Rattle.trac_forms.specs.Form.{text_of, after_pointer, before_pointer};
+ghost use Rattle.trac_forms.specs.Form.{text_of};
 ghost use Rattle.trac_forms.specs.FlatForms.{flat_text};
-ghost use Rattle.trac_forms.specs.Contents.{used, form_at, body_at, part_text, IsTextPart, IsSound};
-ghost use Rattle.trac_core.specs.declared.function.Function.TheVariants.{CallSegment, CallCharacter, CallNumber, InitialPart, CallRestore};
+ghost use Rattle.trac_forms.specs.Contents.{used, body_at, part_text, IsTextPart, IsSound};
+ghost use Rattle.trac_core.specs.declared.function.Function.TheVariants.{CallSegment};
+ghost use Rattle.trac_core.specs.declared.function.Function.TheVariants.{CallCharacter, CallNumber};
+ghost use Rattle.trac_core.specs.declared.function.Function.TheVariants.{InitialPart, CallRestore};
 ghost use Rattle.trac_core.specs.Digits.{signed};
-ghost use Rattle.trac_core.specs.Part.{first_characters, characters, next_characters, previous_characters, next_segment, initial_part};
+ghost use Rattle.trac_core.specs.Part.{first_characters, characters, next_characters};
+ghost use Rattle.trac_core.specs.Part.{previous_characters, next_segment, initial_part};
+ghost use Rattle.trac_core.specs.Part.{characters_between, part_between};
 ghost use Rattle.trac_core.specs.Calls.{AreArguments, texts, Makes};
-ghost use Rattle.trac_core.specs.Taking.{TakesPart, IsFirstOr};
+ghost use Rattle.trac_core.specs.Taking.{TakesPart, IsFirstOr, TakesOrDefault};
 ghost use Rattle.trac_forms.specs.Search.{character_at, gap_at};
 
 use crate::arguments::{Arguments, Made, put_part, text};
 use crate::values::number::{Count, count_of};
 use trac_forms::{FormId, Item, Work};
 
-/// `cs,N,Z`: the characters from the pointer up to the next gap, or to the end where no gap follows; the pointer goes past
-/// that gap (Mooers 1966). With the pointer at the end Z is the value, and goes to the active string whatever the call's
-/// mode; a form that isn't defined gives a null value (this processor's own choice).
+/// `cs,N,Z`: the characters from the pointer up to the next gap, or to the end where no gap
+/// follows; the pointer goes past that gap (Mooers 1966). With the pointer at the end Z is the
+/// value, and goes to the active string whatever the call's mode; a form that isn't defined gives a
+/// null value (this processor's own choice).
 pub(crate) fn call_segment(work: &mut Work, mut arguments: Arguments) -> Made
     requires { AreArguments work.old arguments }
-    ensures makes { (name : Text) → Makes CallSegment (name ∷ texts work.old arguments) work.old result work.new }
+    ensures makes { (name : Text) →
+        Makes CallSegment (name ∷ texts work.old arguments) work.old result work.new }
     ensures room { work.new.room ≡ work.old.room }
     ensures sound { IsSound work.new }
 {
@@ -38,7 +45,7 @@ fn take_segment(work: &mut Work, form: FormId, default: (u32, u32)) -> Made
     requires known { form.0 < length work.old.forms }
     requires part { IsTextPart work.old.neutral default.0 default.1 }
     requires sound { IsSound work.old }
-    ensures takes { TakesPart (next_segment (form_at work.old.forms form.0)) (part_text work.old.neutral default.0 default.1) form.0 work.old result work.new }
+    ensures takes { TakesOrDefault next_segment form.0 default work.old result work.new }
     ensures room { work.new.room ≡ work.old.room }
     ensures sound { IsSound work.new }
 {
@@ -53,10 +60,12 @@ fn take_segment(work: &mut Work, form: FormId, default: (u32, u32)) -> Made
     }
 }
 
-/// `cc,N,Z`: the next character after the pointer, gaps skipped; the pointer goes behind it (Mooers 1966). Z as for `cs`.
+/// `cc,N,Z`: the next character after the pointer, gaps skipped;
+/// the pointer goes behind it (Mooers 1966). Z as for `cs`.
 pub(crate) fn call_character(work: &mut Work, mut arguments: Arguments) -> Made
     requires { AreArguments work.old arguments }
-    ensures makes { (name : Text) → Makes CallCharacter (name ∷ texts work.old arguments) work.old result work.new }
+    ensures makes { (name : Text) →
+        Makes CallCharacter (name ∷ texts work.old arguments) work.old result work.new }
     ensures room { work.new.room ≡ work.old.room }
     ensures sound { IsSound work.new }
 {
@@ -68,12 +77,13 @@ pub(crate) fn call_character(work: &mut Work, mut arguments: Arguments) -> Made
     }
 }
 
-/// `cn,N,D,Z`: the next D characters, or the last -D before the pointer where D is negative, gaps skipped; the pointer goes
-/// to the other side of them (Mooers 1966). All of them where there are fewer; D has any length; D = 0 gives a null value;
-/// Z as for `cs` (this processor's own choice).
+/// `cn,N,D,Z`: the next D characters, or the last -D before the pointer where D is negative, gaps
+/// skipped; the pointer goes to the other side of them (Mooers 1966). All of them where there are
+/// fewer; D has any length; D = 0 gives a null value; Z as for `cs` (this processor's own choice).
 pub(crate) fn call_number(work: &mut Work, mut arguments: Arguments) -> Made
     requires { AreArguments work.old arguments }
-    ensures makes { (name : Text) → Makes CallNumber (name ∷ texts work.old arguments) work.old result work.new }
+    ensures makes { (name : Text) →
+        Makes CallNumber (name ∷ texts work.old arguments) work.old result work.new }
     ensures room { work.new.room ≡ work.old.room }
     ensures sound { IsSound work.new }
 {
@@ -92,7 +102,8 @@ fn take_characters(work: &mut Work, form: FormId, count: Count, default: (u32, u
     requires known { form.0 < length work.old.forms }
     requires part { IsTextPart work.old.neutral default.0 default.1 }
     requires sound { IsSound work.old }
-    ensures takes { TakesPart (characters (signed count.negative count.size) (form_at work.old.forms form.0)) (part_text work.old.neutral default.0 default.1) form.0 work.old result work.new }
+    ensures takes { let part = characters (signed count.negative count.size) in
+        TakesOrDefault part form.0 default work.old result work.new }
     ensures room { work.new.room ≡ work.old.room }
     ensures sound { IsSound work.new }
 {
@@ -112,7 +123,7 @@ fn take_forward(work: &mut Work, form: FormId, count: u32, default: (u32, u32)) 
     requires some { 0 < count }
     requires part { IsTextPart work.old.neutral default.0 default.1 }
     requires sound { IsSound work.old }
-    ensures takes { TakesPart (next_characters count (form_at work.old.forms form.0)) (part_text work.old.neutral default.0 default.1) form.0 work.old result work.new }
+    ensures takes { TakesOrDefault (next_characters count) form.0 default work.old result work.new }
     ensures room { work.new.room ≡ work.old.room }
     ensures sound { IsSound work.new }
 {
@@ -130,7 +141,8 @@ fn take_backward(work: &mut Work, form: FormId, count: u32, default: (u32, u32))
     requires some { 0 < count }
     requires part { IsTextPart work.old.neutral default.0 default.1 }
     requires sound { IsSound work.old }
-    ensures takes { TakesPart (previous_characters count (form_at work.old.forms form.0)) (part_text work.old.neutral default.0 default.1) form.0 work.old result work.new }
+    ensures takes { let part = previous_characters count in
+        TakesOrDefault part form.0 default work.old result work.new }
     ensures room { work.new.room ≡ work.old.room }
     ensures sound { IsSound work.new }
 {
@@ -146,7 +158,9 @@ fn take_backward(work: &mut Work, form: FormId, count: u32, default: (u32, u32))
 fn place_after(work: &Work, form: FormId, from: u32, count: u32) -> u32
     requires known { form.0 < length work.now.forms }
     requires within { from ≤ length (body_at work.now.forms form.0) }
-    ensures place { let items = drop from (body_at work.now.forms form.0) in result ≡ from + length (first_characters (min count (length (text_of items))) items) }
+    ensures place { let items = drop from (body_at work.now.forms form.0) in
+        let least = min count (length (text_of items)) in
+        result ≡ from + length (first_characters least items) }
     ensures end { result ≤ length (body_at work.now.forms form.0) }
 {
     prove!(from <= work.body_len(form));
@@ -160,11 +174,14 @@ fn place_after(work: &Work, form: FormId, from: u32, count: u32) -> u32
     place
 }
 
-/// The place of the first of the last so many characters before a place, or of the first of all of them where there are fewer.
+/// The place of the first of the last so many characters before a
+/// place, or of the first of all of them where there are fewer.
 fn place_before(work: &Work, form: FormId, to: u32, count: u32) -> u32
     requires known { form.0 < length work.now.forms }
     requires within { to ≤ length (body_at work.now.forms form.0) }
-    ensures { let items = reverse (take to (body_at work.now.forms form.0)) in result + length (first_characters (min count (length (text_of (take to (body_at work.now.forms form.0))))) items) ≡ to }
+    ensures { let items = take to (body_at work.now.forms form.0) in
+        let least = min count (length (text_of items)) in
+        result + length (first_characters least (reverse items)) ≡ to }
 {
     let mut place = to;
     for _taken in 0..count {
@@ -179,7 +196,8 @@ fn place_before(work: &Work, form: FormId, to: u32, count: u32) -> u32
 /// No part is taken: Z is the value, and goes to the active string whatever the call's mode.
 fn take_default(work: &mut Work, default: (u32, u32)) -> Made
     requires { IsTextPart work.old.neutral default.0 default.1 }
-    ensures takes { (k : ℕ) → TakesPart None (part_text work.old.neutral default.0 default.1) k work.old result work.new }
+    ensures takes { (k : ℕ) → let text = part_text work.old.neutral default.0 default.1 in
+        TakesPart None text k work.old result work.new }
     ensures room { work.new.room ≡ work.old.room }
     ensures sound { IsSound work.new }
 {
@@ -197,7 +215,9 @@ fn take_part(work: &mut Work, form: FormId, part: (u32, u32), pointer: u32) -> M
     requires within { part.1 ≤ length (body_at work.old.forms form.0) }
     requires pointer { pointer ≤ length (body_at work.old.forms form.0) }
     requires sound { IsSound work.old }
-    ensures takes { (z : Text) → TakesPart (Some (record { text = text_of (slice_range (body_at work.old.forms form.0) part.0 part.1); pointer = pointer })) z form.0 work.old result work.new }
+    ensures takes { (z : Text) →
+        let taken = part_between (body_at work.old.forms form.0) part pointer in
+        TakesPart (Some taken) z form.0 work.old result work.new }
     ensures room { work.new.room ≡ work.old.room }
     ensures sound { IsSound work.new }
 {
@@ -208,14 +228,18 @@ fn take_part(work: &mut Work, form: FormId, part: (u32, u32), pointer: u32) -> M
     Made::Value
 }
 
-/// Puts the characters of a part of the body, gaps left out, at the end of the neutral string, if there are cells for them.
+/// Puts the characters of a part of the body, gaps left out, at
+/// the end of the neutral string, if there are cells for them.
 pub(crate) fn copy_characters(work: &mut Work, form: FormId, from: u32, to: u32) -> bool
     requires known { form.0 < length work.old.forms }
     requires order { from ≤ to }
     requires within { to ≤ length (body_at work.old.forms form.0) }
     requires sound { IsSound work.old }
-    ensures put { IsTrue result ↔ (used work.old + length (text_of (slice_range (body_at work.old.forms form.0) from to)) ≤ work.old.room) }
-    ensures last { OnTrue result (work.new ≡ record work.old { neutral = work.old.neutral ++ flat_text (text_of (slice_range (body_at work.old.forms form.0) from to)) }) }
+    ensures put { let text = characters_between (body_at work.old.forms form.0) from to in
+        IsTrue result ↔ (used work.old + length text ≤ work.old.room) }
+    ensures last { let text = characters_between (body_at work.old.forms form.0) from to in
+        OnTrue result
+        (work.new ≡ record work.old { neutral = work.old.neutral ++ flat_text text }) }
     ensures room { work.new.room ≡ work.old.room }
     ensures sound { IsSound work.new }
 {
@@ -261,11 +285,13 @@ fn gap_or(work: &Work, form: FormId, from: u32, to: u32) -> u32
     to
 }
 
-/// `in,N,X,Z`: the characters from the pointer up to the first occurrence of X, which reaches across no gap; the pointer goes
-/// past it (Mooers 1966). Z where there is none, and a null value for a null X (this processor's own choice).
+/// `in,N,X,Z`: the characters from the pointer up to the first occurrence of X, which reaches
+/// across no gap; the pointer goes past it (Mooers 1966). Z where there is none, and a null value
+/// for a null X (this processor's own choice).
 pub(crate) fn initial_part(work: &mut Work, mut arguments: Arguments) -> Made
     requires { AreArguments work.old arguments }
-    ensures makes { (name : Text) → Makes InitialPart (name ∷ texts work.old arguments) work.old result work.new }
+    ensures makes { (name : Text) →
+        Makes InitialPart (name ∷ texts work.old arguments) work.old result work.new }
     ensures room { work.new.room ≡ work.old.room }
     ensures sound { IsSound work.new }
 {
@@ -284,7 +310,8 @@ fn take_initial(work: &mut Work, form: FormId, sought: (u32, u32), default: (u32
     requires sought { IsTextPart work.old.neutral sought.0 sought.1 }
     requires part { IsTextPart work.old.neutral default.0 default.1 }
     requires sound { IsSound work.old }
-    ensures takes { TakesPart (initial_part (part_text work.old.neutral sought.0 sought.1) (form_at work.old.forms form.0)) (part_text work.old.neutral default.0 default.1) form.0 work.old result work.new }
+    ensures takes { let text = part_text work.old.neutral sought.0 sought.1 in
+        TakesOrDefault (initial_part text) form.0 default work.old result work.new }
     ensures room { work.new.room ≡ work.old.room }
     ensures sound { IsSound work.new }
 {
@@ -301,7 +328,8 @@ fn take_initial(work: &mut Work, form: FormId, sought: (u32, u32), default: (u32
 /// `cr,N`: the pointer goes back to the start (Mooers 1966).
 pub(crate) fn call_restore(work: &mut Work, mut arguments: Arguments) -> Made
     requires { AreArguments work.old arguments }
-    ensures makes { (name : Text) → Makes CallRestore (name ∷ texts work.old arguments) work.old result work.new }
+    ensures makes { (name : Text) →
+        Makes CallRestore (name ∷ texts work.old arguments) work.old result work.new }
     ensures room { work.new.room ≡ work.old.room }
     ensures sound { IsSound work.new }
 {

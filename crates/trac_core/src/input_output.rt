@@ -1,13 +1,16 @@
-//! The functions that read, print, change the meta character and stop: `rs`, `rc`, `ps`, `cm`, `hl`.
-ghost use Rattle.std.specs.Prelude.{◌≡◌, ◌≢◌, ℕ, ◌+◌, ◌-◌, ◌<◌, ◌≤◌, ◌^◌, None, Some, take, drop, length, All, false, slice_get};
+//! The functions that read, print, change the meta
+//! character and stop: `rs`, `rc`, `ps`, `cm`, `hl`.
+ghost use Rattle.std.specs.Prelude.{◌≡◌, ◌≢◌, ℕ, ◌+◌, ◌-◌, ◌<◌, ◌≤◌, ◌^◌, None, Some, drop, length};
+ghost use Rattle.std.specs.Prelude.{All, false, slice_get};
 ghost use Rattle.trac_forms.specs.Text.{Text};
 ghost use Rattle.trac_forms.specs.FlatForms.{text_of_cells};
 ghost use Rattle.trac_forms.specs.Contents.{IsByte, IsSound, used};
 ghost use Rattle.trac_core.specs.Devices.{Stream, Sent};
-ghost use Rattle.trac_core.specs.Flat.{arguments_at, mode_at};
+ghost use Rattle.trac_core.specs.Flat.{arguments_at};
 ghost use Rattle.trac_core.specs.Calls.{AreArguments, texts};
 ghost use Rattle.trac_core.specs.Machine.{input_failures, output_failures};
 ghost use Rattle.trac_core.specs.Attempts.{scene, TriedCall, IsCall, delivered, TakesFrom};
+ghost use Rattle.trac_core.specs.Attempts.{TriedOnContents, value_delivered};
 
 use crate::arguments::{Arguments, text};
 use crate::call::deliver;
@@ -19,8 +22,9 @@ use crate::transfer::{ReadEnd, print_text, read_text};
 use crate::values::text::character_of;
 use trac_forms::{Cell, Work};
 
-/// `rs`: the input up to the meta character, which is consumed (Mooers 1966). A last string that no meta character follows
-/// is a value too, and the end of the input with no byte read ends the run (this processor's own choice).
+/// `rs`: the input up to the meta character, which is consumed (Mooers 1966).
+/// A last string that no meta character follows is a value too, and the end
+/// of the input with no byte read ends the run (this processor's own choice).
 pub(crate) fn read_string<I: Source>(
     work: &mut Work,
     place: u32,
@@ -33,8 +37,10 @@ pub(crate) fn read_string<I: Source>(
         TriedCall place (scene work.old meta (I.stream source.old) written) result.fate result.need
         (scene work.new meta (I.stream source.new) written) }
     ensures fate { (result.fate ≢ Some Fate.OutputFailed) × (result.fate ≢ Some Fate.Steps) }
-    ensures input_failed { I.failure_count source.new ≡ I.failure_count source.old + input_failures None result.fate }
-    ensures takes { I.tells source.old → (taken : Text) × TakesFrom work.old (I.stream source.old) (I.stream source.new) taken }
+    ensures input_failed { I.failure_count source.new ≡
+        I.failure_count source.old + input_failures None result.fate }
+    ensures takes { I.tells source.old → (taken : Text) ×
+        TakesFrom work.old (I.stream source.old) (I.stream source.new) taken }
     ensures told { I.tells source.old → I.tells source.new }
     ensures fits { result.need ≤ work.old.room }
     ensures room { work.new.room ≡ work.old.room }
@@ -73,8 +79,7 @@ fn give_back(work: &mut Work, place: u32, from: u32) -> Attempt
     requires order { place < from }
     requires within { from ≤ length work.old.neutral }
     requires value { All IsByte (drop from work.old.neutral) }
-    ensures delivered { work.new ≡ delivered (mode_at work.old.neutral place) false (text_of_cells (drop from work.old.neutral)) place
-        (record work.old { neutral = take from work.old.neutral }) }
+    ensures delivered { work.new ≡ value_delivered place from false work.old }
     ensures fate { result.fate ≡ None }
     ensures need { result.need ≡ used work.old }
     ensures fits { result.need ≤ work.old.room }
@@ -85,8 +90,8 @@ fn give_back(work: &mut Work, place: u32, from: u32) -> Attempt
     Attempt { fate: None, need }
 }
 
-/// `rc`: the next byte of the input, whatever it is (Mooers 1966). At the end of the input the run ends (this processor's
-/// own choice).
+/// `rc`: the next byte of the input, whatever it is (Mooers 1966). At
+/// the end of the input the run ends (this processor's own choice).
 pub(crate) fn read_character<I: Source>(work: &mut Work, place: u32, source: &mut I) -> Attempt
     requires call { IsCall work.old place (Some Function.ReadCharacter) }
     requires counts { I.failure_count source.old < 2 ^ 64 - 1 }
@@ -94,8 +99,10 @@ pub(crate) fn read_character<I: Source>(work: &mut Work, place: u32, source: &mu
         TriedCall place (scene work.old meta (I.stream source.old) written) result.fate result.need
         (scene work.new meta (I.stream source.new) written) }
     ensures fate { (result.fate ≢ Some Fate.OutputFailed) × (result.fate ≢ Some Fate.Steps) }
-    ensures input_failed { I.failure_count source.new ≡ I.failure_count source.old + input_failures None result.fate }
-    ensures takes { I.tells source.old → (taken : Text) × TakesFrom work.old (I.stream source.old) (I.stream source.new) taken }
+    ensures input_failed { I.failure_count source.new ≡
+        I.failure_count source.old + input_failures None result.fate }
+    ensures takes { I.tells source.old → (taken : Text) ×
+        TakesFrom work.old (I.stream source.old) (I.stream source.new) taken }
     ensures told { I.tells source.old → I.tells source.new }
     ensures fits { result.need ≤ work.old.room }
     ensures room { work.new.room ≡ work.old.room }
@@ -130,8 +137,10 @@ pub(crate) fn print_string<O: Sink>(
         TriedCall place (scene work.old meta source (O.written sink.old)) result.fate result.need
         (scene work.new meta source (O.written sink.new)) }
     ensures fate { (result.fate ≢ Some Fate.InputFailed) × (result.fate ≢ Some Fate.Steps) }
-    ensures output_failed { O.failure_count sink.new ≡ O.failure_count sink.old + output_failures None result.fate }
-    ensures sent { result.fate ≢ Some Fate.OutputFailed → Sent O.tells O.flushed O.written sink.old sink.new }
+    ensures output_failed { O.failure_count sink.new ≡
+        O.failure_count sink.old + output_failures None result.fate }
+    ensures sent { result.fate ≢ Some Fate.OutputFailed →
+        Sent O.tells O.flushed O.written sink.old sink.new }
     ensures told { O.tells sink.old → O.tells sink.new }
     ensures fits { result.need ≤ work.old.room }
     ensures room { work.new.room ≡ work.old.room }
@@ -151,8 +160,8 @@ pub(crate) fn print_string<O: Sink>(
     }
 }
 
-/// `cm,X`: the first character of X becomes the meta character (Mooers 1966); a null X changes nothing (this processor's own
-/// choice).
+/// `cm,X`: the first character of X becomes the meta character (Mooers
+/// 1966); a null X changes nothing (this processor's own choice).
 pub(crate) fn change_meta(
     work: &mut Work,
     place: u32,
@@ -182,8 +191,7 @@ pub(crate) fn change_meta(
 /// `hl`: the run ends (Mooers 1966).
 pub(crate) fn halt(work: &Work, place: u32) -> Attempt
     requires { IsCall work.now place (Some Function.Halt) }
-    ensures tried { (meta : ℕ) (source : Stream) (written : Text) →
-        TriedCall place (scene work.now meta source written) result.fate result.need (scene work.now meta source written) }
+    ensures tried { TriedOnContents place work.now result.fate result.need work.now }
     ensures fate { result.fate ≡ Some Fate.Halted }
     ensures fits { result.need ≤ work.now.room }
     ensures sound { IsSound work.now }

@@ -1,11 +1,14 @@
 //! The machine: one step, and a run to the end.
-ghost use Rattle.std.specs.Prelude.{◌≡◌, ◌≢◌, ℕ, ◌+◌, ◌-◌, ◌^◌, ◌<◌, ◌≤◌, List, length, false, true, None, Some, IsSome};
+ghost use Rattle.std.specs.Prelude.{◌≡◌, ◌≢◌, ◌+◌, ◌-◌, ◌^◌, ◌<◌, ◌≤◌, length, false, true, None};
+ghost use Rattle.std.specs.Prelude.{Some, IsSome};
 ghost use Rattle.trac_forms.specs.Text.{Text};
-ghost use Rattle.trac_core.specs.State.{Memory};
 ghost use Rattle.trac_core.specs.Devices.{Sent};
 ghost use Rattle.trac_core.specs.Performed.{performs, reads_input, prints_output};
-ghost use Rattle.trac_core.specs.Machine.{made, KeepsLimits, moment, Answers, Takes, StaysOver, input_failures, output_failures, reported_input_failures, reported_output_failures, Reports, course, counted, counts_as_step};
-ghost use Rattle.trac_core.specs.Together.{PassesTimes, passed, peak_after};
+ghost use Rattle.trac_core.specs.Machine.{made, KeepsLimits, moment, Answers, Takes, StaysOver};
+ghost use Rattle.trac_core.specs.Machine.{input_failures, output_failures, reported_input_failures};
+ghost use Rattle.trac_core.specs.Machine.{reported_output_failures, Reports, course, counted};
+ghost use Rattle.trac_core.specs.Machine.{counts_as_step};
+ghost use Rattle.trac_core.specs.Together.{peak_after, PassesSome};
 
 use crate::call::advance;
 use crate::device::{Sink, Source};
@@ -45,8 +48,9 @@ pub struct Report {
     pub peak: u32,
 }
 
-/// A processor over a lent block of cells, with an allowance of steps. It takes no other memory. The rules that it follows are
-/// Mooers' (1966 and 1972); the block, the allowance and the accounting are this processor's own choice.
+/// A processor over a lent block of cells, with an allowance of steps. It takes no other memory.
+/// The rules that it follows are Mooers' (1966 and 1972); the block, the allowance and the
+/// accounting are this processor's own choice.
 #[derive(Drop)]
 pub struct Machine<'a> {
     work: Work<'a>,
@@ -65,14 +69,21 @@ impl<'a> Model for Machine<'a> {
 
     ghost Value = { MachineState };
 
-    ghost view = { λ m. record { memory = memory_of m.meta m.work; room = m.work.room; allowance = m.allowance; steps = m.steps; peak = m.peak; fate = m.fate } };
+    ghost view = { λ m. record {
+      memory = memory_of m.meta m.work;
+      room = m.work.room;
+      allowance = m.allowance;
+      steps = m.steps;
+      peak = m.peak;
+      fate = m.fate;
+    } };
 
     ghost invariant = { λ m. (m.steps ≤ m.allowance) × (m.peak ≤ m.work.room) × IsSound m.work };
 }
 
 impl<'a> Machine<'a> {
-    /// A machine over the cells of a block, whatever they hold, with an allowance of so many steps. It has no form, and the
-    /// apostrophe is its meta character.
+    /// A machine over the cells of a block, whatever they hold, with an allowance of so many steps.
+    /// It has no form, and the apostrophe is its meta character.
     pub fn over(block: &'a mut [Cell], steps: u64) -> Machine<'a>
         requires { length block.old ≤ 16777216 }
         ensures { result ≡ made (length block.old) steps }
@@ -101,8 +112,8 @@ impl<'a> Machine<'a> {
         self.peak
     }
 
-    /// One step. None: it was done, and the run goes on. Some: the run is over with this fate, and each later call answers it
-    /// again and calls neither source nor sink.
+    /// One step. None: it was done, and the run goes on. Some: the run is over with this fate, and
+    /// each later call answers it again and calls neither source nor sink.
     pub fn step<I: Source, O: Sink>(&mut self, source: &mut I, sink: &mut O) -> Option<Fate>
         requires source_counts { I.failure_count source.old < 2 ^ 64 - 1 }
         requires sink_counts { O.failure_count sink.old < 2 ^ 64 - 1 }
@@ -113,20 +124,29 @@ impl<'a> Machine<'a> {
         // the run is over exactly where a fate was answered
         ensures fate { self.new.fate ≡ result }
         // an answer None counts a step that was allowed
-        ensures proceeds { result ≡ None → (self.old.steps < self.old.allowance) × (self.new.steps ≡ self.old.steps + 1) }
+        ensures proceeds { result ≡ None →
+            (self.old.steps < self.old.allowance) × (self.new.steps ≡ self.old.steps + 1) }
         // a run that is over stays so, and its devices are not called
-        ensures over { IsSome self.old.fate → StaysOver self.old result self.new × (source.new ≡ source.old) × (sink.new ≡ sink.old) }
+        ensures over { IsSome self.old.fate →
+            StaysOver self.old result self.new × (source.new ≡ source.old) × (sink.new ≡ sink.old) }
         // with the allowance used up nothing is called
-        ensures spent { result ≡ Some Fate.Steps → (source.new ≡ source.old) × (sink.new ≡ sink.old) }
+        ensures spent { result ≡ Some Fate.Steps →
+            (source.new ≡ source.old) × (sink.new ≡ sink.old) }
         // the failures of the devices are told, and no others
-        ensures input_failed { I.failure_count source.new ≡ I.failure_count source.old + input_failures self.old.fate result }
-        ensures output_failed { O.failure_count sink.new ≡ O.failure_count sink.old + output_failures self.old.fate result }
-        // unless the sink failed, what was put was sent on, and where nothing was put the sink was not called
-        ensures sent { result ≢ Some Fate.OutputFailed → Sent O.tells O.flushed O.written sink.old sink.new }
-        // only a call that reads calls the source, for at most two bytes more than are free; only a call that prints calls the sink
+        ensures input_failed { I.failure_count source.new ≡
+            I.failure_count source.old + input_failures self.old.fate result }
+        ensures output_failed { O.failure_count sink.new ≡
+            O.failure_count sink.old + output_failures self.old.fate result }
+        // unless the sink failed, what was put was sent on,
+        // and where nothing was put the sink was not called
+        ensures sent { result ≢ Some Fate.OutputFailed →
+            Sent O.tells O.flushed O.written sink.old sink.new }
+        // only a call that reads calls the source, for at most two bytes more than are free; only a
+        // call that prints calls the sink
         ensures unread { reads_input (performs self.old.memory) ≡ false → source.new ≡ source.old }
         ensures unprinted { prints_output (performs self.old.memory) ≡ false → sink.new ≡ sink.old }
-        ensures takes { I.tells source.old → (taken : Text) × Takes self.old (I.stream source.old) (I.stream source.new) taken }
+        ensures takes { I.tells source.old → (taken : Text) ×
+            Takes self.old (I.stream source.old) (I.stream source.new) taken }
         ensures told_source { I.tells source.old → I.tells source.new }
         ensures told_sink { O.tells sink.old → O.tells sink.new }
         // the limits stay, and are kept
@@ -151,7 +171,7 @@ impl<'a> Machine<'a> {
 
     /// Makes steps that perform no call, as far as the allowance goes.
     fn scan_on(&mut self)
-        ensures passes { (n : ℕ) × ((memory : Memory) × PassesTimes n self.old.memory memory × (self.new ≡ passed n memory self.old)) }
+        ensures passes { PassesSome self.old self.new }
         ensures limits { KeepsLimits self.new }
     {
         let need = self.work.used();
@@ -166,7 +186,8 @@ impl<'a> Machine<'a> {
 
     /// Counts a step that came to this.
     fn count(&mut self, attempt: Attempt) -> Option<Fate>
-        requires allowed { counts_as_step attempt.fate ≡ true → self.old.steps < self.old.allowance }
+        requires allowed { counts_as_step attempt.fate ≡ true →
+            self.old.steps < self.old.allowance }
         requires fits { attempt.need ≤ self.old.room }
         ensures answer { result ≡ attempt.fate }
         ensures after { self.new ≡ counted self.old self.old.memory attempt.need attempt.fate }
@@ -189,17 +210,23 @@ impl<'a> Machine<'a> {
         attempt.fate
     }
 
-    /// Makes steps to the end of the run, and reports what it came to: with neither device failing, the output, the fate, the
-    /// steps and the peak of the definition's run in this room with this allowance. A machine that was just made is run.
+    /// Makes steps to the end of the run, and reports what it came to: with neither device failing,
+    /// the output, the fate, the steps and the peak of the definition's run in this room with this
+    /// allowance. A machine that was just made is run.
     pub fn run<I: Source, O: Sink>(mut self, source: &mut I, sink: &mut O) -> Report
         requires made { self ≡ made self.room self.allowance }
         requires source_counts { I.failure_count source.old < 2 ^ 64 - 1 }
         requires sink_counts { O.failure_count sink.old < 2 ^ 64 - 1 }
         ensures reports { I.tells source.old → O.tells sink.old →
-            Reports result.fate (course self.entry (I.stream source.old) (O.written sink.old) (I.stream source.new) (O.written sink.new)) result }
-        ensures input_failed { I.failure_count source.new ≡ I.failure_count source.old + reported_input_failures result.fate }
-        ensures output_failed { O.failure_count sink.new ≡ O.failure_count sink.old + reported_output_failures result.fate }
-        ensures sent { result.fate ≢ Fate.OutputFailed → Sent O.tells O.flushed O.written sink.old sink.new }
+            let course = course self.entry (I.stream source.old) (O.written sink.old)
+            (I.stream source.new) (O.written sink.new) in
+            Reports result.fate course result }
+        ensures input_failed { I.failure_count source.new ≡
+            I.failure_count source.old + reported_input_failures result.fate }
+        ensures output_failed { O.failure_count sink.new ≡
+            O.failure_count sink.old + reported_output_failures result.fate }
+        ensures sent { result.fate ≢ Fate.OutputFailed →
+            Sent O.tells O.flushed O.written sink.old sink.new }
         ensures steps { result.steps ≤ self.entry.allowance }
         ensures peak { result.peak ≤ self.entry.room }
     {

@@ -1,19 +1,20 @@
 //! The scanner: the rules that perform no call.
-ghost use Rattle.std.specs.Prelude.{◌≡◌, ◌≢◌, ℕ, ◌+◌, ◌<◌, ◌≤◌, [], ◌∷◌, length, take, drop, slice_get, MatchOption, IsTrue, ◌↔◌, None, Some, true, false, ◌++◌, All};
-ghost use Rattle.trac_space.specs.Calls.{IsLastCall};
+ghost use Rattle.std.specs.Prelude.{◌≡◌, ◌≢◌, ℕ, ◌+◌, ◌<◌, ◌≤◌, [], ◌∷◌, length, take, drop};
+ghost use Rattle.std.specs.Prelude.{slice_get, MatchOption, IsTrue, ◌↔◌, None, Some, true, false};
+ghost use Rattle.std.specs.Prelude.{◌++◌, All};
 ghost use Rattle.trac_forms.specs.FlatForms.{character_of, text_of_cells};
 ghost use Rattle.trac_forms.specs.Contents.{used, IsByte, IsSound};
 ghost use Rattle.trac_core.specs.Protected.{protected};
 ghost use Rattle.trac_core.specs.Rule.{is_layout};
-ghost use Rattle.trac_core.specs.Attempts.{Scans, Scanned, ClosesNone};
-ghost use Rattle.trac_core.specs.Flat.{memory_of};
-ghost use Rattle.trac_core.specs.Together.{is_special, IsOrdinary, IsLayout, PassesTimes};
+ghost use Rattle.trac_core.specs.Attempts.{Scans, Scanned, ClosesNone, NoneFailed};
+ghost use Rattle.trac_core.specs.Together.{is_special, IsOrdinary, IsLayout, Advances};
 
 use crate::machine::Fate;
 use crate::values::text::character_of;
 use trac_forms::{Cell, Mode, Work};
 
-/// The idling procedure, which reads and scans a string and prints what is left of it (Mooers 1966).
+/// The idling procedure, which reads and scans a string and
+/// prints what is left of it (Mooers 1966).
 const IDLING: &[u8; 11] = b"#(ps,#(rs))";
 
 /// What an arm reads that is never reached: nothing, so that the compiler makes no test for it.
@@ -54,7 +55,7 @@ pub(crate) fn scan(work: &mut Work) -> Attempt
     requires sound { IsSound work.old }
     requires closes_none { ClosesNone work.old }
     ensures scanned { Scanned result.fate result.need work.old work.new }
-    ensures fate { (result.fate ≢ Some Fate.InputFailed) × (result.fate ≢ Some Fate.OutputFailed) × (result.fate ≢ Some Fate.Steps) }
+    ensures fate { NoneFailed result.fate }
     ensures fits { result.need ≤ work.old.room }
     ensures room { work.new.room ≡ work.old.room }
     ensures sound { IsSound work.new }
@@ -72,11 +73,11 @@ pub(crate) fn scan(work: &mut Work) -> Attempt
     Attempt { fate: None, need }
 }
 
-/// Steps that perform no call, one after the other, at most so many. Gives how many they were. It stops where a right
-/// parenthesis closes a call, and where the active string is empty.
+/// Steps that perform no call, one after the other, at most so many. Gives how many they were. It
+/// stops where a right parenthesis closes a call, and where the active string is empty.
 pub(crate) fn scan_on(work: &mut Work, most: u64) -> u64
     requires sound { IsSound work.old }
-    ensures passes { (meta : ℕ) → PassesTimes result (memory_of meta work.old) (memory_of meta work.new) }
+    ensures passes { Advances result work.old work.new }
     ensures few { result ≤ most }
     ensures room { work.new.room ≡ work.old.room }
     ensures sound { IsSound work.new }
@@ -91,12 +92,13 @@ pub(crate) fn scan_on(work: &mut Work, most: u64) -> u64
     }
 }
 
-/// The steps of the rule that fits the beginning of the active string, at most so many: all of a run of ordinary characters, or
-/// of layout characters, at once, and one of another rule. Gives how many they were, none where that rule performs a call.
+/// The steps of the rule that fits the beginning of the active string, at most so many: all of a
+/// run of ordinary characters, or of layout characters, at once, and one of another rule. Gives how
+/// many they were, none where that rule performs a call.
 #[inline]
 fn pass(work: &mut Work, most: u64) -> u64
     requires sound { IsSound work.old }
-    ensures passes { (meta : ℕ) → PassesTimes result (memory_of meta work.old) (memory_of meta work.new) }
+    ensures passes { Advances result work.old work.new }
     ensures few { result ≤ most }
     ensures shorter { result ≢ 0 → length work.new.active < length work.old.active }
     ensures room { work.new.room ≡ work.old.room }
@@ -117,12 +119,13 @@ fn pass(work: &mut Work, most: u64) -> u64
     1
 }
 
-/// The step by which a right parenthesis is deleted that closes no call. Gives 1, and 0 where it closes one.
+/// The step by which a right parenthesis is deleted that
+/// closes no call. Gives 1, and 0 where it closes one.
 #[inline]
 fn close_none(work: &mut Work) -> u64
     requires closes { slice_get (text_of_cells work.old.active) 0 ≡ Some 41 }
     requires sound { IsSound work.old }
-    ensures passes { (meta : ℕ) → PassesTimes result (memory_of meta work.old) (memory_of meta work.new) }
+    ensures passes { Advances result work.old work.new }
     ensures few { result ≤ 1 }
     ensures shorter { result ≢ 0 → length work.new.active < length work.old.active }
     ensures room { work.new.room ≡ work.old.room }
@@ -137,12 +140,12 @@ fn close_none(work: &mut Work) -> u64
     }
 }
 
-/// The steps by which the ordinary characters at the front of the active string are added, at most so many, all at once.
-/// Gives how many they were.
+/// The steps by which the ordinary characters at the front of the active string are added, at most
+/// so many, all at once. Gives how many they were.
 #[inline]
 fn add_characters(work: &mut Work, most: u64) -> u64
     requires sound { IsSound work.old }
-    ensures passes { (meta : ℕ) → PassesTimes result (memory_of meta work.old) (memory_of meta work.new) }
+    ensures passes { Advances result work.old work.new }
     ensures few { result ≤ most }
     ensures shorter { result ≢ 0 → length work.new.active < length work.old.active }
     ensures room { work.new.room ≡ work.old.room }
@@ -153,12 +156,12 @@ fn add_characters(work: &mut Work, most: u64) -> u64
     u64::from(count)
 }
 
-/// The steps by which the layout characters at the front of the active string are deleted, at most so many, all at once.
-/// Gives how many they were.
+/// The steps by which the layout characters at the front of the active string are deleted, at most
+/// so many, all at once. Gives how many they were.
 #[inline]
 fn delete_layouts(work: &mut Work, most: u64) -> u64
     requires sound { IsSound work.old }
-    ensures passes { (meta : ℕ) → PassesTimes result (memory_of meta work.old) (memory_of meta work.new) }
+    ensures passes { Advances result work.old work.new }
     ensures few { result ≤ most }
     ensures shorter { result ≢ 0 → length work.new.active < length work.old.active }
     ensures room { work.new.room ≡ work.old.room }
@@ -173,7 +176,8 @@ fn delete_layouts(work: &mut Work, most: u64) -> u64
 #[inline]
 fn front<'a>(work: &'a Work, most: u64) -> &'a [Cell]
     requires sound { IsSound work.now }
-    ensures text { text_of_cells result.now ≡ take (length result.now) (text_of_cells work.now.active) }
+    ensures text { text_of_cells result.now ≡
+        take (length result.now) (text_of_cells work.now.active) }
     ensures few { length result.now ≤ most }
     ensures within { length result.now ≤ length work.now.active }
     ensures bounded { length result.now ≤ 16777216 }
@@ -250,11 +254,12 @@ fn is_special(character: u8) -> bool
     }
 }
 
-/// The active string is empty: the neutral string is cleared, and the idling procedure becomes the active string.
+/// The active string is empty: the neutral string is cleared,
+/// and the idling procedure becomes the active string.
 fn load_idling(work: &mut Work) -> Attempt
     requires { work.old.active ≡ [] }
     ensures scanned { Scanned result.fate result.need work.old work.new }
-    ensures fate { (result.fate ≢ Some Fate.InputFailed) × (result.fate ≢ Some Fate.OutputFailed) × (result.fate ≢ Some Fate.Steps) }
+    ensures fate { NoneFailed result.fate }
     ensures fits { result.need ≤ work.old.room }
     ensures room { work.new.room ≡ work.old.room }
     ensures sound { IsSound work.new }
@@ -275,7 +280,8 @@ fn load_idling(work: &mut Work) -> Attempt
 
 /// A tab, a line feed or a carriage return is deleted.
 fn delete_layout(work: &mut Work)
-    requires { (c : ℕ) × ((slice_get (text_of_cells work.old.active) 0 ≡ Some c) × (is_layout c ≡ true)) }
+    requires { (c : ℕ) ×
+        ((slice_get (text_of_cells work.old.active) 0 ≡ Some c) × (is_layout c ≡ true)) }
     ensures scans { Scans work.old work.new (used work.old) }
     ensures no_larger { used work.new ≤ used work.old }
     ensures shorter { length work.new.active < length work.old.active }
@@ -298,8 +304,8 @@ fn delete_parenthesis(work: &mut Work)
     work.drop_active(1);
 }
 
-/// The text between a left parenthesis and its match is added unscanned; where there is no match the active string becomes
-/// empty (this processor's own choice).
+/// The text between a left parenthesis and its match is added unscanned; where there is no match
+/// the active string becomes empty (this processor's own choice).
 fn protect(work: &mut Work)
     requires sound { IsSound work.old }
     requires first { slice_get (text_of_cells work.old.active) 0 ≡ Some 40 }
@@ -324,8 +330,11 @@ fn protect(work: &mut Work)
 fn matching(cells: &[Cell]) -> Option<u32>
     requires few { length cells.now ≤ 16777216 }
     requires bytes { All IsByte cells.now }
-    ensures { MatchOption result (protected (text_of_cells cells.now) ≡ None)
-        (λ place. (place < length cells.now) × (protected (text_of_cells cells.now) ≡ Some (take place (text_of_cells cells.now), drop (place + 1) (text_of_cells cells.now)))) }
+    ensures { let text = text_of_cells cells.now in
+        MatchOption result
+        (protected text ≡ None)
+        (λ place. (place < length cells.now)
+        × (protected text ≡ Some (take place text, drop (place + 1) text))) }
 {
     let mut depth = 0u32;
     for (i, cell) in cells.iter().enumerate() {
@@ -362,7 +371,8 @@ fn begin_argument(work: &mut Work)
     }
 }
 
-/// A number sign opens a call with a left parenthesis after it, or after a second one; any other is added.
+/// A number sign opens a call with a left parenthesis after
+/// it, or after a second one; any other is added.
 #[inline]
 fn number_sign(work: &mut Work)
     requires sound { IsSound work.old }
@@ -382,11 +392,15 @@ fn number_sign(work: &mut Work)
     }
 }
 
-/// The characters that open a call leave the active string, and its mark stands last in the neutral one.
+/// The characters that open a call leave the active string,
+/// and its mark stands last in the neutral one.
 fn begin_call(work: &mut Work, characters: u32, mode: Mode)
     requires sound { IsSound work.old }
     requires some { (0 < characters) × (characters ≤ length work.old.active) }
-    ensures opened { work.new ≡ record work.old { active = drop characters work.old.active; neutral = work.old.neutral ++ Cell.Call mode 0 ∷ [] } }
+    ensures opened { work.new ≡ record work.old {
+      active = drop characters work.old.active;
+      neutral = work.old.neutral ++ Cell.Call mode 0 ∷ [];
+    } }
     ensures sound { IsSound work.new }
 {
     work.active_to_cell(characters, Cell::Call(mode, 0));
@@ -396,7 +410,10 @@ fn begin_call(work: &mut Work, characters: u32, mode: Mode)
 fn put_first(work: &mut Work, byte: u8)
     requires sound { IsSound work.old }
     requires first { slice_get (text_of_cells work.old.active) 0 ≡ Some byte }
-    ensures put { work.new ≡ record work.old { active = drop 1 work.old.active; neutral = work.old.neutral ++ Cell.Byte byte ∷ [] } }
+    ensures put { work.new ≡ record work.old {
+      active = drop 1 work.old.active;
+      neutral = work.old.neutral ++ Cell.Byte byte ∷ [];
+    } }
     ensures sound { IsSound work.new }
 {
     work.active_to_cell(1, Cell::Byte(byte));

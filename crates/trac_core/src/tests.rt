@@ -1,5 +1,5 @@
-//! What no clause says: the answers to scripts that were worked by hand, and runs in every room, with every allowance and over
-//! devices that fail.
+//! What no clause says: the answers to scripts that were worked by hand, and runs in every room,
+//! with every allowance and over devices that fail.
 ghost use Rattle.std.specs.Prelude.{◌≤◌, length};
 
 mod devices;
@@ -80,8 +80,8 @@ fn came_to(rt: &impl Abort, got: &Ended, output: &str, fate: Fate, steps: u64, p
     assert_eq!(rt; got.report, Report { fate, steps, peak });
 }
 
-/// Runs each script in ample room; then in each room up to its peak and past it, and with each allowance up to its steps
-/// and past them.
+/// Runs each script in ample room; then in each room up to its peak and past it, and with each
+/// allowance up to its steps and past them.
 fn answer(rt: &impl Abort, rows: &[(&str, &str)], fate: Fate) {
     for (script, output) in rows {
         let whole = outcome(script.as_bytes(), AMPLE, MANY);

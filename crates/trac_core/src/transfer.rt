@@ -1,9 +1,10 @@
 //! Bytes from a source into the neutral string, and from there to a sink.
-ghost use Rattle.std.specs.Prelude.{◌≡◌, ◌≢◌, ℕ, ◌+◌, ◌-◌, ◌<◌, ◌≤◌, ◌^◌, List, [], ◌∷◌, ◌++◌, length, take, is_ok, if◌then◌else◌, MatchResult, OnErr, OnOk};
+ghost use Rattle.std.specs.Prelude.{◌≡◌, ◌≢◌, ◌+◌, ◌-◌, ◌<◌, ◌≤◌, ◌^◌, [], ◌++◌, MatchResult};
+ghost use Rattle.std.specs.Prelude.{OnErr, OnOk};
 ghost use Rattle.trac_forms.specs.Text.{Text};
 ghost use Rattle.trac_forms.specs.FlatForms.{character_of, text_of_cells};
 ghost use Rattle.trac_forms.specs.Contents.{used, IsSound};
-ghost use Rattle.trac_core.specs.Devices.{Streams, failures_of, Prints};
+ghost use Rattle.trac_core.specs.Devices.{failures_of, Prints, Breaks};
 ghost use Rattle.trac_core.specs.Transfer.{Reads, StreamsTo, failures_of_read};
 
 use crate::device::{Next, Sink, SinkFailed, Source};
@@ -26,15 +27,17 @@ pub(crate) enum ReadEnd {
     Full,
 }
 
-/// Puts the bytes of a source up to the meta character at the end of the neutral string, as far as they fit. Those that
-/// the source holds already go at once.
+/// Puts the bytes of a source up to the meta character at the end of the neutral string, as far as
+/// they fit. Those that the source holds already go at once.
 pub(crate) fn read_text<I: Source>(work: &mut Work, meta: u8, source: &mut I) -> ReadEnd
     requires counts { I.failure_count source.old < 2 ^ 64 - 1 }
     requires sound { IsSound work.old }
-    ensures reads { (text : Text) × (Reads meta work.old work.new text × (I.tells source.old → StreamsTo result meta (I.stream source.old) text (I.stream source.new))) }
+    ensures reads { (text : Text) × (Reads meta work.old work.new text × (I.tells source.old →
+        StreamsTo result meta (I.stream source.old) text (I.stream source.new))) }
     ensures full { result ≡ ReadEnd.Full → work.new.room ≤ used work.new }
     ensures told { I.tells source.old → I.tells source.new }
-    ensures counts { I.failure_count source.new ≡ I.failure_count source.old + failures_of_read result }
+    ensures counts { I.failure_count source.new ≡
+        I.failure_count source.old + failures_of_read result }
     ensures sound { IsSound work.new }
 {
     loop {
@@ -57,7 +60,7 @@ pub(crate) fn print_text<O: Sink>(text: &[Cell], sink: &mut O) -> Result<(), Sin
     requires { O.failure_count sink.old < 2 ^ 64 - 1 }
     ensures writes { O.tells sink.old → MatchResult result
         (λ _. O.written sink.new ≡ O.written sink.old ++ text_of_cells text.now)
-        (λ _. (put : Text) × ((rest : Text) × (text_of_cells text.now ≡ put ++ rest) × (O.written sink.new ≡ O.written sink.old ++ put))) }
+        (λ _. Breaks (O.written sink.old) (text_of_cells text.now) (O.written sink.new)) }
     ensures some { OnErr result (text_of_cells text.now ≢ []) }
     ensures untouched { text_of_cells text.now ≡ [] → sink.new ≡ sink.old }
     ensures flushed { OnOk result (text_of_cells text.now ≢ [] → O.flushed sink.new) }
@@ -76,7 +79,8 @@ pub(crate) fn print_text<O: Sink>(text: &[Cell], sink: &mut O) -> Result<(), Sin
 // Puts the characters of cells into a sink, those of a longer text at once.
 fn put_characters<O: Sink>(text: &[Cell], sink: &mut O) -> Result<(), SinkFailed>
     requires { O.failure_count sink.old < 2 ^ 64 - 1 }
-    ensures prints { O.tells sink.old → Prints result (O.written sink.old) (text_of_cells text.now) (O.written sink.new) }
+    ensures prints { O.tells sink.old →
+        Prints result (O.written sink.old) (text_of_cells text.now) (O.written sink.new) }
     ensures told { O.tells sink.old → O.tells sink.new }
     ensures counts { O.failure_count sink.new ≡ O.failure_count sink.old + failures_of result }
 {
@@ -90,7 +94,8 @@ fn put_characters<O: Sink>(text: &[Cell], sink: &mut O) -> Result<(), SinkFailed
 // The same, one by one.
 fn put_each<O: Sink>(text: &[Cell], sink: &mut O) -> Result<(), SinkFailed>
     requires { O.failure_count sink.old < 2 ^ 64 - 1 }
-    ensures prints { O.tells sink.old → Prints result (O.written sink.old) (text_of_cells text.now) (O.written sink.new) }
+    ensures prints { O.tells sink.old →
+        Prints result (O.written sink.old) (text_of_cells text.now) (O.written sink.new) }
     ensures told { O.tells sink.old → O.tells sink.new }
     ensures counts { O.failure_count sink.new ≡ O.failure_count sink.old + failures_of result }
 {
@@ -103,7 +108,8 @@ fn put_each<O: Sink>(text: &[Cell], sink: &mut O) -> Result<(), SinkFailed>
 /// Puts bytes into a sink, one by one.
 pub(crate) fn print_bytes<O: Sink>(bytes: &[u8], sink: &mut O) -> Result<(), SinkFailed>
     requires { O.failure_count sink.old < 2 ^ 64 - 1 }
-    ensures prints { O.tells sink.old → Prints result (O.written sink.old) bytes.now (O.written sink.new) }
+    ensures prints { O.tells sink.old →
+        Prints result (O.written sink.old) bytes.now (O.written sink.new) }
     ensures told { O.tells sink.old → O.tells sink.new }
     ensures counts { O.failure_count sink.new ≡ O.failure_count sink.old + failures_of result }
 {

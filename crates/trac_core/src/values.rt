@@ -1,8 +1,10 @@
-//! What the functions of the language make of texts, numbers and bit strings, read from slices of cells.
+//! What the functions of the language make of texts,
+//! numbers and bit strings, read from slices of cells.
 //!
-//! Each slice is a text: all of its cells are characters, and it is no longer than a block can be, 16,777,216 cells. A number or
-//! a bit string stands at the right end of its text, behind a prefix. That they do is Mooers' rule of 1966; what exactly counts
-//! as one, and the range of arithmetic, is this processor's own choice.
+//! Each slice is a text: all of its cells are characters, and it is no longer than a
+//! block can be, 16,777,216 cells. A number or a bit string stands at the right end
+//! of its text, behind a prefix. That they do is Mooers' rule of 1966; what exactly
+//! counts as one, and the range of arithmetic, is this processor's own choice.
 
 mod bit_string;
 pub(crate) mod number;

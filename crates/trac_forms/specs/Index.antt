@@ -1,5 +1,7 @@
 -- A table of forms in the spare list, by which a form is found from its name.
-use Rattle.std.specs.Prelude.{◌≡◌, ◌≢◌, ℕ, ◌+◌, ◌-◌, ◌*◌, ◌/◌, ◌%◌, ◌^◌, ◌<◌, ◌≤◌, Bool, true, false, List, [], ◌∷◌, length, take, slice_index_or, set, bit_and, nat_le, nat_lt, if◌then◌else◌, ◌⊎◌}
+use Rattle.std.specs.Prelude.{◌≡◌, ◌≢◌, ℕ, ◌+◌, ◌-◌, ◌*◌, ◌/◌, ◌%◌, ◌^◌, ◌<◌, ◌≤◌, Bool, true}
+use Rattle.std.specs.Prelude.{false, List, [], ◌∷◌, length, take, slice_index_or, set, bit_and}
+use Rattle.std.specs.Prelude.{nat_le, nat_lt, if◌then◌else◌, ◌⊎◌}
 use Rattle.trac_space.specs.declared.cell.Cell.{Cell}
 use Rattle.trac_space.specs.declared.cell.Cell.TheVariants.{Byte, Call, Comma, Gap, Head}
 use Rattle.trac_forms.specs.Text.{Text}
@@ -76,14 +78,17 @@ pub record IsHeld (table : List Cell) (n gap k s : ℕ) : Type 0 where
   pub home : cell_at table (home_place table k) ≡ Head s
 
 -- each of so many forms but that at the gap has its entry, and what stands in a slot is one of them
-pub record IsIndexBut (table : List Cell) (n gap : ℕ) (name : ℕ → Text) (start : ℕ → ℕ) : Type 0 where
+pub record IsIndexBut
+    (table : List Cell) (n gap : ℕ) (name : ℕ → Text) (start : ℕ → ℕ) : Type 0 where
   pub roomy : n ≤ quarter table
   pub all : (k : ℕ) → k < n → k ≢ gap → HasEntry table (name k) (start k) k
   pub only : (s k : ℕ) → s < slots table → cell_at table s ≡ Head k → IsHeld table n gap k s
 
 -- the table is one of the forms
 abbrev pub IsIndex : List Cell → List Form → Type 0
-IsIndex table forms = IsIndexBut table (length forms) (length forms) (name_at forms) (λ k. length (flat_forms (take k forms)))
+IsIndex table forms =
+    IsIndexBut table (length forms) (length forms) (name_at forms)
+    (λ k. length (flat_forms (take k forms)))
 
 -- where there is a table it is one of the forms
 abbrev pub IsIndexed : List Cell → List Form → Type 0
@@ -104,7 +109,8 @@ IsOpenFor table number s = (after : ℕ) × IsOpenAfter table number s after
 -- the table with form k in a slot
 abbrev pub with_entry : List Cell → ℕ → ℕ → ℕ → List Cell
 with_entry table s k start =
-    set (set (set table s (Head k)) (start_place table k) (Head start)) (home_place table k) (Head s)
+    set (set (set table s (Head k)) (start_place table k) (Head start))
+    (home_place table k) (Head s)
 
 -- the number in a cell of the table, 0 where it has none
 abbrev pub number_of : Cell → ℕ
@@ -132,16 +138,20 @@ forward table k less = with_entry table (home_in table k) (k - 1) (start_in tabl
 abbrev pub earlier : List Cell → ℕ → ℕ → List Cell
 earlier table k less = set table (start_place table k) (Head (start_in table k - less))
 
--- where so many forms begin, once those behind form k and before form `end` begin so many cells earlier
+-- where so many forms begin, once those behind form k and
+-- before form `end` begin so many cells earlier
 abbrev pub started : ℕ → ℕ → ℕ → (ℕ → ℕ) → ℕ → ℕ
-started k end less start = λ j. if nat_le j k then start j else (if nat_lt j end then start j - less else start j)
+started k end less start =
+    λ j. if nat_le j k then start j else (if nat_lt j end then start j - less else start j)
 
--- the table is one of so many forms, of which those behind form k begin so many cells from the front
--- or more
-pub record StartsFrom (table : List Cell) (k n less : ℕ) (name : ℕ → Text) (start : ℕ → ℕ) : Type 0 where
+-- the table is one of so many forms, of which those behind
+-- form k begin so many cells from the front or more
+pub record StartsFrom
+    (table : List Cell) (k n less : ℕ) (name : ℕ → Text) (start : ℕ → ℕ) : Type 0 where
   pub index : IsIndexBut table n n name start
   pub within : k < n
   pub front : (j : ℕ) → k < j → j < n → less ≤ start j
 
 abbrev pub HasStartsFrom : List Cell → ℕ → ℕ → ℕ → Type 0
-HasStartsFrom table k n less = (name : ℕ → Text) × ((start : ℕ → ℕ) × StartsFrom table k n less name start)
+HasStartsFrom table k n less =
+    (name : ℕ → Text) × ((start : ℕ → ℕ) × StartsFrom table k n less name start)

@@ -2,7 +2,9 @@
 //!
 //! Half of it are slots, in which a form's number stands where its name sends the search, or behind
 //! that. The third quarter says where each form begins, the last one which slot it has.
-ghost use Rattle.std.specs.Prelude.{◌≡◌, ◌≢◌, [], ◌<◌, ◌≤◌, ◌^◌, ℕ, ◌+◌, ◌-◌, ◌*◌, length, map, not, take, slice_range, remove, All, MatchOption, IfSome, Decides};
+ghost use Rattle.std.specs.Prelude.{◌≡◌, ◌≢◌, [], ◌<◌, ◌≤◌, ◌^◌, ℕ, ◌+◌, ◌-◌, ◌*◌, length, map};
+ghost use Rattle.std.specs.Prelude.{not, take, slice_range, remove, All, MatchOption, IfSome};
+ghost use Rattle.std.specs.Prelude.{Decides};
 ghost use Rattle.std.specs.Bool.{OnTrue, OnFalse};
 ghost use Rattle.trac_space.specs.Cells.{seen};
 ghost use Rattle.trac_space.specs.Lists as lists;
@@ -11,7 +13,9 @@ ghost use Rattle.trac_forms.specs.Store.{NoneNamed};
 ghost use Rattle.trac_forms.specs.FlatForms.{flat_forms, text_of_cells, character_of};
 ghost use Rattle.trac_forms.specs.Contents.{IsByte, IsSound, name_at};
 ghost use Rattle.trac_forms.specs.Stored.{forms_in, start_of, IsFoundAt};
-ghost use Rattle.trac_forms.specs.Index.{hash, quarter, slots, IsIndex, IsIndexBut, IsIndexed, IsOpenFor, is_open, with_entry, start_in, home_in, buried, forward, earlier, started, HasStartsFrom};
+ghost use Rattle.trac_forms.specs.Index.{hash, quarter, slots, IsIndex, IsIndexBut, IsIndexed};
+ghost use Rattle.trac_forms.specs.Index.{IsOpenFor, is_open, with_entry, start_in, home_in, buried};
+ghost use Rattle.trac_forms.specs.Index.{forward, earlier, started, HasStartsFrom};
 
 use crate::store::{MANY, head, is_text, number, number_in_head};
 use crate::work::Work;
@@ -54,7 +58,8 @@ fn is_name(cells: &[Cell], from: usize, len: usize, text: &[Cell]) -> bool
     requires within { from + len ≤ length cells.now }
     requires part_bytes { All IsByte (map seen (slice_range cells.now from (from + len))) }
     requires bytes { All IsByte (map seen text.now) }
-    ensures { Decides result (map seen (slice_range cells.now from (from + len)) ≡ map seen text.now) }
+    ensures { Decides result
+        (map seen (slice_range cells.now from (from + len)) ≡ map seen text.now) }
 {
     if len != text.len() {
         return false;
@@ -180,9 +185,8 @@ fn put_entry(space: &mut Space, slot: u32, k: u32, start: u32)
 fn add(space: &mut Space, first: usize, k: u32, start: u32) -> bool
     requires bounded { first < 2 ^ 32 }
     requires place { k < quarter space.old.spare }
-    ensures done { OnTrue result ((s : ℕ) × IsOpenFor space.old.spare first s × (space.new ≡ record space.old {
-      spare = with_entry space.old.spare s k start;
-    })) }
+    ensures done { OnTrue result ((s : ℕ) × IsOpenFor space.old.spare first s
+        × (space.new ≡ record space.old { spare = with_entry space.old.spare s k start })) }
     ensures full { OnFalse result (space.new ≡ space.old) }
 {
     match open_slot(space.spare_cells(), first) {
@@ -256,8 +260,8 @@ fn start_earlier(space: &mut Space, k: u32, cells: u32)
     space.set_spare_at(place, Cell::Head(start - cells));
 }
 
-// Takes form `k`, which begins at `start`, out of the table of `count` forms, if there is one: those
-// behind it come one place forward.
+// Takes form `k`, which begins at `start`, out of the table of `count` forms, if there is one:
+// those behind it come one place forward.
 #[inline(always)]
 pub(crate) fn unindex(space: &mut Space, k: u32, start: u32, count: u32)
     requires whole { flat_forms (forms_in space.old.store) ≡ space.old.store }
@@ -279,13 +283,15 @@ pub(crate) fn unindex(space: &mut Space, k: u32, start: u32, count: u32)
     }
 }
 
-// The forms behind form `k` begin `cells` cells earlier in the table of `count` forms, if there is one.
+// The forms behind form `k` begin `cells` cells earlier in
+// the table of `count` forms, if there is one.
 pub(crate) fn shift_starts(space: &mut Space, k: u32, count: u32, cells: u32)
     requires { 0 < length space.old.spare → HasStartsFrom space.old.spare k count cells }
     ensures same { space.new ≡ record space.old { spare = space.new.spare } }
     ensures len { length space.new.spare ≡ length space.old.spare }
-    ensures index { (name : ℕ → Text) → (start : ℕ → ℕ) → IsIndexBut space.old.spare count count name start
-        → IsIndexBut space.new.spare count count name (started k count cells start) }
+    ensures index { (name : ℕ → Text) → (start : ℕ → ℕ) →
+        IsIndexBut space.old.spare count count name start →
+        IsIndexBut space.new.spare count count name (started k count cells start) }
 {
     if cells == 0 {
         return;
@@ -354,9 +360,9 @@ pub(crate) fn index_fitting(space: &mut Space, count: u32)
 const COST: u32 = 8;
 
 impl<'a> Work<'a> {
-    // Makes a table of the forms in free cells, by which they are found, where searches have cost more
-    // since the last one than that does. Nothing else changes, and each call that needs its cells takes
-    // them back.
+    // Makes a table of the forms in free cells, by which they are found, where
+    // searches have cost more since the last one than that does. Nothing else
+    // changes, and each call that needs its cells takes them back.
     #[inline]
     pub(crate) fn keep_index(&mut self)
         ensures same { self.new ≡ self.old }

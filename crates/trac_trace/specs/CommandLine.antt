@@ -1,5 +1,6 @@
 -- The command line of the program.
-use Rattle.std.specs.Prelude.{◌≡◌, ◌∷◌, [], ℕ, Bool, false, pos, List, Option, Some, codes, option_map}
+use Rattle.std.specs.Prelude.{◌≡◌, ◌∷◌, [], ℕ, Bool, false, pos, List, Option, Some, codes}
+use Rattle.std.specs.Prelude.{option_map}
 use Rattle.std.specs.Str.Parse.{digits_value, without_leading_plus}
 use Rattle.clap.specs.Simple.{argument_words, built, names_of}
 use Rattle.clap.specs.Walk.{has_row, nothing_held, settled, walk}
@@ -35,13 +36,16 @@ number_of name rows = option_map (λ t. digits_value 10 (without_leading_plus t)
 
 -- the settings are the values of the matches
 abbrev pub AreValuesOf : List Row → Settings → Type 0
-AreValuesOf rows s = (number_of (codes "cells") rows ≡ Some s.cells) × (number_of (codes "steps") rows ≡ Some s.steps)
+AreValuesOf rows s = (number_of (codes "cells") rows ≡ Some s.cells)
+    × (number_of (codes "steps") rows ≡ Some s.steps)
 
 -- the rows of the words alone, before any default
 abbrev pub given_rows : List Text → List Row
 given_rows words =
     let rules = (built trace_command).top.rules in
-    (settled rules (walk rules (names_of (built trace_command)) nothing_held (argument_words trace_command words)).held).rows
+    let given = argument_words trace_command words in
+    let walked = walk rules (names_of (built trace_command)) nothing_held given in
+    (settled rules walked.held).rows
 
 -- the words give the option
 abbrev pub gives : List Text → Text → Bool
@@ -49,4 +53,5 @@ gives words name = has_row name (given_rows words)
 
 -- what the words don't give is 65536 cells and 1000 steps
 abbrev pub HasDefaults : List Text → Settings → Type 0
-HasDefaults words s = (gives words (codes "cells") ≡ false → s.cells ≡ 65536) × (gives words (codes "steps") ≡ false → s.steps ≡ 1000)
+HasDefaults words s = (gives words (codes "cells") ≡ false → s.cells ≡ 65536)
+    × (gives words (codes "steps") ≡ false → s.steps ≡ 1000)

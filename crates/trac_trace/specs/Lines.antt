@@ -1,12 +1,14 @@
 -- The lines of a trace.
-use Rattle.std.specs.Prelude.{◌++◌, ◌==◌, ◌/◌, ◌%◌, ◌||◌, ℕ, List, [], ◌∷◌, codes, decimal, drop, length, min, nat_lt, get_or, if◌then◌else◌, Bool, true, false}
+use Rattle.std.specs.Prelude.{◌++◌, ◌==◌, ◌/◌, ◌%◌, ◌||◌, ℕ, List, [], ◌∷◌, codes, decimal, drop}
+use Rattle.std.specs.Prelude.{length, min, nat_lt, get_or, if◌then◌else◌, Bool, true, false}
 use Rattle.clap.specs.declared.error.kind.ErrorKind.{ErrorKind}
 use Rattle.clap.specs.declared.error.kind.ErrorKind.TheVariants.{DisplayHelp, OutOfMemory}
 use Rattle.trac_space.specs.declared.cell.Cell.{Cell}
 use Rattle.trac_space.specs.declared.cell.Cell.TheVariants.{Byte, Call, Comma, Gap, Head}
 use Rattle.trac_space.specs.declared.cell.Mode.TheVariants.{Active, Neutral}
 use Rattle.trac_core.specs.declared.machine.Fate.{Fate}
-use Rattle.trac_core.specs.declared.machine.Fate.TheVariants.{Halted, InputEnded, Workspace, Steps, InputFailed, OutputFailed}
+use Rattle.trac_core.specs.declared.machine.Fate.TheVariants.{Halted, InputEnded, Workspace, Steps}
+use Rattle.trac_core.specs.declared.machine.Fate.TheVariants.{InputFailed, OutputFailed}
 use Rattle.trac_core.specs.declared.machine.view.ScanningRule.{ScanningRule}
 use Rattle.trac_core.specs.declared.machine.view.ScanningRule.TheVariants as row
 
@@ -66,7 +68,8 @@ column_text n = drop (min (length (decimal n)) 6) (codes "      ") ++ decimal n
 -- the line of a step
 abbrev pub step_text : ℕ → ScanningRule → ℕ → ℕ → List Cell → List Cell → List ℕ
 step_text number rule size need neutral active =
-    column_text number ++ codes "  " ++ name_text rule ++ column_text size ++ column_text need ++ codes "  "
+    column_text number ++ codes "  " ++ name_text rule
+    ++ column_text size ++ column_text need ++ codes "  "
     ++ cells_text neutral ++ codes "|" ++ cells_text active ++ codes "\n"
 
 -- the line of what a step printed
@@ -89,7 +92,9 @@ fate_text OutputFailed = codes "no memory for what is printed"
 
 -- the last line
 abbrev pub end_text : Fate → ℕ → ℕ → List ℕ
-end_text fate steps peak = fate_text fate ++ codes ": " ++ decimal steps ++ codes " steps, peak " ++ decimal peak ++ codes " cells\n"
+end_text fate steps peak =
+    fate_text fate ++ codes ": " ++ decimal steps
+    ++ codes " steps, peak " ++ decimal peak ++ codes " cells\n"
 
 -- the exit status after a run with this fate
 abbrev pub status_of : Fate → ℕ
@@ -100,7 +105,8 @@ status_of Steps = 3
 status_of InputFailed = 4
 status_of OutputFailed = 6
 
--- the exit status where the words gave this error in place of settings, and it was shown or could not be
+-- the exit status where the words gave this error in place
+-- of settings, and it was shown or could not be
 abbrev pub shown_status : ErrorKind → Bool → ℕ
 shown_status DisplayHelp true = 0
 shown_status DisplayHelp false = 5

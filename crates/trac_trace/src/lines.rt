@@ -1,6 +1,8 @@
 //! The lines of a trace. Their form is this processor's own choice.
 ghost use Rattle.std.specs.Prelude.{◌≡◌, ◌++◌, OnOk, decimal};
-ghost use Rattle.trac_trace.specs.Lines.{byte_text, bytes_text, cell_text, cells_text, column_text, end_text, fate_text, name_text, number_16, printed_text, step_text};
+ghost use Rattle.trac_trace.specs.Lines.{byte_text, bytes_text, cell_text, cells_text, column_text};
+ghost use Rattle.trac_trace.specs.Lines.{end_text, fate_text, name_text, number_16, printed_text};
+ghost use Rattle.trac_trace.specs.Lines.{step_text};
 
 use itoa::Buffer;
 use std::alloc::AllocError;
@@ -34,7 +36,9 @@ pub fn push_step(
     neutral: &[Cell],
     active: &[Cell],
 ) -> Result<(), AllocError>
-    ensures { OnOk result (line.new.items ≡ line.old.items ++ step_text step.now.number step.now.rule step.now.size step.now.need neutral.now active.now) }
+    ensures { OnOk result (line.new.items ≡ line.old.items
+        ++ step_text step.now.number step.now.rule step.now.size step.now.need
+        neutral.now active.now) }
 {
     push_column(line, step.number)?;
     push(line, b"  ")?;
@@ -59,7 +63,8 @@ pub fn push_printed(line: &mut Vec<u8>, bytes: &[u8]) -> Result<(), AllocError>
 
 /// Adds the last line, on how the run ended. An error is want of memory.
 pub fn push_end(line: &mut Vec<u8>, report: &Report) -> Result<(), AllocError>
-    ensures { OnOk result (line.new.items ≡ line.old.items ++ end_text report.now.fate report.now.steps report.now.peak) }
+    ensures { OnOk result (line.new.items ≡ line.old.items
+        ++ end_text report.now.fate report.now.steps report.now.peak) }
 {
     push(line, ending(report.fate))?;
     push(line, b": ")?;
@@ -134,7 +139,8 @@ fn push_cells(line: &mut Vec<u8>, cells: &[Cell]) -> Result<(), AllocError>
     Ok(())
 }
 
-// Adds a cell of a string. A mark stands in angle brackets; a gap and a head never stand in a string.
+// Adds a cell of a string. A mark stands in angle brackets;
+// a gap and a head never stand in a string.
 fn push_cell(line: &mut Vec<u8>, cell: &Cell) -> Result<(), AllocError>
     ensures { OnOk result (line.new.items ≡ line.old.items ++ cell_text cell.now) }
 {
@@ -157,7 +163,8 @@ fn push_bytes(line: &mut Vec<u8>, bytes: &[u8]) -> Result<(), AllocError>
     Ok(())
 }
 
-// Adds a byte: layout and the reverse solidus behind a reverse solidus, and what is no visible character by its number.
+// Adds a byte: layout and the reverse solidus behind a reverse
+// solidus, and what is no visible character by its number.
 fn push_byte(line: &mut Vec<u8>, byte: u8) -> Result<(), AllocError>
     ensures { OnOk result (line.new.items ≡ line.old.items ++ byte_text byte) }
 {

@@ -1,6 +1,7 @@
-//! The program `trac_trace`: the script on standard input is run, and each step is shown on standard output: its number, the
-//! rule that it follows, the cells before it and those that it needs, both strings after it, and what it prints. The form of
-//! these lines, the options and the exit statuses are this processor's own choice.
+//! The program `trac_trace`: the script on standard input is run, and each step is shown on
+//! standard output: its number, the rule that it follows, the cells before it and those that it
+//! needs, both strings after it, and what it prints. The form of these lines, the options and the
+//! exit statuses are this processor's own choice.
 #![tactic(auto)]
 
 ghost use Rattle.std.specs.Prelude.{◌≡◌, Bool};
@@ -52,7 +53,8 @@ fn refused_words<R: Eprint>(rt: &R, kind: io::ErrorKind) -> u8 {
     USAGE
 }
 
-// Shows what clap answered in place of settings, and gives the status. That standard error fails is ignored.
+// Shows what clap answered in place of settings, and gives
+// the status. That standard error fails is ignored.
 fn refused<R: Print + Eprint>(rt: &R, error: &clap::Error) -> u8
     ensures { (shown : Bool) × (result ≡ shown_status (kind_of error.now) shown) }
 {
@@ -64,7 +66,8 @@ fn refused<R: Print + Eprint>(rt: &R, error: &clap::Error) -> u8
     status_when_shown(kind, error.print(rt).is_ok())
 }
 
-// The status once an error of the words was shown or could not be: a help that can't be written is an output that failed.
+// The status once an error of the words was shown or could not
+// be: a help that can't be written is an output that failed.
 fn status_when_shown(kind: ErrorKind, is_shown: bool) -> u8
     ensures { result ≡ shown_status kind is_shown }
 {
@@ -93,7 +96,8 @@ fn run(rt: &HostRuntime, settings: &Settings) -> u8 {
     }
 }
 
-// The status after a run, as that of `trac`; a run that could not keep what it printed had no memory for it.
+// The status after a run, as that of `trac`; a run that
+// could not keep what it printed had no memory for it.
 fn status(fate: Fate) -> u8
     ensures { result ≡ status_of fate }
 {

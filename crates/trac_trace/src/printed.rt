@@ -1,6 +1,5 @@
 //! A sink that keeps what a step prints.
-ghost use Rattle.std.specs.Prelude.{◌≡◌, ℕ, ◌+◌, ◌-◌, ◌^◌, ◌<◌, []};
-ghost use Rattle.trac_core.specs.Devices.{after_put, failures_of};
+ghost use Rattle.std.specs.Prelude.{◌≡◌, ◌+◌, ◌-◌, ◌<◌, []};
 
 use std::alloc::Global;
 use trac_core::{Sink, SinkFailed};

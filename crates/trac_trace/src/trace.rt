@@ -29,8 +29,9 @@ impl From<AllocError> for TraceError {
     }
 }
 
-/// Runs the script that the source gives, in a workspace of the settings' cells and with the steps that they allow, and writes
-/// a line for each step that was done, one for what it prints, and one on how the run ended, whose fate it answers.
+/// Runs the script that the source gives, in a workspace of the settings' cells and with the steps
+/// that they allow, and writes a line for each step that was done, one for what it prints, and one
+/// on how the run ended, whose fate it answers.
 pub fn trace<I: Source, W: Write>(
     alloc: Global,
     settings: &Settings,
@@ -38,7 +39,8 @@ pub fn trace<I: Source, W: Write>(
     output: &mut W,
 ) -> Result<Fate, TraceError>
     requires source_counts { I.failure_count source.old < 2 ^ 64 - 1 }
-    ensures input_failed { IfOk result (λ fate. I.failure_count source.new ≡ I.failure_count source.old + reported_input_failures fate) }
+    ensures input_failed { IfOk result (λ fate. I.failure_count source.new ≡
+        I.failure_count source.old + reported_input_failures fate) }
 {
     let mut block = make_block(alloc, settings.cells)?;
     let mut machine = Machine::over(&mut block, settings.steps);
@@ -77,7 +79,8 @@ pub fn trace<I: Source, W: Write>(
 
 // Adds the line of what was printed, where there is something, and forgets it.
 fn push_output(lines: &mut Vec<u8>, printed: &mut Printed) -> Result<(), AllocError>
-    ensures line { OnOk result (lines.new.items ≡ lines.old.items ++ output_text printed.old.bytes.items) }
+    ensures line { OnOk result (lines.new.items ≡
+        lines.old.items ++ output_text printed.old.bytes.items) }
     ensures empty { OnOk result (printed.new.bytes.items ≡ []) }
     ensures counts { printed.new.failures ≡ printed.old.failures }
 {

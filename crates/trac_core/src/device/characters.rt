@@ -5,8 +5,8 @@ ghost use Rattle.trac_forms.specs.FlatForms.{text_of_cells};
 use crate::values::text::character_of;
 use trac_forms::Cell;
 
-/// Makes the bytes the characters of so many cells, 0 for a cell that isn't a character. A sink with a buffer takes
-/// characters so.
+/// Makes the bytes the characters of so many cells, 0 for a cell that isn't a character. A sink
+/// with a buffer takes characters so.
 pub fn write_characters(text: &[Cell], bytes: &mut [u8])
     requires { length text.now ≡ length bytes.old }
     ensures { bytes.new ≡ text_of_cells text.now }

@@ -1,13 +1,13 @@
 //! A source over a reader.
-ghost use Rattle.std.specs.Prelude.{◌≡◌, ℕ, ◌+◌, ◌-◌, ◌^◌, ◌<◌, ◌≤◌, List, [], length, take, drop, IsSome, IfSome, unwrap_or, is_ok, not, nat_eq, nat_lt, true, false, Bool};
-ghost use Rattle.trac_core.specs.Devices.{Stream, Gives, failures_of_next, failures_of, after_put};
+ghost use Rattle.std.specs.Prelude.{◌≡◌, ◌+◌, ◌-◌, ◌^◌, ◌<◌, IsSome, true, false};
+ghost use Rattle.trac_core.specs.Devices.{Gives, failures_of_next, told_stream};
 ghost use Rattle.trac_core.specs.Slices.{IfTells};
 
 use super::{Next, Source};
 use std::io::Read;
 
-/// A source over a reader, by reads of one byte. Each error is a failure; after a read of no byte it has ended, and reads
-/// no more. This processor's own choice.
+/// A source over a reader, by reads of one byte. Each error is a failure; after a read of no byte
+/// it has ended, and reads no more. This processor's own choice.
 #[derive(Drop)]
 pub struct ReadSource<R> {
     reader: R,
@@ -19,7 +19,8 @@ impl<R: Read> ReadSource<R> {
     /// A source that gives what the reader gives.
     pub fn new(reader: R) -> ReadSource<R>
         ensures tells { IsSome (R.remaining reader) → ⟦<ReadSource<R> as Source>⟧.tells result }
-        ensures stream { ⟦<ReadSource<R> as Source>⟧.stream result ≡ record { bytes = unwrap_or (R.remaining reader) []; ended = false } }
+        ensures stream { ⟦<ReadSource<R> as Source>⟧.stream result ≡
+            told_stream (R.remaining reader) false }
         ensures none { ⟦<ReadSource<R> as Source>⟧.failure_count result ≡ 0 }
     {
         ReadSource {
@@ -33,15 +34,18 @@ impl<R: Read> ReadSource<R> {
 impl<R: Read> Source for ReadSource<R> {
     ghost tells = { λ s. IfTells (R.remaining s.reader) s.ended };
 
-    ghost stream = { λ s. record { bytes = unwrap_or (R.remaining s.reader) []; ended = s.ended } };
+    ghost stream = { λ s. told_stream (R.remaining s.reader) s.ended };
 
     ghost failure_count = { λ s. s.failures };
 
     fn next(&mut self) -> Next
         requires { self.old.failures < 2 ^ 64 - 1 }
         ensures ended { self.old.ended ≡ true → (result ≡ Next.End) × (self.new ≡ self.old) }
-        ensures gives { IfTells (R.remaining self.old.reader) self.old.ended → Gives (record { bytes = unwrap_or (R.remaining self.old.reader) []; ended = self.old.ended }) result (record { bytes = unwrap_or (R.remaining self.new.reader) []; ended = self.new.ended }) }
-        ensures told { IfTells (R.remaining self.old.reader) self.old.ended → IfTells (R.remaining self.new.reader) self.new.ended }
+        ensures gives { IfTells (R.remaining self.old.reader) self.old.ended →
+            Gives (told_stream (R.remaining self.old.reader) self.old.ended) result
+            (told_stream (R.remaining self.new.reader) self.new.ended) }
+        ensures told { IfTells (R.remaining self.old.reader) self.old.ended →
+            IfTells (R.remaining self.new.reader) self.new.ended }
         ensures counts { self.new.failures ≡ self.old.failures + failures_of_next result }
     {
         if self.ended {

@@ -10,9 +10,9 @@ use std::io::{ErrorKind, Read, Write};
 /// How often a call is made that is interrupted each time: 1,000,000 times.
 pub const TRIES: u32 = 1_000_000;
 
-/// A reader that reads again where a signal interrupted the read, which is no failure. After `TRIES` reads in a row that were
-/// interrupted it answers an error of the kind `TimedOut`, so each call returns; each other error is the reader's own. This
-/// processor's own choice.
+/// A reader that reads again where a signal interrupted the read, which is no failure. After
+/// `TRIES` reads in a row that were interrupted it answers an error of the kind `TimedOut`, so each
+/// call returns; each other error is the reader's own. This processor's own choice.
 #[derive(Drop)]
 pub struct RetryingReader<R> {
     reader: R,
@@ -32,16 +32,17 @@ impl<R: Read> Read for RetryingReader<R> {
 
     fn read(&mut self, buf: &mut [u8]) -> io::Result<usize>
         ensures bound { ReadsAtMost result buf.new }
-        ensures bytes { ReadConsumes (R.remaining self.old.reader) (R.remaining self.new.reader) result buf.new }
+        ensures bytes { ReadConsumes (R.remaining self.old.reader) (R.remaining self.new.reader)
+            result buf.new }
         ensures retried { IfErr result (λ e. error_kind e ≢ ErrorKind.Interrupted) }
     {
         read_again(&mut self.reader, buf)
     }
 }
 
-/// A writer that writes or flushes again where a signal interrupted the call, which is no failure. After `TRIES` calls in a row
-/// that were interrupted it answers an error of the kind `TimedOut`, so each call returns; each other error is the writer's
-/// own. This processor's own choice.
+/// A writer that writes or flushes again where a signal interrupted the call, which is no failure.
+/// After `TRIES` calls in a row that were interrupted it answers an error of the kind `TimedOut`,
+/// so each call returns; each other error is the writer's own. This processor's own choice.
 #[derive(Drop)]
 pub struct RetryingWriter<W> {
     writer: W,
@@ -61,7 +62,8 @@ impl<W: Write> Write for RetryingWriter<W> {
 
     fn write(&mut self, buf: &[u8]) -> io::Result<usize>
         ensures bound { WritesAtMost result buf.now }
-        ensures bytes { WriteAppends (W.contents self.old.writer) (W.contents self.new.writer) result buf.now }
+        ensures bytes { WriteAppends (W.contents self.old.writer) (W.contents self.new.writer)
+            result buf.now }
         ensures retried { IfErr result (λ e. error_kind e ≢ ErrorKind.Interrupted) }
     {
         write_again(&mut self.writer, buf)

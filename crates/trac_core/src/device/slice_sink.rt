@@ -1,12 +1,14 @@
 //! A sink over memory.
-ghost use Rattle.std.specs.Prelude.{◌≡◌, ℕ, ◌+◌, ◌-◌, ◌^◌, ◌<◌, ◌≤◌, List, [], length, take, drop, IsSome, IfSome, unwrap_or, is_ok, is_err, ◌&&◌, ◌||◌, OnOk, not, nat_eq, nat_lt, true, false, Bool};
-ghost use Rattle.trac_core.specs.Devices.{Stream, Gives, failures_of_next, failures_of, after_put};
+ghost use Rattle.std.specs.Prelude.{◌≡◌, ◌+◌, ◌-◌, ◌^◌, ◌<◌, ◌≤◌, [], length, take, unwrap_or};
+ghost use Rattle.std.specs.Prelude.{is_ok, is_err, ◌&&◌, ◌||◌, OnOk, not, nat_eq, nat_lt, true};
+ghost use Rattle.std.specs.Prelude.{false};
+ghost use Rattle.trac_core.specs.Devices.{failures_of, after_put};
 
 use super::{Sink, SinkFailed};
 use std::marker::Model;
 
-/// A sink over memory, for embedding and for tests; it fails where its room is full, and at one flush that it is told.
-/// This processor's own choice.
+/// A sink over memory, for embedding and for tests; it fails where its room is full, and at one
+/// flush that it is told. This processor's own choice.
 #[derive(Drop)]
 pub struct SliceSink<'a> {
     room: &'a mut [u8],
@@ -23,15 +25,28 @@ impl<'a> Model for SliceSink<'a> {
 
     ghost Value = { SliceOutput };
 
-    ghost view = { λ s. record { written = take s.len s.room.now; room = length s.room.now; flushes_left = s.flushes_left; failures = s.failures; is_flushed = s.is_flushed } };
+    ghost view = { λ s. record {
+      written = take s.len s.room.now;
+      room = length s.room.now;
+      flushes_left = s.flushes_left;
+      failures = s.failures;
+      is_flushed = s.is_flushed;
+    } };
 
     ghost invariant = { λ s. s.len ≤ length s.room.now };
 }
 
 impl<'a> SliceSink<'a> {
-    /// A sink with room for so many bytes, whose flush of that number, counted from 1, fails; none with None or 0.
+    /// A sink with room for so many bytes, whose flush of that
+    /// number, counted from 1, fails; none with None or 0.
     pub fn new(room: &'a mut [u8], flush_fault: Option<u64>) -> SliceSink<'a>
-        ensures { result ≡ record { written = []; room = length room.old; flushes_left = unwrap_or flush_fault 0; failures = 0; is_flushed = true } }
+        ensures { result ≡ record {
+          written = [];
+          room = length room.old;
+          flushes_left = unwrap_or flush_fault 0;
+          failures = 0;
+          is_flushed = true;
+        } }
     {
         SliceSink {
             room,
@@ -62,7 +77,11 @@ impl Sink for SliceSink<'_> {
     fn put(&mut self, byte: u8) -> Result<(), SinkFailed>
         requires { self.old.failures < 2 ^ 64 - 1 }
         ensures full { is_ok result ≡ nat_lt (length self.old.written) self.old.room }
-        ensures after { self.new ≡ record self.old { written = after_put self.old.written byte result; failures = self.old.failures + failures_of result; is_flushed = self.old.is_flushed && is_err result } }
+        ensures after { self.new ≡ record self.old {
+          written = after_put self.old.written byte result;
+          failures = self.old.failures + failures_of result;
+          is_flushed = self.old.is_flushed && is_err result;
+        } }
         ensures writes { Unit {0} → self.new.written ≡ after_put self.old.written byte result }
         ensures told { Unit {0} → Unit {0} }
         ensures counts { self.new.failures ≡ self.old.failures + failures_of result }
@@ -81,7 +100,11 @@ impl Sink for SliceSink<'_> {
     fn flush(&mut self) -> Result<(), SinkFailed>
         requires { self.old.failures < 2 ^ 64 - 1 }
         ensures fault { is_ok result ≡ not (nat_eq self.old.flushes_left 1) }
-        ensures after { self.new ≡ record self.old { flushes_left = self.old.flushes_left - 1; failures = self.old.failures + failures_of result; is_flushed = self.old.is_flushed || is_ok result } }
+        ensures after { self.new ≡ record self.old {
+          flushes_left = self.old.flushes_left - 1;
+          failures = self.old.failures + failures_of result;
+          is_flushed = self.old.is_flushed || is_ok result;
+        } }
         ensures keeps { Unit {0} → self.new.written ≡ self.old.written }
         ensures flushed { OnOk result (self.new.is_flushed ≡ true) }
         ensures told { Unit {0} → Unit {0} }

@@ -1,11 +1,11 @@
 //! A sink over a writer.
-ghost use Rattle.std.specs.Prelude.{◌≡◌, ℕ, ◌+◌, ◌-◌, ◌^◌, ◌<◌, ◌≤◌, List, [], length, take, drop, IsSome, IfSome, unwrap_or, is_ok, not, nat_eq, nat_lt, true, false, Bool};
-ghost use Rattle.trac_core.specs.Devices.{Stream, Gives, failures_of_next, failures_of, after_put};
+ghost use Rattle.std.specs.Prelude.{◌≡◌, ◌+◌, ◌-◌, ◌<◌, [], IsSome, unwrap_or, true, false};
 
 use super::{Sink, SinkFailed};
 use std::io::Write;
 
-/// A sink over a writer, by writes of one byte. An error, or a write of no byte, is a failure. This processor's own choice.
+/// A sink over a writer, by writes of one byte. An error, or a
+/// write of no byte, is a failure. This processor's own choice.
 #[derive(Drop)]
 pub struct WriteSink<W> {
     writer: W,
@@ -17,7 +17,8 @@ impl<W: Write> WriteSink<W> {
     /// A sink that writes to the writer.
     pub fn new(writer: W) -> WriteSink<W>
         ensures tells { IsSome (W.contents writer) → ⟦<WriteSink<W> as Sink>⟧.tells result }
-        ensures written { ⟦<WriteSink<W> as Sink>⟧.written result ≡ unwrap_or (W.contents writer) [] }
+        ensures written { ⟦<WriteSink<W> as Sink>⟧.written result ≡
+            unwrap_or (W.contents writer) [] }
         ensures flushed { ⟦<WriteSink<W> as Sink>⟧.flushed result }
         ensures none { ⟦<WriteSink<W> as Sink>⟧.failure_count result ≡ 0 }
     {

@@ -10,14 +10,16 @@ use super::Machine;
 use crate::scan::{character, is_at};
 use trac_forms::{Cell, Work};
 
-/// The rows of the table of scanning rules: what a step does is told by the beginning of the active string (Mooers 1966).
+/// The rows of the table of scanning rules: what a step does is
+/// told by the beginning of the active string (Mooers 1966).
 #[derive(Clone, Copy, Debug, PartialEq, Eq)]
 pub enum ScanningRule {
     /// The active string is empty: the idling procedure is loaded.
     Idling,
     /// A tab, a line feed or a carriage return is deleted.
     Layout,
-    /// A left parenthesis: the text up to its match is taken over; without a match the active string becomes empty.
+    /// A left parenthesis: the text up to its match is taken
+    /// over; without a match the active string becomes empty.
     Protection,
     /// A comma: an argument begins.
     Argument,
@@ -55,8 +57,9 @@ impl<'a> Machine<'a> {
         self.work.active_part(0, self.work.active_len())
     }
 
-    /// The neutral string: the base text, and then for each open call its mark and its arguments with a comma mark between two,
-    /// the outermost call first. The number in a call mark is of no use to a caller.
+    /// The neutral string: the base text, and then for each open call its
+    /// mark and its arguments with a comma mark between two, the outermost
+    /// call first. The number in a call mark is of no use to a caller.
     pub fn neutral(&self) -> &[Cell]
         ensures { neutral_of result.now ≡ neutral_in self.now.memory }
     {
@@ -70,7 +73,8 @@ impl<'a> Machine<'a> {
         rule_of(&self.work)
     }
 
-    /// The peak, in cells, which then counts from 0 again: called after each step it tells what that step needed.
+    /// The peak, in cells, which then counts from 0 again:
+    /// called after each step it tells what that step needed.
     pub fn take_peak(&mut self) -> u32
         ensures peak { result ≡ self.old.peak }
         ensures after { self.new ≡ record self.old { peak = 0 } }

@@ -1,6 +1,5 @@
 //! Runs over devices that fail, and over sources, sinks, readers and writers of the tests' own.
-ghost use Rattle.std.specs.Prelude.{◌≡◌, ◌+◌, ◌-◌, ◌^◌, ◌<◌, ◌≤◌, [], length, false, ⊤};
-ghost use Rattle.trac_core.specs.Devices.{Stream, failures_of_next, failures_of, after_put};
+ghost use Rattle.std.specs.Prelude.{◌≡◌, ◌+◌, ◌-◌, ◌<◌, [], false, ⊤};
 
 use super::{AMPLE, Faults, HELLO, MANY, NO_FAULTS, SHOWN, came_to, faulty};
 use crate::{
@@ -67,7 +66,8 @@ impl Source for FakeSource<'_> {
     }
 }
 
-/// A sink that fails at the put and at the flush of these numbers, counted from 1. It counts its calls.
+/// A sink that fails at the put and at the flush of these
+/// numbers, counted from 1. It counts its calls.
 #[derive(Drop)]
 struct FakeSink {
     bad_put: u32,
@@ -410,7 +410,8 @@ fn flushes_that_fail(rt: HostRuntime) {
     );
 }
 
-/// Runs over devices that count, and compares the puts, the flushes and the bytes that were asked for.
+/// Runs over devices that count, and compares the puts, the
+/// flushes and the bytes that were asked for.
 fn calls(rt: &impl Abort, script: &str, puts: u32, flushes: u32, asked: u32) {
     let mut block = [Cell::Byte(0); AMPLE];
     let mut source = FakeSource::new(script.as_bytes(), 0, false);
@@ -455,7 +456,8 @@ fn endless_line(rt: HostRuntime) {
     assert_eq!(rt; (sink.puts, sink.flushes), (0, 0));
 }
 
-/// Steps a machine to its end and three times more, when it has to answer the same and to call no device.
+/// Steps a machine to its end and three times more, when it
+/// has to answer the same and to call no device.
 fn stays_over(
     rt: &impl Abort,
     mut source: FakeSource<'_>,

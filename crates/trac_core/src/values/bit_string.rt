@@ -1,9 +1,12 @@
 //! Bit strings at the end of texts.
-ghost use Rattle.std.specs.Prelude.{◌≡◌, ◌+◌, ◌*◌, ◌%◌, ◌<◌, ◌≤◌, ◌^◌, false, true, length, pos, slice_get, slice_index_or, ◌+ℤ◌};
-ghost use Rattle.trac_core.specs.BitString.{bit_at, bits, complement, intersection, is_octal, octal, octal_digit, octal_digits, octal_prefix, rotated, shifted, union};
+ghost use Rattle.std.specs.Prelude.{◌≡◌, ◌+◌, ◌*◌, ◌%◌, ◌<◌, ◌≤◌, ◌^◌, false, true, length, pos};
+ghost use Rattle.std.specs.Prelude.{slice_get, slice_index_or, ◌+ℤ◌};
+ghost use Rattle.trac_core.specs.BitString.{bit_at, complement, intersection, is_octal, octal};
+ghost use Rattle.trac_core.specs.BitString.{octal_digit, octal_digits, octal_prefix, rotated};
+ghost use Rattle.trac_core.specs.BitString.{shifted, union};
 ghost use Rattle.trac_core.specs.Digits.{bits_of_cells, padded_text, signed, IsOctal};
 ghost use Rattle.trac_core.specs.Number.{number};
-ghost use Rattle.trac_core.specs.Cells.{IsText};
+ghost use Rattle.trac_core.specs.Cells.{IsText, bits_in, number_in};
 ghost use Rattle.trac_forms.specs.FlatForms.{text_of_cells};
 
 use super::number::{Count, rotation_of, shift_of};
@@ -37,9 +40,10 @@ pub(crate) fn octal_digits(cells: &[Cell]) -> &[Cell]
     cells.split_at(octal_digits_start(cells)).1
 }
 
-/// Where the bit string at the end of a text begins, in cells: the length of its prefix. The bit string is the longest suffix of
-/// the digits 0 to 7, of three bits each, the most significant first. That bits are written as octal digits at the right end is
-/// Mooers' rule of 1966, the rest this processor's own choice.
+/// Where the bit string at the end of a text begins, in cells: the length of its
+/// prefix. The bit string is the longest suffix of the digits 0 to 7, of three
+/// bits each, the most significant first. That bits are written as octal digits at
+/// the right end is Mooers' rule of 1966, the rest this processor's own choice.
 pub fn octal_start(cells: &[Cell]) -> u32
     requires { IsText cells.now }
     ensures { result ≡ length (octal_prefix (text_of_cells cells.now)) }
@@ -47,7 +51,8 @@ pub fn octal_start(cells: &[Cell]) -> u32
     octal_digits_start(cells) as u32
 }
 
-/// The digit at a place, counted in a string of so many digits that these are the last of; the digit 0 before the first.
+/// The digit at a place, counted in a string of so many digits
+/// that these are the last of; the digit 0 before the first.
 fn aligned_digit(digits: &[Cell], long: usize, place: usize) -> u8
     requires octal { IsOctal digits.now }
     requires long { (length digits.now ≤ long) × (long < 2 ^ 62) }
@@ -62,7 +67,8 @@ fn aligned_digit(digits: &[Cell], long: usize, place: usize) -> u8
     }
 }
 
-/// The digit at a place of the union of the bits of digits. The characters of digits differ in their last three bits.
+/// The digit at a place of the union of the bits of digits.
+/// The characters of digits differ in their last three bits.
 pub(crate) fn union_digit(a: &[Cell], b: &[Cell], k: u32) -> Option<u8>
     requires left { IsOctal a.now }
     requires right { IsOctal b.now }
@@ -82,7 +88,8 @@ pub(crate) fn intersection_digit(a: &[Cell], b: &[Cell], k: u32) -> Option<u8>
     requires left { IsOctal a.now }
     requires right { IsOctal b.now }
     requires short { (length a.now ≤ 16777216) × (length b.now ≤ 16777216) }
-    ensures { result ≡ slice_get (octal (intersection (bits_of_cells a.now) (bits_of_cells b.now))) k }
+    ensures { result ≡
+        slice_get (octal (intersection (bits_of_cells a.now) (bits_of_cells b.now))) k }
 {
     let short = a.len().min(b.len());
     let place = k as usize;
@@ -136,7 +143,8 @@ fn shifted_bit(digits: &[Cell], by: Count, place: usize) -> bool
 /// The digit at a place of a shift of the bits of digits.
 pub(crate) fn shifted_digit(digits: &[Cell], by: Count, k: u32) -> Option<u8>
     requires { IsOctal digits.now }
-    ensures { result ≡ slice_get (octal (shifted (signed by.negative by.size) (bits_of_cells digits.now))) k }
+    ensures { let distance = signed by.negative by.size in
+        result ≡ slice_get (octal (shifted distance (bits_of_cells digits.now))) k }
 {
     let place = k as usize;
     if place >= digits.len() {
@@ -153,7 +161,8 @@ fn rotated_bit(digits: &[Cell], by: u32, place: usize) -> bool
     requires octal { IsOctal digits.now }
     requires by { by < 3 * length digits.now }
     requires place { place < 3 * length digits.now }
-    ensures { result ≡ slice_index_or (bits_of_cells digits.now) ((place + by) % (3 * length digits.now)) false }
+    ensures { let moved = (place + by) % (3 * length digits.now) in
+        result ≡ slice_index_or (bits_of_cells digits.now) moved false }
 {
     let moved = place + by as usize;
     if moved / 3 < digits.len() {
@@ -163,7 +172,8 @@ fn rotated_bit(digits: &[Cell], by: u32, place: usize) -> bool
     }
 }
 
-/// The digit at a place of a rotation of the bits of digits, of which there are more than by how many they move.
+/// The digit at a place of a rotation of the bits of digits,
+/// of which there are more than by how many they move.
 pub(crate) fn rotated_digit(digits: &[Cell], by: u32, k: u32) -> Option<u8>
     requires octal { IsOctal digits.now }
     requires by { by < 3 * length digits.now }
@@ -179,53 +189,57 @@ pub(crate) fn rotated_digit(digits: &[Cell], by: u32, k: u32) -> Option<u8>
     Some(octal_digit(first, second, third))
 }
 
-/// The union of the bit strings of two texts, for `bu` (Mooers 1966): the character of its octal digit at a place, counted from
-/// 0 at the left, and None past its end. That the shorter is filled with zeros at the left is this processor's own choice.
+/// The union of the bit strings of two texts, for `bu` (Mooers 1966): the character of its octal
+/// digit at a place, counted from 0 at the left, and None past its end. That the shorter is filled
+/// with zeros at the left is this processor's own choice.
 pub fn bool_union(a: &[Cell], b: &[Cell], k: u32) -> Option<u8>
     requires left { IsText a.now }
     requires right { IsText b.now }
-    ensures { result ≡ slice_get (octal (union (bits (text_of_cells a.now)) (bits (text_of_cells b.now)))) k }
+    ensures { result ≡ slice_get (octal (union (bits_in a.now) (bits_in b.now))) k }
 {
     union_digit(octal_digits(a), octal_digits(b), k)
 }
 
-/// The intersection of the bit strings of two texts, for `bi` (Mooers 1966): the character of its octal digit at a place, counted
-/// from 0 at the left, and None past its end. That the longer is cut at the left is this processor's own choice.
+/// The intersection of the bit strings of two texts, for `bi` (Mooers 1966): the character of its
+/// octal digit at a place, counted from 0 at the left, and None past its end. That the longer is
+/// cut at the left is this processor's own choice.
 pub fn bool_intersection(a: &[Cell], b: &[Cell], k: u32) -> Option<u8>
     requires left { IsText a.now }
     requires right { IsText b.now }
-    ensures { result ≡ slice_get (octal (intersection (bits (text_of_cells a.now)) (bits (text_of_cells b.now)))) k }
+    ensures { result ≡ slice_get (octal (intersection (bits_in a.now) (bits_in b.now))) k }
 {
     intersection_digit(octal_digits(a), octal_digits(b), k)
 }
 
-/// The bit string of a text with each bit turned over, for `bc` (Mooers 1966): the character of its octal digit at a place,
-/// counted from 0 at the left, and None past its end.
+/// The bit string of a text with each bit turned over, for `bc` (Mooers 1966): the character of its
+/// octal digit at a place, counted from 0 at the left, and None past its end.
 pub fn bool_complement(a: &[Cell], k: u32) -> Option<u8>
     requires { IsText a.now }
-    ensures { result ≡ slice_get (octal (complement (bits (text_of_cells a.now)))) k }
+    ensures { result ≡ slice_get (octal (complement (bits_in a.now))) k }
 {
     complement_digit(octal_digits(a), k)
 }
 
-/// The bit string of the second text, shifted by as many bits as the number of the first says, to the left where that is positive,
-/// for `bs` (Mooers 1966): the character of its octal digit at a place, counted from 0 at the left, and None past its end. That
-/// zeros come in and the length is kept, and that the number may have any length, is this processor's own choice.
+/// The bit string of the second text, shifted by as many bits as the number of the first says, to
+/// the left where that is positive, for `bs` (Mooers 1966): the character of its octal digit at a
+/// place, counted from 0 at the left, and None past its end. That zeros come in and the length is
+/// kept, and that the number may have any length, is this processor's own choice.
 pub fn bool_shift(d: &[Cell], a: &[Cell], k: u32) -> Option<u8>
     requires distance { IsText d.now }
     requires shifted { IsText a.now }
-    ensures { result ≡ slice_get (octal (shifted (number (text_of_cells d.now)) (bits (text_of_cells a.now)))) k }
+    ensures { result ≡ slice_get (octal (shifted (number_in d.now) (bits_in a.now))) k }
 {
     shifted_digit(octal_digits(a), shift_of(d), k)
 }
 
-/// The bit string of the second text, rotated by as many bits as the number of the first says, to the left where that is positive,
-/// for `br` (Mooers 1966): the character of its octal digit at a place, counted from 0 at the left, and None past its end. That
-/// the length is kept, and that the number may have any length, is this processor's own choice.
+/// The bit string of the second text, rotated by as many bits as the number of the first says, to
+/// the left where that is positive, for `br` (Mooers 1966): the character of its octal digit at a
+/// place, counted from 0 at the left, and None past its end. That the length is kept, and that the
+/// number may have any length, is this processor's own choice.
 pub fn bool_rotation(d: &[Cell], a: &[Cell], k: u32) -> Option<u8>
     requires distance { IsText d.now }
     requires rotated { IsText a.now }
-    ensures { result ≡ slice_get (octal (rotated (number (text_of_cells d.now)) (bits (text_of_cells a.now)))) k }
+    ensures { result ≡ slice_get (octal (rotated (number_in d.now) (bits_in a.now))) k }
 {
     let digits = octal_digits(a);
     if digits.is_empty() {

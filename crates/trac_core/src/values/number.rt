@@ -1,11 +1,12 @@
 //! Numbers at the end of texts.
-ghost use Rattle.std.specs.Prelude.{◌≡◌, ◌↔◌, ℕ, ℤ, ◌+◌, ◌*◌, ◌%◌, ◌<◌, ◌≤◌, ◌^◌, min, IfSome, IsTrue, length, int_lt, neg_ℤ, pos, unsigned_abs, ◌<ℤ◌};
+ghost use Rattle.std.specs.Prelude.{◌≡◌, ◌↔◌, ℕ, ℤ, ◌+◌, ◌*◌, ◌%◌, ◌<◌, ◌≤◌, ◌^◌, min, IfSome};
+ghost use Rattle.std.specs.Prelude.{IsTrue, length, int_lt, neg_ℤ, pos, unsigned_abs, ◌<ℤ◌};
 ghost use Rattle.std.specs.Int.{int_rem_euclid};
 ghost use Rattle.std.specs.Ordering.{nat_cmp};
-ghost use Rattle.std.specs.Str.Parse.{digits_value};
-ghost use Rattle.trac_core.specs.Digits.{IsDecimal};
-ghost use Rattle.trac_core.specs.Number.{arith, before_digits, digits, exactly, if_in_range, in_range, number, prefix, value_upto};
-ghost use Rattle.trac_core.specs.Cells.{IsText};
+ghost use Rattle.trac_core.specs.Digits.{IsDecimal, decimal_value};
+ghost use Rattle.trac_core.specs.Number.{arith, before_digits, digits, exactly, if_in_range};
+ghost use Rattle.trac_core.specs.Number.{in_range, prefix, value_upto};
+ghost use Rattle.trac_core.specs.Cells.{IsText, number_in};
 ghost use Rattle.trac_core.specs.declared.values.number.Arith.TheVariants.{Divide};
 ghost use Rattle.trac_forms.specs.FlatForms.{text_of_cells};
 
@@ -23,9 +24,10 @@ pub enum Arith {
 }
 
 impl Arith {
-    /// The sum, difference, product or quotient of two numbers in the range of arithmetic (Mooers 1966). None where it is
-    /// outside that range, from -(2^127 - 1) up to 2^127 - 1, and for a divisor of 0. The range, and that a quotient is rounded
-    /// towards 0, is this processor's own choice.
+    /// The sum, difference, product or quotient of two numbers in the range
+    /// of arithmetic (Mooers 1966). None where it is outside that range, from
+    /// -(2^127 - 1) up to 2^127 - 1, and for a divisor of 0. The range, and
+    /// that a quotient is rounded towards 0, is this processor's own choice.
     pub fn apply(self, a: i128, b: i128) -> Option<i128>
         requires left { IsTrue (in_range a) }
         requires right { IsTrue (in_range b) }
@@ -44,7 +46,8 @@ impl Arith {
     }
 }
 
-/// The quotient, rounded towards 0; None for a divisor of 0. Numbers that 64 bits hold are divided as such.
+/// The quotient, rounded towards 0; None for a divisor of
+/// 0. Numbers that 64 bits hold are divided as such.
 fn quotient(a: i128, b: i128) -> Option<i128>
     requires left { IsTrue (in_range a) }
     requires right { IsTrue (in_range b) }
@@ -63,7 +66,8 @@ fn quotient(a: i128, b: i128) -> Option<i128>
 pub struct TailNumber {
     /// The length of the prefix, the text before the number and its sign, in cells.
     pub start: u32,
-    /// The number, or None where it is outside the range of arithmetic, from -(2^127 - 1) up to 2^127 - 1.
+    /// The number, or None where it is outside the range of
+    /// arithmetic, from -(2^127 - 1) up to 2^127 - 1.
     pub value: Option<i128>,
 }
 
@@ -78,10 +82,12 @@ fn digits_start(cells: &[Cell]) -> usize
     start
 }
 
-/// Ten times a number and a digit, None where that, or the number, is outside the range of arithmetic.
+/// Ten times a number and a digit, None where that, or the
+/// number, is outside the range of arithmetic.
 fn with_digit(value: Option<i128>, digit: u8) -> Option<i128>
     requires { digit < 10 }
-    ensures { (n : ℕ) → value ≡ if_in_range (Some (pos n)) → result ≡ if_in_range (Some (pos (n * 10 + digit))) }
+    ensures { (n : ℕ) → value ≡ if_in_range (Some (pos n)) →
+        result ≡ if_in_range (Some (pos (n * 10 + digit))) }
 {
     value?.checked_mul(10)?.checked_add(i128::from(digit))
 }
@@ -100,7 +106,7 @@ fn split_digits(cells: &[Cell]) -> (&[Cell], &[Cell])
 fn short_value(digits: &[Cell]) -> u64
     requires digits { IsDecimal digits.now }
     requires short { length digits.now ≤ 19 }
-    ensures { result ≡ digits_value 10 (text_of_cells digits.now) }
+    ensures { result ≡ decimal_value digits.now }
 {
     let mut value: u64 = 0;
     for cell in digits {
@@ -112,7 +118,7 @@ fn short_value(digits: &[Cell]) -> u64
 /// The number that digits are, of any length, None where it is outside the range of arithmetic.
 fn long_value(digits: &[Cell]) -> Option<i128>
     requires { IsDecimal digits.now }
-    ensures { result ≡ if_in_range (Some (pos (digits_value 10 (text_of_cells digits.now)))) }
+    ensures { result ≡ if_in_range (Some (pos (decimal_value digits.now))) }
 {
     let mut value = Some(0);
     for cell in digits {
@@ -124,7 +130,7 @@ fn long_value(digits: &[Cell]) -> Option<i128>
 /// The number that digits are, None where it is outside the range of arithmetic.
 fn value_of(digits: &[Cell]) -> Option<i128>
     requires { IsDecimal digits.now }
-    ensures { result ≡ if_in_range (Some (pos (digits_value 10 (text_of_cells digits.now)))) }
+    ensures { result ≡ if_in_range (Some (pos (decimal_value digits.now))) }
 {
     if digits.len() <= 19 {
         Some(i128::from(short_value(digits)))
@@ -135,18 +141,20 @@ fn value_of(digits: &[Cell]) -> Option<i128>
 
 /// The number turned to the other sign.
 fn negated(value: Option<i128>) -> Option<i128>
-    ensures { (n : ℕ) → value ≡ if_in_range (Some (pos n)) → result ≡ if_in_range (Some (neg_ℤ (pos n))) }
+    ensures { (n : ℕ) → value ≡ if_in_range (Some (pos n)) →
+        result ≡ if_in_range (Some (neg_ℤ (pos n))) }
 {
     value?.checked_neg()
 }
 
-/// The number at the end of a text, for arithmetic: the longest suffix of decimal digits, with one `+` or `-` just before it.
-/// Without digits the number is 0 and the whole text is the prefix. That a number stands at the right end behind a prefix is
-/// Mooers' rule of 1966, the rest this processor's own choice.
+/// The number at the end of a text, for arithmetic: the longest suffix of decimal
+/// digits, with one `+` or `-` just before it. Without digits the number is 0 and
+/// the whole text is the prefix. That a number stands at the right end behind a
+/// prefix is Mooers' rule of 1966, the rest this processor's own choice.
 pub fn tail_number(cells: &[Cell]) -> TailNumber
     requires { IsText cells.now }
     ensures start { result.start ≡ length (prefix (text_of_cells cells.now)) }
-    ensures value { result.value ≡ if_in_range (Some (number (text_of_cells cells.now))) }
+    ensures value { result.value ≡ if_in_range (Some (number_in cells.now)) }
 {
     let (front, digits) = split_digits(cells);
     let start = front.len() as u32;
@@ -172,23 +180,26 @@ pub fn tail_number(cells: &[Cell]) -> TailNumber
     }
 }
 
-/// What an operation makes of two numbers. None where one of them or the result is outside the range of arithmetic, and for a
-/// divisor of 0.
+/// What an operation makes of two numbers. None where one of them or the result is outside the
+/// range of arithmetic, and for a divisor of 0.
 pub(crate) fn result_of(operation: Arith, a: Option<i128>, b: Option<i128>) -> Option<i128>
     requires left { IfSome a (λ m. IsTrue (in_range m)) }
     requires right { IfSome b (λ n. IsTrue (in_range n)) }
-    ensures { (m n : ℤ) → a ≡ if_in_range (Some m) → b ≡ if_in_range (Some n) → result ≡ arith operation m n }
+    ensures { (m n : ℤ) → a ≡ if_in_range (Some m) → b ≡ if_in_range (Some n) →
+        result ≡ arith operation m n }
 {
     operation.apply(a?, b?)
 }
 
-/// The digit at a place, counted in a number of so many digits that these are the last of; 0 before the first.
+/// The digit at a place, counted in a number of so many
+/// digits that these are the last of; 0 before the first.
 fn digit_at(digits: &[Cell], long: usize, place: usize) -> u8
     requires digits { IsDecimal digits.now }
     requires long { (length digits.now ≤ long) × (long < 2 ^ 62) }
     requires place { place < long }
     ensures below { result < 10 }
-    ensures value { value_upto (text_of_cells digits.now) long (place + 1) ≡ value_upto (text_of_cells digits.now) long place * 10 + result }
+    ensures value { let text = text_of_cells digits.now in
+        value_upto text long (place + 1) ≡ value_upto text long place * 10 + result }
 {
     if place + digits.len() < long {
         0
@@ -202,7 +213,7 @@ fn compare_digits(a: &[Cell], b: &[Cell]) -> Ordering
     requires left { IsDecimal a.now }
     requires right { IsDecimal b.now }
     requires short { (length a.now ≤ 16777216) × (length b.now ≤ 16777216) }
-    ensures { result ≡ nat_cmp (digits_value 10 (text_of_cells a.now)) (digits_value 10 (text_of_cells b.now)) }
+    ensures { result ≡ nat_cmp (decimal_value a.now) (decimal_value b.now) }
 {
     let long = a.len().max(b.len());
     let mut order = Ordering::Equal;
@@ -212,12 +223,12 @@ fn compare_digits(a: &[Cell], b: &[Cell]) -> Ordering
     order
 }
 
-/// Whether the number at the end of a text is greater than that at the end of another: the test of `gr` (Mooers 1966). That
-/// the numbers may have any length is this processor's own choice.
+/// Whether the number at the end of a text is greater than that at the end of another: the test of
+/// `gr` (Mooers 1966). That the numbers may have any length is this processor's own choice.
 pub fn greater(a: &[Cell], b: &[Cell]) -> bool
     requires left { IsText a.now }
     requires right { IsText b.now }
-    ensures { IsTrue result ↔ (number (text_of_cells b.now) <ℤ number (text_of_cells a.now)) }
+    ensures { IsTrue result ↔ (number_in b.now <ℤ number_in a.now) }
 {
     let (a_front, a_digits) = split_digits(a);
     let (b_front, b_digits) = split_digits(b);
@@ -245,7 +256,7 @@ pub(crate) struct Count {
 fn value_up_to(digits: &[Cell], limit: u32) -> u32
     requires digits { IsDecimal digits.now }
     requires limit { limit ≤ 50331648 }
-    ensures { result ≡ min (digits_value 10 (text_of_cells digits.now)) limit }
+    ensures { result ≡ min (decimal_value digits.now) limit }
 {
     let mut value = 0;
     for cell in digits {
@@ -257,8 +268,8 @@ fn value_up_to(digits: &[Cell], limit: u32) -> u32
 /// The number at the end of a text, of any length, up to a limit.
 fn count_up_to(cells: &[Cell], limit: u32) -> Count
     requires limit { (0 < limit) × (limit ≤ 50331648) }
-    ensures negative { result.negative ≡ int_lt (number (text_of_cells cells.now)) (pos 0) }
-    ensures size { result.size ≡ min (unsigned_abs (number (text_of_cells cells.now))) limit }
+    ensures negative { result.negative ≡ int_lt (number_in cells.now) (pos 0) }
+    ensures size { result.size ≡ min (unsigned_abs (number_in cells.now)) limit }
 {
     let (front, digits) = split_digits(cells);
     let size = value_up_to(digits, limit);
@@ -270,16 +281,16 @@ fn count_up_to(cells: &[Cell], limit: u32) -> Count
 
 /// How many characters the number of a text counts, up to as many as a block can hold.
 pub(crate) fn count_of(cells: &[Cell]) -> Count
-    ensures negative { result.negative ≡ int_lt (number (text_of_cells cells.now)) (pos 0) }
-    ensures size { result.size ≡ min (unsigned_abs (number (text_of_cells cells.now))) 16777216 }
+    ensures negative { result.negative ≡ int_lt (number_in cells.now) (pos 0) }
+    ensures size { result.size ≡ min (unsigned_abs (number_in cells.now)) 16777216 }
 {
     count_up_to(cells, 16_777_216)
 }
 
 /// How far the number of a text shifts bits, up to as many as a block can hold.
 pub(crate) fn shift_of(cells: &[Cell]) -> Count
-    ensures negative { result.negative ≡ int_lt (number (text_of_cells cells.now)) (pos 0) }
-    ensures size { result.size ≡ min (unsigned_abs (number (text_of_cells cells.now))) 50331648 }
+    ensures negative { result.negative ≡ int_lt (number_in cells.now) (pos 0) }
+    ensures size { result.size ≡ min (unsigned_abs (number_in cells.now)) 50331648 }
 {
     count_up_to(cells, 50_331_648)
 }
@@ -288,7 +299,7 @@ pub(crate) fn shift_of(cells: &[Cell]) -> Count
 fn remainder_of(digits: &[Cell], divisor: u32) -> u32
     requires digits { IsDecimal digits.now }
     requires divisor { (0 < divisor) × (divisor ≤ 50331648) }
-    ensures { result ≡ digits_value 10 (text_of_cells digits.now) % divisor }
+    ensures { result ≡ decimal_value digits.now % divisor }
 {
     let mut rest = 0;
     for cell in digits {
@@ -300,7 +311,7 @@ fn remainder_of(digits: &[Cell], divisor: u32) -> u32
 /// How far to the left the number of a text rotates a string of so many bits.
 pub(crate) fn rotation_of(cells: &[Cell], bits: u32) -> u32
     requires { (0 < bits) × (bits ≤ 50331648) }
-    ensures { int_rem_euclid (number (text_of_cells cells.now)) (pos bits) ≡ pos result }
+    ensures { int_rem_euclid (number_in cells.now) (pos bits) ≡ pos result }
 {
     let (front, digits) = split_digits(cells);
     let rest = remainder_of(digits, bits);

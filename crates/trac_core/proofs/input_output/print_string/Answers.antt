@@ -14,6 +14,6 @@ pub returns-in-Err-clause-tried : goal.returns-in-Err-clause-tried
 returns-in-Err-clause-tried g c = λ told meta source.
     let text = c.text.ensures.text ∙ c.next-part.ensures.text ∙ argument-one (arguments_at c.args.work.now.neutral c.args.place) (texts c.args.work.now c.args.arguments) c.requires.rest in
     let broke = c.in-Err.ensures.writes told in
-    rw broke.1.2
+    rw broke.1.1.1
     (tried-print-broken c.args.work.now c.args.place c.used-need.result c.requires.call c.used-need.ensures.value meta source (g.O.Sink.written c.args.sink.now) broke.0 broke.1.0
-    (sym text ∙ broke.1.1) (λ none. c.in-Err.ensures.some (broke.1.1 ∙ none)))
+    (sym text ∙ broke.1.1.0) (λ none. c.in-Err.ensures.some (broke.1.1.0 ∙ none)))
