@@ -128,8 +128,7 @@ pub(crate) fn call_form(work: &mut Work, mut arguments: Arguments) -> Made
     let Some(form) = next_form(work, &mut arguments) else {
         return Made::Value;
     };
-    let from = work.pointer(form);
-    if work.fill_body(form, from, arguments.from, arguments.end) {
+    if work.fill_body(form, arguments.from, arguments.end) {
         Made::Value
     } else {
         Made::Full

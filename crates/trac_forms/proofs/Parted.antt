@@ -104,12 +104,12 @@ parts-longer neutral more from end within =
     (cases_lt end from)
 
 -- an empty list of where parts begin
-pub listed-none : (cells : List Cell) → IsListed cells [] 0
-listed-none cells = record { all = refl; begins = λ number some within. absurd (omega (arith, some, within)); ends = λ number some within. absurd (omega (arith, some, within)) }
+pub listed-none : (cells : List Cell) → 0 < length cells → IsListed cells [] 0
+listed-none cells some = record { all = refl; within = omega (arith, some); bounded = omega arith; begins = λ number some within. absurd (omega (arith, some, within)); ends = λ number some within. absurd (omega (arith, some, within)) }
 
 -- one part more is listed
-pub listed-more : (cells : List Cell) (parts : List (ℕ × ℕ)) (count from to : ℕ) → IsListed cells parts count → head_at cells 0 ≡ from → IsListed (Head (to + 1) ∷ cells) (parts ++ (from, to) ∷ []) (count + 1)
-listed-more cells parts count from to listed first =
+pub listed-more : (cells : List Cell) (parts : List (ℕ × ℕ)) (count from to : ℕ) → IsListed cells parts count → count ≤ 16777216 → head_at cells 0 ≡ from → IsListed (Head (to + 1) ∷ cells) (parts ++ (from, to) ∷ []) (count + 1)
+listed-more cells parts count from to listed few first =
     let new = parts ++ (from, to) ∷ [] in
     let all = listed.all in
     let older : (number : ℕ) → number ≤ count → numbered_part new number ≡ numbered_part parts number =
@@ -119,6 +119,8 @@ listed-more cells parts count from to listed first =
     ap (λ k. get_or ((0, 0) ∷ new) k (0, 0)) e ∙ get_or-append_seam parts (from, to) [] (0, 0) in
     record {
       all = omega (arith, all, length-append parts ((from, to) ∷ []));
+      within = omega (arith, listed.within);
+      bounded = omega (arith, few);
       begins = λ number some within.
           let behind : count + 1 + 1 - number ≡ suc (count + 1 - number) = omega (arith, within) in
           ap (head_at (Head (to + 1) ∷ cells)) behind
@@ -150,7 +152,6 @@ pub record ListsUpTo (old now : Lists) (from at end count : ℕ) : Type 0 where
   pub listed : IsListed now.active parts count
   pub next : head_at now.active 0 ≡ at
   pub few : count + from ≤ at
-  pub within : count + 1 ≤ length now.active
   pub behind : drop (count + 1) now.active ≡ old.active
   pub way : HasWay (end + 1 - at) now
 
@@ -161,16 +162,15 @@ lists-none old now from end order is room =
       same = rw is refl;
       order = omega (arith, order);
       split = refl;
-      listed = listed-none now.active;
+      listed = listed-none now.active (omega (arith, ap (λ (s : Lists). length s.active) is));
       next = ap (λ (s : Lists). head_at s.active 0) is;
       few = omega arith;
-      within = omega (arith, ap (λ (s : Lists). length s.active) is);
       behind = ap (λ (s : Lists). drop 1 s.active) is;
       way = omega (arith, room, order, ap used is, ap (λ (s : Lists). length s.spare) is, ap (λ (s : Lists). s.room) is);
     }
 
-pub lists-more : (old now new : Lists) (from at end count n : ℕ) → ListsUpTo old now from at end count → at ≤ end → end ≤ length old.neutral → n ≡ before_comma (slice_range now.neutral at end) → new ≡ record now { active = Head (at + n + 1) ∷ now.active } → ListsUpTo old new from (at + n + 1) end (count + 1)
-lists-more old now new from at end count n h le within is pushed =
+pub lists-more : (old now new : Lists) (from at end count n : ℕ) → ListsUpTo old now from at end count → at ≤ end → end ≤ length old.neutral → end ≤ 16777216 → n ≡ before_comma (slice_range now.neutral at end) → new ≡ record now { active = Head (at + n + 1) ∷ now.active } → ListsUpTo old new from (at + n + 1) end (count + 1)
+lists-more old now new from at end count n h le within bounded is pushed =
     let neutral : now.neutral ≡ old.neutral = ap (λ (s : Lists). s.neutral) h.same in
     let found : n ≡ before_comma (slice_range old.neutral at end) = is ∙ ap (λ cells. before_comma (slice_range cells at end)) neutral in
     let fits = part-fits old.neutral at end n le within found in
@@ -180,10 +180,9 @@ lists-more old now new from at end count n h le within is pushed =
       same = pushed ∙ ap (λ (s : Lists). record s { active = Head (at + n + 1) ∷ now.active }) h.same ∙ ap (λ cells. record old { active = cells }) (sym active);
       order = omega (arith, fits);
       split = h.split ∙ ap (λ parts. h.parts ++ parts) (parts-first old.neutral at end n le within found) ∙ sym (append_assoc h.parts ((at, at + n) ∷ []) (parts_between old.neutral (at + n + 1) end));
-      listed = rw active (listed-more now.active h.parts count at (at + n) h.listed h.next);
+      listed = rw active (listed-more now.active h.parts count at (at + n) h.listed (omega (arith, h.few, le, bounded)) h.next);
       next = ap (λ cells. head_at cells 0) active;
       few = omega (arith, h.few);
-      within = omega (arith, h.within, ap length active);
       behind = let e : count + 1 + 1 ≡ suc (count + 1) = omega arith in ap (λ k. drop k new.active) e ∙ ap (drop (suc (count + 1))) active ∙ h.behind;
       way = omega (arith, h.way, fits, le, ap used pushed, ap (λ (s : Lists). length s.spare) pushed, ap (λ (s : Lists). s.room) pushed);
     }

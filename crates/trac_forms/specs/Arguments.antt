@@ -6,7 +6,7 @@ use Rattle.trac_space.specs.Lists.{Lists}
 use Rattle.trac_forms.specs.declared.arguments.Arguments.{Arguments}
 use Rattle.trac_forms.specs.Text.{Text}
 use Rattle.trac_forms.specs.Form.{fill}
-use Rattle.trac_forms.specs.Contents.{Contents, body_at, AreTextParts, part_texts}
+use Rattle.trac_forms.specs.Contents.{Contents, body_at, pointer_at, AreTextParts, part_texts}
 use Rattle.trac_forms.specs.Stored.{head_at, item_of}
 
 -- how many cells stand before the first comma mark
@@ -45,6 +45,8 @@ pub record AreParted (neutral : List Cell) (from end : ℕ) : Type 0 where
 -- before them where a further one would
 pub record IsListed (cells : List Cell) (parts : List (ℕ × ℕ)) (count : ℕ) : Type 0 where
   pub all : count ≡ length parts
+  pub within : count + 1 ≤ length cells
+  pub bounded : count ≤ 16777217
   pub begins : (number : ℕ) → 0 < number → number ≤ count →
       head_at cells (count + 1 - number) ≡ (numbered_part parts number).0
   pub ends : (number : ℕ) → 0 < number → number ≤ count →
@@ -56,10 +58,11 @@ HasList s arguments =
     0 < arguments.listed →
     IsListed s.active (parts_between s.neutral arguments.from arguments.end) arguments.listed
 
--- the text of a form's body from a place on, its gaps filled by the texts between comma marks of neutral
-abbrev pub filled_body : Contents → ℕ → ℕ → ℕ → ℕ → Text
-filled_body w form place from end =
-    fill (texts_between w.neutral from end) (drop place (body_at w.forms form))
+-- the text of a form's body from its pointer on, its gaps filled by the texts between comma marks of
+-- neutral
+abbrev pub filled_body : Contents → ℕ → ℕ → ℕ → Text
+filled_body w form from end =
+    fill (texts_between w.neutral from end) (drop (pointer_at w.forms form) (body_at w.forms form))
 
 -- the same of the items in the store from a place up to another
 abbrev pub filled_cells : Lists → ℕ → ℕ → ℕ → ℕ → Text

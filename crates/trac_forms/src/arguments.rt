@@ -34,23 +34,21 @@ impl Arguments {
         if self.listed < number {
             return (0, 0);
         }
-        let place = self.listed - number;
-        (
-            listed_number(space, place + 1),
-            listed_number(space, place) - 1,
-        )
+        let (from, next) = listed_pair(space, self.listed - number);
+        (from, next - 1)
     }
 }
 
-// The number in the head cell at place `i` of active.
+// The numbers in two head cells of active: the one behind a place, and the one at it.
 #[inline]
-fn listed_number(space: &Space, i: u32) -> u32
-    ensures { result ≡ head_at space.now.active i }
+fn listed_pair(space: &Space, place: u32) -> (u32, u32)
+    requires within { place + 2 ≤ length space.now.active }
+    requires bounded { place ≤ 16777217 }
+    ensures from { result.0 ≡ head_at space.now.active (place + 1) }
+    ensures next { result.1 ≡ head_at space.now.active place }
 {
-    match space.active_at(i) {
-        Some(cell) => number(cell),
-        None => 0,
-    }
+    let cells = space.active_part(place, place + 2);
+    (number(cells[1]), number(cells[0]))
 }
 
 // Where the argument of a number begins and ends, found by the comma marks before it.
@@ -73,17 +71,6 @@ fn find_part(space: &Space, from: u32, end: u32, number: u32) -> (u32, u32)
     (from, from + before_comma(space.neutral_part(from, end)))
 }
 
-/// The arguments from place `from` up to `end` of neutral, where there is no list of them.
-pub(crate) fn unlisted(from: u32, end: u32) -> Arguments
-    ensures { result ≡ record { from = from; end = end; listed = 0 } }
-{
-    Arguments {
-        from,
-        end,
-        listed: 0,
-    }
-}
-
 /// Lists before active where each argument from place `from` up to `end` of neutral begins, and gives their
 /// number. The list has one cell more.
 pub(crate) fn list_parts(space: &mut Space, from: u32, end: u32) -> u32
@@ -93,7 +80,6 @@ pub(crate) fn list_parts(space: &mut Space, from: u32, end: u32) -> u32
     requires room { HasWay (end - from + 2) space.old }
     ensures listed { IsListed space.new.active (parts_between space.old.neutral from end) result }
     ensures few { result + from ≤ end + 1 }
-    ensures within { result + 1 ≤ length space.new.active }
     ensures behind { drop (result + 1) space.new.active ≡ space.old.active }
     ensures same { space.new ≡ record space.old { active = space.new.active } }
 {

@@ -10,7 +10,7 @@ ghost use Rattle.trac_forms.specs.Arguments.{AreParted, HasList, filled_body, fi
 ghost use Rattle.trac_forms.specs.Gaps.{is_byte_cell, byte_cell_at, gap_ordinal};
 ghost use Rattle.trac_forms.specs.Index.{IsKept};
 
-use crate::arguments::{Arguments, list_parts, unlisted};
+use crate::arguments::{Arguments, list_parts};
 use crate::item::FormId;
 use crate::search::is_character;
 use crate::store::{head, place_of};
@@ -18,16 +18,15 @@ use crate::work::Work;
 use trac_space::{Cell, Space};
 
 impl<'a> Work<'a> {
-    /// Puts the items of the form's body from place `from` on at the end of neutral, each gap of
+    /// Puts the items of the form's body from its pointer on at the end of neutral, each gap of
     /// ordinal k replaced by the k-th, from 1, of the texts between the comma marks of neutral from
     /// place `first` up to `end`, and by nothing where there is none. False where they don't fit.
-    pub fn fill_body(&mut self, form: FormId, from: u32, first: u32, end: u32) -> bool
+    pub fn fill_body(&mut self, form: FormId, first: u32, end: u32) -> bool
         requires known { form.0 < length self.old.forms }
-        requires within { from ≤ length (body_at self.old.forms form.0) }
         requires arguments { AreParted self.old.neutral first end }
-        ensures put { let text = filled_body self.old form.0 from first end in
+        ensures put { let text = filled_body self.old form.0 first end in
             IsTrue result ↔ (used self.old + length text ≤ self.old.room) }
-        ensures last { let text = filled_body self.old form.0 from first end in
+        ensures last { let text = filled_body self.old form.0 first end in
             OnTrue result (self.new ≡ record self.old { neutral = self.old.neutral ++ flat_text text }) }
         ensures full { OnFalse result (self.new ≡ self.old) }
         ensures sound { IsSound self.new }
@@ -35,7 +34,8 @@ impl<'a> Work<'a> {
         let start = place_of(&self.space, self.last, self.start, form.0);
         let body = start + 3 + head(&self.space, start);
         let stop = body + head(&self.space, start + 1);
-        fill_items(&mut self.space, body + from, stop, first, end)
+        let from = body + head(&self.space, start + 2);
+        fill_items(&mut self.space, from, stop, first, end)
     }
 }
 
@@ -55,11 +55,11 @@ fn fill_items(space: &mut Space, from: u32, stop: u32, first: u32, end: u32) -> 
     ensures full { OnFalse result (space.new ≡ record space.old { spare = space.new.spare }) }
     ensures kept { IsKept space.old.spare space.new.spare }
 {
-    fill_beside_list(space, from, stop, first, end)
-        || fill_or_cut(space, from, stop, unlisted(first, end))
+    fill_beside_list(space, from, stop, first, end) || fill_unlisted(space, from, stop, first, end)
 }
 
 // The same where there is room for a list of the arguments beside the text. False where there isn't.
+#[inline(always)]
 fn fill_beside_list(space: &mut Space, from: u32, stop: u32, first: u32, end: u32) -> bool
     requires order { from ≤ stop }
     requires within { stop ≤ length space.old.store }
@@ -89,7 +89,33 @@ fn fill_beside_list(space: &mut Space, from: u32, stop: u32, first: u32, end: u3
     filled
 }
 
+// The same without a list.
+#[inline(never)]
+fn fill_unlisted(space: &mut Space, from: u32, stop: u32, first: u32, end: u32) -> bool
+    requires order { from ≤ stop }
+    requires within { stop ≤ length space.old.store }
+    requires bounded { length space.old.store ≤ 16777216 }
+    requires arguments { AreParted space.old.neutral first end }
+    ensures put { let text = filled_cells space.old from stop first end in
+        IsTrue result ↔ (cells_used space.old + length text ≤ space.old.room) }
+    ensures last { let text = filled_cells space.old from stop first end in
+        OnTrue result (space.new ≡ record space.old {
+          neutral = space.old.neutral ++ flat_text text;
+          spare = space.new.spare;
+        }) }
+    ensures full { OnFalse result (space.new ≡ record space.old { spare = space.new.spare }) }
+    ensures kept { IsKept space.old.spare space.new.spare }
+{
+    let arguments = Arguments {
+        from: first,
+        end,
+        listed: 0,
+    };
+    fill_or_cut(space, from, stop, arguments)
+}
+
 // The same with arguments that are listed or not. False where the text doesn't fit beside what there is.
+#[inline(always)]
 fn fill_or_cut(space: &mut Space, from: u32, stop: u32, arguments: Arguments) -> bool
     requires order { from ≤ stop }
     requires within { stop ≤ length space.old.store }
@@ -116,6 +142,7 @@ fn fill_or_cut(space: &mut Space, from: u32, stop: u32, arguments: Arguments) ->
 
 // Puts the items in the store from place `from` up to `stop` at the end of neutral, each gap replaced
 // by the argument of its number. False where they don't fit; then some of them may stand there.
+#[inline(always)]
 fn fill_cells(space: &mut Space, from: u32, stop: u32, arguments: Arguments) -> bool
     requires order { from ≤ stop }
     requires within { stop ≤ length space.old.store }

@@ -80,7 +80,7 @@ returns-then-fill_body-clause-makes c = λ name.
     let a = c.next_form.new.arguments in
     let ts = texts old c.args.arguments in
     let rest = given_is old mid c.next_form.ensures.same a c.next_form.ensures.left ts c.next_form.ensures.rest in
-    (_, value old mid c.next_form.ensures.same c.in-Some.form.0 c.pointer-from.result (texts_between mid.neutral a.from a.end) ts rest c.pointer-from.ensures.value name c.fill_body.new.self c.requires.sound c.in-Some.ensures.found c.if-fill_body.ensures.last (c.if-fill_body.ensures.put.0 refl))
+    (_, value old mid c.next_form.ensures.same c.in-Some.form.0 (pointer_at mid.forms c.in-Some.form.0) (texts_between mid.neutral a.from a.end) ts rest refl name c.fill_body.new.self c.requires.sound c.in-Some.ensures.found c.if-fill_body.ensures.last (c.if-fill_body.ensures.put.0 refl))
 
 pub returns-else-fill_body-clause-makes : goal.returns-else-fill_body-clause-makes
 returns-else-fill_body-clause-makes c = λ name.
@@ -90,9 +90,9 @@ returns-else-fill_body-clause-makes c = λ name.
     let ts = texts old c.args.arguments in
     let rest = given_is old mid c.next_form.ensures.same a c.next_form.ensures.left ts c.next_form.ensures.rest in
     let given = texts_between mid.neutral a.from a.end in
-    let long = size old mid c.next_form.ensures.same c.in-Some.form.0 c.pointer-from.result given ts rest c.pointer-from.ensures.value in
-    let same_room = room old mid c.next_form.ensures.same c.in-Some.form.0 c.pointer-from.result given ts rest c.pointer-from.ensures.value in
-    let text = fill given (drop c.pointer-from.result (body_at mid.forms c.in-Some.form.0)) in
+    let long = size old mid c.next_form.ensures.same c.in-Some.form.0 (pointer_at mid.forms c.in-Some.form.0) given ts rest refl in
+    let same_room = room old mid c.next_form.ensures.same c.in-Some.form.0 (pointer_at mid.forms c.in-Some.form.0) given ts rest refl in
+    let text = fill given (drop (pointer_at mid.forms c.in-Some.form.0) (body_at mid.forms c.in-Some.form.0)) in
     let full : mid.room < used mid + length text =
     ⊎_elim (λ lt. lt) (λ fits. absurd (false≢true (c.if-fill_body.ensures.put.1 fits))) (cases_lt mid.room (used mid + length text)) in
     too_long old name ts c.in-Some.form.0 c.requires.sound c.in-Some.ensures.found (omega (arith, full, long, same_room))

@@ -38,7 +38,7 @@ pub loop-from-preserved : goal.loop-from-preserved
 loop-from-preserved c =
     let is = found-comma _ _ _ c.neutral_part.ensures c.before_comma.ensures in
     let e : c.loop-from.from + (c.before_comma.result + 1) ≡ c.loop-from.from + c.before_comma.result + 1 = omega arith in
-    rw e (lists-more c.args.space.now c.loop-from.space c.push_active-in-loop-from.new.self c.args.from c.loop-from.from c.args.end c.loop-from.count c.before_comma.result c.loop-from.invariant c.loop-from-test.true c.requires.within is (rw e at c.push_active-in-loop-from.ensures))
+    rw e (lists-more c.args.space.now c.loop-from.space c.push_active-in-loop-from.new.self c.args.from c.loop-from.from c.args.end c.loop-from.count c.before_comma.result c.loop-from.invariant c.loop-from-test.true c.requires.within c.requires.bounded is (rw e at c.push_active-in-loop-from.ensures))
 
 pub returns-clause-listed : goal.returns-clause-listed
 returns-clause-listed c =
