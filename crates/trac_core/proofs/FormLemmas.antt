@@ -119,7 +119,7 @@ parts-left w (suc fuel) a are few = ⊎_elim (parts-past w a) (λ le.
 pub parted : (w : Contents) (a : Arguments) → AreArguments w a → AreParted w.neutral a.from a.end
 parted w a are =
     let sound = are.sound in
-    record { within = are.within; bounded = omega (arith, are.within, sound.fits, sound.bounded); texts = (parts-left w (a.end + 1 - a.from) a are (omega arith)).0 }
+    record { order = are.order; within = are.within; bounded = omega (arith, are.within, sound.fits, sound.bounded); texts = (parts-left w (a.end + 1 - a.from) a are (omega arith)).0 }
 
 pub parted-texts : (w : Contents) (a : Arguments) → AreArguments w a → texts_between w.neutral a.from a.end ≡ texts w a
 parted-texts w a are = (parts-left w (a.end + 1 - a.from) a are (omega arith)).1

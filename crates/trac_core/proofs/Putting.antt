@@ -45,12 +45,6 @@ put-full old now whole text left rest put split full =
     let room : now.room ≡ old.room = ap (λ (w : Contents). w.room) put.stands in
     omega (arith, used-put old now whole left put, ap length split, length-append text rest)
 
--- where none is left the whole stands
-pub put-whole : (old now : Contents) (whole : Text) → HasPut old now whole [] → now ≡ record old { neutral = old.neutral ++ flat_text whole }
-put-whole old now whole put =
-    let all : put.done ≡ whole = sym (append-nil put.done) ∙ put.whole_is in
-    put.stands ∙ ap (λ text. record old { neutral = old.neutral ++ flat_text text }) all
-
 -- where none is left the value stands
 pub put-all : (f : Function) (args : List Text) (old now : Contents) (whole : Text) → HasPut old now whole [] → Valued f args old.forms whole false old.forms → IsValue f args old now false whole
 put-all f args old now whole put valued =
@@ -93,10 +87,3 @@ module _ (old now : Contents) (whole left : Text) (put : HasPut old now whole le
   text-kept a b part = rw (kept a b part.within) refl
 
   -- and so do the arguments of a call
-  pub arguments-put : (a : Arguments) → AreArguments old a → AreArguments now a
-  arguments-put a are =
-      let within = are.within in
-      record { sound = put.sound; order = are.order; within = omega (arith, longer); no_call = rw (kept a.from a.end are.within) are.no_call }
-
-  pub texts-put : (a : Arguments) → AreArguments old a → texts now a ≡ texts old a
-  texts-put a are = rw (kept a.from a.end are.within) refl

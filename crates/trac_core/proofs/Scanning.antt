@@ -263,10 +263,6 @@ scans-idling old none =
 pub idling-need : (old : Contents) → old.active ≡ [] → (meta : ℕ) (input : Input) (output : Text) → need (state_with (memory_of meta old) input output) ≡ cells old.forms + 11
 idling-need old none = (scans-idling old none).needs
 
--- a mark or a character takes the place of characters of the active string
-pub put-after-drop : (old left new : Contents) (n : ℕ) (cell : Cell) → left ≡ record old { active = drop n old.active } → new ≡ record left { neutral = left.neutral ++ cell ∷ [] } → new ≡ record old { active = drop n old.active; neutral = old.neutral ++ cell ∷ [] }
-put-after-drop old left new n cell left_is put = put ∙ ap (λ (w : Contents). record w { neutral = w.neutral ++ cell ∷ [] }) left_is
-
 -- what a search for a mark has told
 pub last-some : (o : Option ℕ) (P : Type 0) (Q : ℕ → Type 0) → is_some o ≡ true → MatchOption o P Q → (place : ℕ) × Q place
 last-some None P Q e h = absurd cc

@@ -1,5 +1,6 @@
 //! The arguments of a call, taken one after the other, and the value that is put behind them.
-ghost use Rattle.std.specs.Prelude.{◌≡◌, ◌↔◌, ℕ, true, false, ◌+◌, ◌≤◌, ◌++◌, List, length, drop, IsTrue};
+ghost use Rattle.std.specs.Prelude.{◌≡◌, ◌↔◌, ℕ, true, false, ◌+◌, ◌≤◌, ◌++◌, List, length, drop};
+ghost use Rattle.std.specs.Prelude.{IsTrue};
 ghost use Rattle.std.specs.Bool.{OnTrue, OnFalse};
 ghost use Rattle.trac_space.specs.Cells.{is_comma};
 ghost use Rattle.trac_forms.specs.Text.{Text};
@@ -8,12 +9,12 @@ ghost use Rattle.trac_forms.specs.Contents.{used, part_text, IsTextPart, IsSound
 ghost use Rattle.trac_core.specs.Cells.{IsText};
 ghost use Rattle.trac_core.specs.State.{argument};
 ghost use Rattle.trac_core.specs.declared.function.Function.{Function};
-ghost use Rattle.trac_core.specs.Calls.{AreArguments, texts, Valued, Makes};
+ghost use Rattle.trac_core.specs.Calls.{MakesValue, AreArguments, texts, Valued, Makes};
 
 use trac_forms::{Cell, Work, before_comma};
 
-/// The arguments of a call that are left to take: those in the neutral string from a place up to another. None is left once
-/// the place is past that.
+/// The arguments of a call that are left to take: those in the neutral string from a place up to
+/// another. None is left once the place is past that.
 #[derive(Clone, Copy)]
 pub(crate) struct Arguments {
     pub(crate) from: u32,
@@ -38,9 +39,11 @@ impl Arguments {
     pub(crate) fn next(&mut self, work: &Work) -> (u32, u32)
         requires { AreArguments work.now self.old }
         ensures part { IsTextPart work.now.neutral result.0 result.1 }
-        ensures text { part_text work.now.neutral result.0 result.1 ≡ argument (texts work.now self.old) 0 }
+        ensures text { let text = part_text work.now.neutral result.0 result.1 in
+            text ≡ argument (texts work.now self.old) 0 }
         ensures rest { texts work.now self.new ≡ drop 1 (texts work.now self.old) }
-        ensures later { (k : ℕ) → argument (texts work.now self.new) k ≡ argument (texts work.now self.old) (k + 1) }
+        ensures later { (k : ℕ) →
+            argument (texts work.now self.new) k ≡ argument (texts work.now self.old) (k + 1) }
         ensures left { AreArguments work.now self.new }
     {
         let from = self.from;
@@ -70,11 +73,16 @@ pub(crate) fn text<'a>(work: &'a Work, part: (u32, u32)) -> &'a [Cell]
     work.neutral_part(part.0, part.1)
 }
 
-/// Puts a part of the neutral string that is a text once more at its end, if there are cells for it.
+/// Puts a part of the neutral string that is a text once more at its end, if there are cells for
+/// it.
 pub(crate) fn put_part(work: &mut Work, part: (u32, u32)) -> bool
     requires part { IsTextPart work.old.neutral part.0 part.1 }
-    ensures put { IsTrue result ↔ (used work.old + length (part_text work.old.neutral part.0 part.1) ≤ work.old.room) }
-    ensures last { OnTrue result (work.new ≡ record work.old { neutral = work.old.neutral ++ flat_text (part_text work.old.neutral part.0 part.1) }) }
+    ensures put { let text = part_text work.old.neutral part.0 part.1 in
+        IsTrue result ↔ (used work.old + length text ≤ work.old.room) }
+    ensures last { let text = part_text work.old.neutral part.0 part.1 in
+        OnTrue result (work.new ≡ record work.old {
+          neutral = work.old.neutral ++ flat_text text;
+        }) }
     ensures full { OnFalse result (work.new ≡ work.old) }
     ensures sound { IsSound work.new }
 {
@@ -84,9 +92,8 @@ pub(crate) fn put_part(work: &mut Work, part: (u32, u32)) -> bool
 /// A part of the neutral string is the value of a call.
 pub(crate) fn give(work: &mut Work, part: (u32, u32)) -> Made
     requires part { IsTextPart work.old.neutral part.0 part.1 }
-    ensures makes { (function : Function) (args : List Text) →
-        Valued function args work.old.forms (part_text work.old.neutral part.0 part.1) false work.old.forms →
-        Makes function args work.old result work.new }
+    ensures makes { let text = part_text work.old.neutral part.0 part.1 in
+        MakesValue text false work.old result work.new }
     ensures room { work.new.room ≡ work.old.room }
     ensures sound { IsSound work.new }
 {
@@ -97,12 +104,12 @@ pub(crate) fn give(work: &mut Work, part: (u32, u32)) -> Made
     }
 }
 
-/// A part of the neutral string is the value of a call, and goes to the active string whatever the call's mode.
+/// A part of the neutral string is the value of a call, and goes to the active string whatever the
+/// call's mode.
 pub(crate) fn force(work: &mut Work, part: (u32, u32)) -> Made
     requires part { IsTextPart work.old.neutral part.0 part.1 }
-    ensures makes { (function : Function) (args : List Text) →
-        Valued function args work.old.forms (part_text work.old.neutral part.0 part.1) true work.old.forms →
-        Makes function args work.old result work.new }
+    ensures makes { let text = part_text work.old.neutral part.0 part.1 in
+        MakesValue text true work.old result work.new }
     ensures room { work.new.room ≡ work.old.room }
     ensures sound { IsSound work.new }
 {

@@ -9,7 +9,7 @@ ghost use Rattle.trac_core.specs.BitResults.{bits_at, AreDigits, AreFor, octal_m
 ghost use Rattle.trac_core.specs.declared.function.Function.{Function};
 ghost use Rattle.trac_core.specs.declared.function.Function.TheVariants.{Union, Intersection};
 ghost use Rattle.trac_core.specs.declared.function.Function.TheVariants.{Complement, Shift, Rotate};
-ghost use Rattle.trac_core.specs.Calls.{AreArguments, texts, Valued, Makes};
+ghost use Rattle.trac_core.specs.Calls.{AreArguments, texts, Valued, Makes, Performs};
 
 use crate::arguments::{Arguments, Made, put_part, text};
 use crate::values::{self, Count};
@@ -31,8 +31,7 @@ pub(crate) enum BitResult {
 /// dropped, is this processor's own choice.
 pub(crate) fn union(work: &mut Work, mut arguments: Arguments) -> Made
     requires { AreArguments work.old arguments }
-    ensures makes { (name : Text) →
-        Makes Union (name ∷ texts work.old arguments) work.old result work.new }
+    ensures makes { Performs Union work.old arguments result work.new }
     ensures room { work.new.room ≡ work.old.room }
     ensures sound { IsSound work.new }
 {
@@ -48,8 +47,7 @@ pub(crate) fn union(work: &mut Work, mut arguments: Arguments) -> Made
 /// left, and that the prefix of B is dropped, is this processor's own choice.
 pub(crate) fn intersection(work: &mut Work, mut arguments: Arguments) -> Made
     requires { AreArguments work.old arguments }
-    ensures makes { (name : Text) →
-        Makes Intersection (name ∷ texts work.old arguments) work.old result work.new }
+    ensures makes { Performs Intersection work.old arguments result work.new }
     ensures room { work.new.room ≡ work.old.room }
     ensures sound { IsSound work.new }
 {
@@ -68,8 +66,7 @@ pub(crate) fn intersection(work: &mut Work, mut arguments: Arguments) -> Made
 /// its bit string with each bit turned over (Mooers 1966).
 pub(crate) fn complement(work: &mut Work, mut arguments: Arguments) -> Made
     requires { AreArguments work.old arguments }
-    ensures makes { (name : Text) →
-        Makes Complement (name ∷ texts work.old arguments) work.old result work.new }
+    ensures makes { Performs Complement work.old arguments result work.new }
     ensures room { work.new.room ≡ work.old.room }
     ensures sound { IsSound work.new }
 {
@@ -84,8 +81,7 @@ pub(crate) fn complement(work: &mut Work, mut arguments: Arguments) -> Made
 /// any length, is this processor's own choice.
 pub(crate) fn shift(work: &mut Work, mut arguments: Arguments) -> Made
     requires { AreArguments work.old arguments }
-    ensures makes { (name : Text) →
-        Makes Shift (name ∷ texts work.old arguments) work.old result work.new }
+    ensures makes { Performs Shift work.old arguments result work.new }
     ensures room { work.new.room ≡ work.old.room }
     ensures sound { IsSound work.new }
 {
@@ -102,8 +98,7 @@ pub(crate) fn shift(work: &mut Work, mut arguments: Arguments) -> Made
 /// kept, and that the number may have any length, is this processor's own choice.
 pub(crate) fn rotate(work: &mut Work, mut arguments: Arguments) -> Made
     requires { AreArguments work.old arguments }
-    ensures makes { (name : Text) →
-        Makes Rotate (name ∷ texts work.old arguments) work.old result work.new }
+    ensures makes { Performs Rotate work.old arguments result work.new }
     ensures room { work.new.room ≡ work.old.room }
     ensures sound { IsSound work.new }
 {

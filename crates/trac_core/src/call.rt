@@ -9,7 +9,7 @@ ghost use Rattle.trac_core.specs.Devices.{Sent};
 ghost use Rattle.trac_core.specs.Flat.{memory_of, mode_of, mode_at, is_active_mode, arguments_at};
 ghost use Rattle.trac_core.specs.Function.{is_plain};
 ghost use Rattle.trac_core.specs.Performed.{performs, reads_input, prints_output};
-ghost use Rattle.trac_core.specs.Calls.{AreArguments, texts, Makes};
+ghost use Rattle.trac_core.specs.Calls.{AreArguments, texts, Makes, Performs};
 ghost use Rattle.trac_core.specs.Machine.{input_failures, output_failures};
 ghost use Rattle.trac_core.specs.Attempts.{scene, Tried, TriedCall, IsCall, function_at, delivered};
 ghost use Rattle.trac_core.specs.Attempts.{TakesFrom, TakesAtMost, TriedOnContents, NoneFailed};
@@ -220,8 +220,7 @@ fn evaluate(work: &mut Work, place: u32, function: Function, arguments: Argument
 fn value_of(work: &mut Work, function: Function, arguments: Arguments) -> Made
     requires plain { is_plain function ≡ true }
     requires arguments { AreArguments work.old arguments }
-    ensures makes { (name : Text) →
-        Makes function (name ∷ texts work.old arguments) work.old result work.new }
+    ensures makes { Performs function work.old arguments result work.new }
     ensures room { work.new.room ≡ work.old.room }
     ensures sound { IsSound work.new }
 {

@@ -3,7 +3,7 @@ ghost use Rattle.std.specs.Prelude.{◌≡◌, ◌∷◌};
 ghost use Rattle.trac_forms.specs.Text.{Text};
 ghost use Rattle.trac_forms.specs.Contents.{IsSound};
 ghost use Rattle.trac_core.specs.declared.function.Function.TheVariants.{Equal, Greater};
-ghost use Rattle.trac_core.specs.Calls.{AreArguments, texts, Makes};
+ghost use Rattle.trac_core.specs.Calls.{AreArguments, texts, Makes, Performs};
 
 use crate::arguments::{Arguments, Made, give, text};
 use crate::values;
@@ -12,8 +12,7 @@ use trac_forms::Work;
 /// `eq,A,B,X,Y`: X where A and B are the same text, else Y (Mooers 1966).
 pub(crate) fn equal(work: &mut Work, mut arguments: Arguments) -> Made
     requires { AreArguments work.old arguments }
-    ensures makes { (name : Text) →
-        Makes Equal (name ∷ texts work.old arguments) work.old result work.new }
+    ensures makes { Performs Equal work.old arguments result work.new }
     ensures room { work.new.room ≡ work.old.room }
     ensures sound { IsSound work.new }
 {
@@ -33,8 +32,7 @@ pub(crate) fn equal(work: &mut Work, mut arguments: Arguments) -> Made
 /// the numbers may have any length is this processor's own choice.
 pub(crate) fn greater(work: &mut Work, mut arguments: Arguments) -> Made
     requires { AreArguments work.old arguments }
-    ensures makes { (name : Text) →
-        Makes Greater (name ∷ texts work.old arguments) work.old result work.new }
+    ensures makes { Performs Greater work.old arguments result work.new }
     ensures room { work.new.room ≡ work.old.room }
     ensures sound { IsSound work.new }
 {

@@ -1,16 +1,20 @@
-//! The functions that make, remove and list forms, and that call a whole form: `ds`, `ss`, `ln`, `dd`, `da`, `cl`.
+//! The functions that make, remove and list forms, and that call a whole form: `ds`, `ss`, `ln`,
+//! `dd`, `da`, `cl`.
 ghost use Rattle.std.specs.Prelude.{◌≡◌, ◌↔◌, ◌+◌, ◌<◌, ◌≤◌, List, ◌∷◌, ◌++◌, length, drop};
 ghost use Rattle.std.specs.Prelude.{IsTrue, MatchOption};
 ghost use Rattle.std.specs.Bool.{OnTrue};
 ghost use Rattle.trac_forms.specs.Text.{Text};
 ghost use Rattle.trac_forms.specs.Store.{NoneNamed};
 ghost use Rattle.trac_forms.specs.FlatForms.{flat_text};
-ghost use Rattle.trac_forms.specs.Contents.{used, name_at, part_text, IsTextPart, IsNamedAt, IsSound};
+ghost use Rattle.trac_forms.specs.Contents.{used, name_at, part_text, IsTextPart, IsNamedAt};
+ghost use Rattle.trac_forms.specs.Contents.{IsSound};
 ghost use Rattle.trac_core.specs.State.{argument};
-ghost use Rattle.trac_core.specs.declared.function.Function.TheVariants.{DefineString, SegmentString};
-ghost use Rattle.trac_core.specs.declared.function.Function.TheVariants.{DeleteDefinition, DeleteAll};
+ghost use Rattle.trac_core.specs.declared.function.Function.TheVariants.{DefineString};
+ghost use Rattle.trac_core.specs.declared.function.Function.TheVariants.{SegmentString};
+ghost use Rattle.trac_core.specs.declared.function.Function.TheVariants.{DeleteDefinition};
+ghost use Rattle.trac_core.specs.declared.function.Function.TheVariants.{DeleteAll};
 ghost use Rattle.trac_core.specs.declared.function.Function.TheVariants.{ListNames, CallForm};
-ghost use Rattle.trac_core.specs.Calls.{AreArguments, texts, Makes};
+ghost use Rattle.trac_core.specs.Calls.{AreArguments, texts, Makes, Performs};
 
 use crate::arguments::{Arguments, Made, put_part};
 use trac_forms::{FormId, Work};
@@ -26,11 +30,12 @@ pub(crate) fn delete_all(work: &mut Work) -> Made
     Made::Value
 }
 
-/// `ds,N,X`: the form N with the characters of X as its body becomes the last, in place of an older form N (Mooers 1966).
-/// It takes 3 cells beside its name and its body, while an older one still stands (this processor's own choice).
+/// `ds,N,X`: the form N with the characters of X as its body becomes the last, in place of an older
+/// form N (Mooers 1966). It takes 3 cells beside its name and its body, while an older one still
+/// stands (this processor's own choice).
 pub(crate) fn define_string(work: &mut Work, mut arguments: Arguments) -> Made
     requires { AreArguments work.old arguments }
-    ensures makes { (name : Text) → Makes DefineString (name ∷ texts work.old arguments) work.old result work.new }
+    ensures makes { Performs DefineString work.old arguments result work.new }
     ensures room { work.new.room ≡ work.old.room }
     ensures sound { IsSound work.new }
 {
@@ -43,12 +48,13 @@ pub(crate) fn define_string(work: &mut Work, mut arguments: Arguments) -> Made
     }
 }
 
-/// `ss,N,X1,X2,..`: each occurrence of X1 in the form N, from the left, becomes a gap of ordinal 1, then each occurrence of
-/// X2 in what is left a gap of ordinal 2, and so on (Mooers 1966). The pointer goes to the start, also where no X is given, a
-/// null X keeps its ordinal, and earlier gaps stay (this processor's own choice).
+/// `ss,N,X1,X2,..`: each occurrence of X1 in the form N, from the left, becomes a gap of ordinal 1,
+/// then each occurrence of X2 in what is left a gap of ordinal 2, and so on (Mooers 1966). The
+/// pointer goes to the start, also where no X is given, a null X keeps its ordinal, and earlier
+/// gaps stay (this processor's own choice).
 pub(crate) fn segment_string(work: &mut Work, mut arguments: Arguments) -> Made
     requires { AreArguments work.old arguments }
-    ensures makes { (name : Text) → Makes SegmentString (name ∷ texts work.old arguments) work.old result work.new }
+    ensures makes { Performs SegmentString work.old arguments result work.new }
     ensures room { work.new.room ≡ work.old.room }
     ensures sound { IsSound work.new }
 {
@@ -65,11 +71,11 @@ pub(crate) fn segment_string(work: &mut Work, mut arguments: Arguments) -> Made
     Made::Value
 }
 
-/// `ln,X`: for each form, in the order in which they were defined, X and then its name (Mooers 1966; X before each name is
-/// this processor's own choice).
+/// `ln,X`: for each form, in the order in which they were defined, X and then its name (Mooers
+/// 1966; X before each name is this processor's own choice).
 pub(crate) fn list_names(work: &mut Work, mut arguments: Arguments) -> Made
     requires { AreArguments work.old arguments }
-    ensures makes { (name : Text) → Makes ListNames (name ∷ texts work.old arguments) work.old result work.new }
+    ensures makes { Performs ListNames work.old arguments result work.new }
     ensures room { work.new.room ≡ work.old.room }
     ensures sound { IsSound work.new }
 {
@@ -84,14 +90,19 @@ pub(crate) fn list_names(work: &mut Work, mut arguments: Arguments) -> Made
     Made::Value
 }
 
-/// Puts a part of the neutral string and then the form's name at its end, if there are cells for both.
+/// Puts a part of the neutral string and then the form's name at its end, if there are cells for
+/// both.
 fn put_name(work: &mut Work, before: (u32, u32), form: FormId) -> bool
     requires part { IsTextPart work.old.neutral before.0 before.1 }
     requires known { form.0 < length work.old.forms }
-    ensures put { let text = part_text work.old.neutral before.0 before.1 ++ name_at work.old.forms form.0 in
+    ensures put { let before = part_text work.old.neutral before.0 before.1 in
+        let text = before ++ name_at work.old.forms form.0 in
         IsTrue result ↔ (used work.old + length text ≤ work.old.room) }
-    ensures last { let text = part_text work.old.neutral before.0 before.1 ++ name_at work.old.forms form.0 in
-        OnTrue result (work.new ≡ record work.old { neutral = work.old.neutral ++ flat_text text }) }
+    ensures last { let before = part_text work.old.neutral before.0 before.1 in
+        let text = before ++ name_at work.old.forms form.0 in
+        OnTrue result (work.new ≡ record work.old {
+          neutral = work.old.neutral ++ flat_text text;
+        }) }
     ensures room { work.new.room ≡ work.old.room }
     ensures sound { IsSound work.new }
 {
@@ -101,11 +112,11 @@ fn put_name(work: &mut Work, before: (u32, u32), form: FormId) -> bool
     work.copy_name(form)
 }
 
-/// `dd,N1,N2,..`: the forms of these names are removed (Mooers 1966). A name that no form has is ignored, and only the
-/// arguments that are written are names (this processor's own choice).
+/// `dd,N1,N2,..`: the forms of these names are removed (Mooers 1966). A name that no form has is
+/// ignored, and only the arguments that are written are names (this processor's own choice).
 pub(crate) fn delete_definition(work: &mut Work, mut arguments: Arguments) -> Made
     requires { AreArguments work.old arguments }
-    ensures makes { (name : Text) → Makes DeleteDefinition (name ∷ texts work.old arguments) work.old result work.new }
+    ensures makes { Performs DeleteDefinition work.old arguments result work.new }
     ensures room { work.new.room ≡ work.old.room }
     ensures sound { IsSound work.new }
 {
@@ -117,11 +128,12 @@ pub(crate) fn delete_definition(work: &mut Work, mut arguments: Arguments) -> Ma
     Made::Value
 }
 
-/// `cl,N,X1,X2,..`: the form N from its pointer on, each gap of ordinal k replaced by Xk, or by nothing where that is
-/// missing (Mooers 1966). What stands before the pointer is left out, and the pointer stays (this processor's own choice).
+/// `cl,N,X1,X2,..`: the form N from its pointer on, each gap of ordinal k replaced by Xk, or by
+/// nothing where that is missing (Mooers 1966). What stands before the pointer is left out, and the
+/// pointer stays (this processor's own choice).
 pub(crate) fn call_form(work: &mut Work, mut arguments: Arguments) -> Made
     requires { AreArguments work.old arguments }
-    ensures makes { (name : Text) → Makes CallForm (name ∷ texts work.old arguments) work.old result work.new }
+    ensures makes { Performs CallForm work.old arguments result work.new }
     ensures room { work.new.room ≡ work.old.room }
     ensures sound { IsSound work.new }
 {
@@ -139,7 +151,9 @@ pub(crate) fn call_form(work: &mut Work, mut arguments: Arguments) -> Made
 fn next_form(work: &mut Work, arguments: &mut Arguments) -> Option<FormId>
     requires { AreArguments work.old arguments.old }
     ensures found { let name = argument (texts work.old arguments.old) 0 in
-        MatchOption result (NoneNamed name work.old.forms) (λ form. IsNamedAt work.old.forms name form.0) }
+        MatchOption result
+        (NoneNamed name work.old.forms)
+        (λ form. IsNamedAt work.old.forms name form.0) }
     ensures same { work.new ≡ work.old }
     ensures rest { texts work.old arguments.new ≡ drop 1 (texts work.old arguments.old) }
     ensures left { AreArguments work.old arguments.new }

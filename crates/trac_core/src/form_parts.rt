@@ -13,7 +13,7 @@ ghost use Rattle.trac_core.specs.Digits.{signed};
 ghost use Rattle.trac_core.specs.Part.{first_characters, characters, next_characters};
 ghost use Rattle.trac_core.specs.Part.{previous_characters, next_segment, initial_part};
 ghost use Rattle.trac_core.specs.Part.{characters_between, part_between};
-ghost use Rattle.trac_core.specs.Calls.{AreArguments, texts, Makes};
+ghost use Rattle.trac_core.specs.Calls.{AreArguments, texts, Makes, Performs};
 ghost use Rattle.trac_core.specs.Taking.{TakesPart, IsFirstOr, TakesOrDefault};
 ghost use Rattle.trac_forms.specs.Search.{character_at, gap_at};
 
@@ -27,8 +27,7 @@ use trac_forms::{FormId, Item, Work};
 /// null value (this processor's own choice).
 pub(crate) fn call_segment(work: &mut Work, mut arguments: Arguments) -> Made
     requires { AreArguments work.old arguments }
-    ensures makes { (name : Text) →
-        Makes CallSegment (name ∷ texts work.old arguments) work.old result work.new }
+    ensures makes { Performs CallSegment work.old arguments result work.new }
     ensures room { work.new.room ≡ work.old.room }
     ensures sound { IsSound work.new }
 {
@@ -64,8 +63,7 @@ fn take_segment(work: &mut Work, form: FormId, default: (u32, u32)) -> Made
 /// the pointer goes behind it (Mooers 1966). Z as for `cs`.
 pub(crate) fn call_character(work: &mut Work, mut arguments: Arguments) -> Made
     requires { AreArguments work.old arguments }
-    ensures makes { (name : Text) →
-        Makes CallCharacter (name ∷ texts work.old arguments) work.old result work.new }
+    ensures makes { Performs CallCharacter work.old arguments result work.new }
     ensures room { work.new.room ≡ work.old.room }
     ensures sound { IsSound work.new }
 {
@@ -82,8 +80,7 @@ pub(crate) fn call_character(work: &mut Work, mut arguments: Arguments) -> Made
 /// fewer; D has any length; D = 0 gives a null value; Z as for `cs` (this processor's own choice).
 pub(crate) fn call_number(work: &mut Work, mut arguments: Arguments) -> Made
     requires { AreArguments work.old arguments }
-    ensures makes { (name : Text) →
-        Makes CallNumber (name ∷ texts work.old arguments) work.old result work.new }
+    ensures makes { Performs CallNumber work.old arguments result work.new }
     ensures room { work.new.room ≡ work.old.room }
     ensures sound { IsSound work.new }
 {
@@ -290,8 +287,7 @@ fn gap_or(work: &Work, form: FormId, from: u32, to: u32) -> u32
 /// for a null X (this processor's own choice).
 pub(crate) fn initial_part(work: &mut Work, mut arguments: Arguments) -> Made
     requires { AreArguments work.old arguments }
-    ensures makes { (name : Text) →
-        Makes InitialPart (name ∷ texts work.old arguments) work.old result work.new }
+    ensures makes { Performs InitialPart work.old arguments result work.new }
     ensures room { work.new.room ≡ work.old.room }
     ensures sound { IsSound work.new }
 {
@@ -328,8 +324,7 @@ fn take_initial(work: &mut Work, form: FormId, sought: (u32, u32), default: (u32
 /// `cr,N`: the pointer goes back to the start (Mooers 1966).
 pub(crate) fn call_restore(work: &mut Work, mut arguments: Arguments) -> Made
     requires { AreArguments work.old arguments }
-    ensures makes { (name : Text) →
-        Makes CallRestore (name ∷ texts work.old arguments) work.old result work.new }
+    ensures makes { Performs CallRestore work.old arguments result work.new }
     ensures room { work.new.room ≡ work.old.room }
     ensures sound { IsSound work.new }
 {

@@ -271,19 +271,3 @@ index-as table n g n2 g2 name name2 start start2 fits olds news index = record {
       let more = news k old.within old.there in
       record { within = more.0; there = more.1; home = old.home };
 }
-
--- a table of blank slots is that of no forms
-pub index-none : (n : ℕ) (name : ℕ → Text) (start : ℕ → ℕ) → IsIndexBut (replicate n (Byte 0)) 0 0 name start
-index-none n name start = record {
-  roomy = omega arith;
-  all = λ k less there. absurd (omega (arith, less));
-  only = λ s k less is. absurd (blank-head k (sym (blank n s) ∙ is));
-}
-  where
-    blank-head : (k : ℕ) → Byte 0 ≡ Head k → ⊥
-    blank-head k e = absurd cc
-
-    blank : (n s : ℕ) → cell_at (replicate n (Byte 0)) s ≡ Byte 0
-    blank zero s = refl
-    blank (suc n) zero = refl
-    blank (suc n) (suc s) = blank n s

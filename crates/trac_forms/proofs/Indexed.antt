@@ -86,9 +86,6 @@ pub kept-more : (first was now : List Cell) → IsKept first was → IsKept was 
 kept-more first was now before kept =
     ⊎_elim (λ e. subst (λ l. IsKept first l) (sym e) before) (λ e. inr e) kept
 
-pub no-index : (forms : List Form) → IsIndexed [] forms
-no-index forms = λ some. absurd (omega arith)
-
 -- forms of the same names and lengths
 pub index-same : (table : List Cell) (was now : List Form) → length now ≡ length was → ((k : ℕ) → name_at now k ≡ name_at was k) → ((k : ℕ) → start_of now k ≡ start_of was k) → IsIndexed table was → IsIndexed table now
 index-same table was now len names starts h some =

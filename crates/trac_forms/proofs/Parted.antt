@@ -155,7 +155,7 @@ pub record ListsUpTo (old now : Lists) (from at end count : ℕ) : Type 0 where
   pub behind : drop (count + 1) now.active ≡ old.active
   pub way : HasWay (end + 1 - at) now
 
-pub lists-none : (old now : Lists) (from end : ℕ) → from ≤ end → now ≡ record old { active = Head from ∷ old.active } → HasWay (end - from + 2) old → ListsUpTo old now from from end 0
+pub lists-none : (old now : Lists) (from end : ℕ) → from ≤ end + 1 → now ≡ record old { active = Head from ∷ old.active } → HasWay (end + 2 - from) old → ListsUpTo old now from from end 0
 lists-none old now from end order is room =
     record {
       parts = [];

@@ -1,5 +1,6 @@
 -- The arguments of a call in neutral: what stands between comma marks.
-use Rattle.std.specs.Prelude.{◌≡◌, ℕ, suc, ◌+◌, ◌-◌, ◌<◌, ◌≤◌, List, [], ◌∷◌, length, drop, map, slice_range, slice_index_or, nat_le, if◌then◌else◌}
+use Rattle.std.specs.Prelude.{◌≡◌, ℕ, suc, ◌+◌, ◌-◌, ◌<◌, ◌≤◌, List, [], ◌∷◌, length, drop, map}
+use Rattle.std.specs.Prelude.{slice_range, slice_index_or, nat_le, if◌then◌else◌}
 use Rattle.trac_space.specs.declared.cell.Cell.{Cell}
 use Rattle.trac_space.specs.Cells.{is_comma}
 use Rattle.trac_space.specs.Lists.{Lists}
@@ -14,7 +15,8 @@ abbrev pub before_comma : List Cell → ℕ
 before_comma [] = 0
 before_comma (cell ∷ cells) = if is_comma cell then 0 else suc (before_comma cells)
 
--- the parts between the comma marks of cells that stand from place `at` on; the first began at `from`
+-- the parts between the comma marks of cells that stand from place `at` on; the first began at
+-- `from`
 abbrev pub parts_at : ℕ → ℕ → List Cell → List (ℕ × ℕ)
 parts_at from at [] = (from, at) ∷ []
 parts_at from at (cell ∷ cells) =
@@ -22,7 +24,8 @@ parts_at from at (cell ∷ cells) =
     then (from, at) ∷ parts_at (at + 1) (at + 1) cells
     else parts_at from (at + 1) cells
 
--- the parts of neutral between the comma marks from a place up to another; none once the place is past that
+-- the parts of neutral between the comma marks from a place up to another; none once the place is
+-- past that
 abbrev pub parts_between : List Cell → ℕ → ℕ → List (ℕ × ℕ)
 parts_between neutral from end =
     if nat_le from end then parts_at from from (slice_range neutral from end) else []
@@ -37,6 +40,7 @@ numbered_part parts number = slice_index_or ((0, 0) ∷ parts) number (0, 0)
 
 -- comma marks part the cells of neutral from a place up to another into texts
 pub record AreParted (neutral : List Cell) (from end : ℕ) : Type 0 where
+  pub order : from ≤ end + 1
   pub within : end ≤ length neutral
   pub bounded : end ≤ 16777216
   pub texts : AreTextParts neutral (parts_between neutral from end)
@@ -58,8 +62,8 @@ HasList s arguments =
     0 < arguments.listed →
     IsListed s.active (parts_between s.neutral arguments.from arguments.end) arguments.listed
 
--- the text of a form's body from its pointer on, its gaps filled by the texts between comma marks of
--- neutral
+-- the text of a form's body from its pointer on, its gaps filled by the texts between comma marks
+-- of neutral
 abbrev pub filled_body : Contents → ℕ → ℕ → ℕ → Text
 filled_body w form from end =
     fill (texts_between w.neutral from end) (drop (pointer_at w.forms form) (body_at w.forms form))

@@ -1,13 +1,16 @@
-//! The arguments of a call in neutral, found by a list of where they begin, or by their comma marks.
-ghost use Rattle.std.specs.Prelude.{◌≡◌, ◌+◌, ◌-◌, ◌<◌, ◌≤◌, length, drop};
+//! The arguments of a call in neutral, found by a list of where they begin, or by their comma
+//! marks.
+ghost use Rattle.std.specs.Prelude.{◌≡◌, ◌⊎◌, ◌+◌, ◌-◌, ◌<◌, ◌≤◌, length, drop};
 ghost use Rattle.trac_space.specs.Lists.{HasWay};
-ghost use Rattle.trac_forms.specs.Arguments.{before_comma, parts_between, numbered_part, IsListed, HasList};
+ghost use Rattle.trac_forms.specs.Arguments.{before_comma, parts_between, numbered_part, IsListed};
+ghost use Rattle.trac_forms.specs.Arguments.{HasList};
 ghost use Rattle.trac_forms.specs.Stored.{head_at};
 
 use crate::store::number;
 use trac_space::{Cell, Space};
 
-/// The arguments of a call: what stands between the comma marks of neutral from a place up to another.
+/// The arguments of a call: what stands between the comma marks of neutral from a place up to
+/// another.
 #[derive(Clone, Copy)]
 pub(crate) struct Arguments {
     pub(crate) from: u32,
@@ -18,24 +21,37 @@ pub(crate) struct Arguments {
 
 impl Arguments {
     /// Where the argument of a number, from 1, begins and ends; a null part where there is none.
-    #[inline]
+    #[inline(always)]
     pub(crate) fn part(self, space: &Space, number: u32) -> (u32, u32)
         requires listed { HasList space.now self }
         requires within { self.end ≤ length space.now.neutral }
         requires bounded { self.end ≤ 16777216 }
-        ensures { result ≡ numbered_part (parts_between space.now.neutral self.from self.end) number }
+        ensures { let parts = parts_between space.now.neutral self.from self.end in
+            result ≡ numbered_part parts number }
     {
-        if number == 0 {
-            return (0, 0);
-        }
-        if self.listed == 0 {
-            return find_part(space, self.from, self.end, number);
-        }
-        if self.listed < number {
-            return (0, 0);
+        let place = number.wrapping_sub(1);
+        if place >= self.listed {
+            return self.unlisted_part(space, number);
         }
         let (from, next) = listed_pair(space, self.listed - number);
         (from, next - 1)
+    }
+
+    // The same of an argument that is in no list.
+    #[inline(never)]
+    fn unlisted_part(self, space: &Space, number: u32) -> (u32, u32)
+        requires listed { HasList space.now self }
+        requires not_listed { (number ≡ 0) ⊎ (self.listed < number) }
+        requires within { self.end ≤ length space.now.neutral }
+        requires bounded { self.end ≤ 16777216 }
+        ensures { let parts = parts_between space.now.neutral self.from self.end in
+            result ≡ numbered_part parts number }
+    {
+        if number > 0 && self.listed == 0 {
+            find_part(space, self.from, self.end, number)
+        } else {
+            (0, 0)
+        }
     }
 }
 
@@ -52,6 +68,7 @@ fn listed_pair(space: &Space, place: u32) -> (u32, u32)
 }
 
 // Where the argument of a number begins and ends, found by the comma marks before it.
+#[inline(never)]
 fn find_part(space: &Space, from: u32, end: u32, number: u32) -> (u32, u32)
     requires some { 0 < number }
     requires within { end ≤ length space.now.neutral }
@@ -71,13 +88,14 @@ fn find_part(space: &Space, from: u32, end: u32, number: u32) -> (u32, u32)
     (from, from + before_comma(space.neutral_part(from, end)))
 }
 
-/// Lists before active where each argument from place `from` up to `end` of neutral begins, and gives their
-/// number. The list has one cell more.
+/// Lists before active where each argument from place `from` up to `end` of neutral begins, and
+/// gives their number. The list has one cell more.
+#[inline(always)]
 pub(crate) fn list_parts(space: &mut Space, from: u32, end: u32) -> u32
-    requires order { from ≤ end }
+    requires order { from ≤ end + 1 }
     requires within { end ≤ length space.old.neutral }
     requires bounded { end ≤ 16777216 }
-    requires room { HasWay (end - from + 2) space.old }
+    requires room { HasWay (end + 2 - from) space.old }
     ensures listed { IsListed space.new.active (parts_between space.old.neutral from end) result }
     ensures few { result + from ≤ end + 1 }
     ensures behind { drop (result + 1) space.new.active ≡ space.old.active }

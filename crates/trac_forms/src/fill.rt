@@ -1,8 +1,9 @@
 //! Whole forms, their gaps filled, put at the end of neutral (Mooers 1966).
-ghost use Rattle.std.specs.Prelude.{◌≡◌, ◌+◌, ◌≤◌, ◌<◌, ◌↔◌, ◌++◌, ℕ, true, false, [], length, take};
+ghost use Rattle.std.specs.Prelude.{◌≡◌, ◌+◌, ◌≤◌, ◌<◌, ◌↔◌, ◌++◌, ℕ, true, false, [], length};
+ghost use Rattle.std.specs.Prelude.{take};
 ghost use Rattle.std.specs.Prelude.{IsTrue, All, MatchOption, IfSome};
 ghost use Rattle.std.specs.Bool.{OnTrue, OnFalse};
-ghost use Rattle.trac_space.specs.Lists.{used as cells_used, HasWay, with_way};
+ghost use Rattle.trac_space.specs.Lists.{used as cells_used, HasWay};
 ghost use Rattle.trac_forms.specs.Text.{Text};
 ghost use Rattle.trac_forms.specs.FlatForms.{flat_text};
 ghost use Rattle.trac_forms.specs.Contents.{used, body_at, IsSound};
@@ -27,7 +28,9 @@ impl<'a> Work<'a> {
         ensures put { let text = filled_body self.old form.0 first end in
             IsTrue result ↔ (used self.old + length text ≤ self.old.room) }
         ensures last { let text = filled_body self.old form.0 first end in
-            OnTrue result (self.new ≡ record self.old { neutral = self.old.neutral ++ flat_text text }) }
+            OnTrue result (self.new ≡ record self.old {
+              neutral = self.old.neutral ++ flat_text text;
+            }) }
         ensures full { OnFalse result (self.new ≡ self.old) }
         ensures sound { IsSound self.new }
     {
@@ -40,6 +43,7 @@ impl<'a> Work<'a> {
 }
 
 // The same with the items in the store from place `from` up to `stop`.
+#[inline(always)]
 fn fill_items(space: &mut Space, from: u32, stop: u32, first: u32, end: u32) -> bool
     requires order { from ≤ stop }
     requires within { stop ≤ length space.old.store }
@@ -55,11 +59,13 @@ fn fill_items(space: &mut Space, from: u32, stop: u32, first: u32, end: u32) -> 
     ensures full { OnFalse result (space.new ≡ record space.old { spare = space.new.spare }) }
     ensures kept { IsKept space.old.spare space.new.spare }
 {
-    fill_beside_list(space, from, stop, first, end) || fill_unlisted(space, from, stop, first, end)
+    fill_beside_list(space, from, stop, first, end)
+        || fill_without_list(space, from, stop, first, end)
 }
 
-// The same where there is room for a list of the arguments beside the text. False where there isn't.
-#[inline(always)]
+// The same where a list of the arguments and the text fit into cells that are in no list. False where
+// they don't.
+#[inline(never)]
 fn fill_beside_list(space: &mut Space, from: u32, stop: u32, first: u32, end: u32) -> bool
     requires order { from ≤ stop }
     requires within { stop ≤ length space.old.store }
@@ -70,12 +76,10 @@ fn fill_beside_list(space: &mut Space, from: u32, stop: u32, first: u32, end: u3
     ensures last { let text = filled_cells space.old from stop first end in
         OnTrue result (space.new ≡ record space.old {
           neutral = space.old.neutral ++ flat_text text;
-          spare = space.new.spare;
         }) }
-    ensures full { OnFalse result (space.new ≡ record space.old { spare = space.new.spare }) }
-    ensures kept { IsKept space.old.spare space.new.spare }
+    ensures full { OnFalse result (space.new ≡ space.old) }
 {
-    if end < first || space.way() < end - first + 2 {
+    if space.way() < end + 2 - first {
         return false;
     }
     let listed = list_parts(space, first, end);
@@ -89,9 +93,9 @@ fn fill_beside_list(space: &mut Space, from: u32, stop: u32, first: u32, end: u3
     filled
 }
 
-// The same without a list.
+// The same without a list of the arguments, nor a spare list. False where the text doesn't fit.
 #[inline(never)]
-fn fill_unlisted(space: &mut Space, from: u32, stop: u32, first: u32, end: u32) -> bool
+fn fill_without_list(space: &mut Space, from: u32, stop: u32, first: u32, end: u32) -> bool
     requires order { from ≤ stop }
     requires within { stop ≤ length space.old.store }
     requires bounded { length space.old.store ≤ 16777216 }
@@ -101,11 +105,11 @@ fn fill_unlisted(space: &mut Space, from: u32, stop: u32, first: u32, end: u32) 
     ensures last { let text = filled_cells space.old from stop first end in
         OnTrue result (space.new ≡ record space.old {
           neutral = space.old.neutral ++ flat_text text;
-          spare = space.new.spare;
+          spare = [];
         }) }
-    ensures full { OnFalse result (space.new ≡ record space.old { spare = space.new.spare }) }
-    ensures kept { IsKept space.old.spare space.new.spare }
+    ensures full { OnFalse result (space.new ≡ record space.old { spare = [] }) }
 {
+    space.drop_spare();
     let arguments = Arguments {
         from: first,
         end,
@@ -114,7 +118,8 @@ fn fill_unlisted(space: &mut Space, from: u32, stop: u32, first: u32, end: u32) 
     fill_or_cut(space, from, stop, arguments)
 }
 
-// The same with arguments that are listed or not. False where the text doesn't fit beside what there is.
+// The same with arguments that are listed or not. False where the text doesn't fit into cells that are
+// in no list.
 #[inline(always)]
 fn fill_or_cut(space: &mut Space, from: u32, stop: u32, arguments: Arguments) -> bool
     requires order { from ≤ stop }
@@ -123,14 +128,12 @@ fn fill_or_cut(space: &mut Space, from: u32, stop: u32, arguments: Arguments) ->
     requires arguments { AreParted space.old.neutral arguments.from arguments.end }
     requires listed { HasList space.old arguments }
     ensures put { let text = filled_cells space.old from stop arguments.from arguments.end in
-        IsTrue result ↔ (cells_used space.old + length text ≤ space.old.room) }
+        IsTrue result ↔ HasWay (length text) space.old }
     ensures last { let text = filled_cells space.old from stop arguments.from arguments.end in
         OnTrue result (space.new ≡ record space.old {
           neutral = space.old.neutral ++ flat_text text;
-          spare = space.new.spare;
         }) }
-    ensures full { OnFalse result (space.new ≡ record space.old { spare = space.new.spare }) }
-    ensures kept { IsKept space.old.spare space.new.spare }
+    ensures full { OnFalse result (space.new ≡ space.old) }
 {
     let before = space.neutral_len();
     let filled = fill_cells(space, from, stop, arguments);
@@ -141,7 +144,8 @@ fn fill_or_cut(space: &mut Space, from: u32, stop: u32, arguments: Arguments) ->
 }
 
 // Puts the items in the store from place `from` up to `stop` at the end of neutral, each gap replaced
-// by the argument of its number. False where they don't fit; then some of them may stand there.
+// by the argument of its number. False where they don't fit into cells that are in no list; then some
+// of them may stand there.
 #[inline(always)]
 fn fill_cells(space: &mut Space, from: u32, stop: u32, arguments: Arguments) -> bool
     requires order { from ≤ stop }
@@ -150,74 +154,39 @@ fn fill_cells(space: &mut Space, from: u32, stop: u32, arguments: Arguments) -> 
     requires arguments { AreParted space.old.neutral arguments.from arguments.end }
     requires listed { HasList space.old arguments }
     ensures put { let text = filled_cells space.old from stop arguments.from arguments.end in
-        IsTrue result ↔ (cells_used space.old + length text ≤ space.old.room) }
+        IsTrue result ↔ HasWay (length text) space.old }
     ensures last { let text = filled_cells space.old from stop arguments.from arguments.end in
         OnTrue result (space.new ≡ record space.old {
           neutral = space.old.neutral ++ flat_text text;
-          spare = space.new.spare;
         }) }
     ensures some { OnFalse result ((done : Text) × (space.new ≡ record space.old {
-      neutral = space.old.neutral ++ flat_text done;
-      spare = space.new.spare;
-    })) }
-    ensures kept { IsKept space.old.spare space.new.spare }
+          neutral = space.old.neutral ++ flat_text done;
+        })) }
 {
     let mut at = from;
     let mut way = space.way();
     loop {
         let gap = at + characters(space.store_part(at, stop));
-        let Some(left) = take_room(space, gap - at, way) else {
+        if way < gap - at {
             return false;
-        };
+        }
+        way -= gap - at;
         space.put_from_store(at, gap);
         if gap == stop {
             return true;
         }
         let part = arguments.part(space, ordinal(space, gap));
-        let Some(rest) = take_room(space, part.1 - part.0, left) else {
+        if way < part.1 - part.0 {
             return false;
-        };
+        }
+        way -= part.1 - part.0;
         space.put_from_neutral(part.0, part.1);
-        way = rest;
         at = gap + 1;
     }
 }
 
-// How many cells are in no list once `n` more are put, where `way` cells are in none; the spare list goes where that needs its
-// cells. None where they don't fit.
-#[inline]
-fn take_room(space: &mut Space, n: u32, way: u32) -> Option<u32>
-    requires { way + cells_used space.old + length space.old.spare ≡ space.old.room }
-    ensures fits { MatchOption result
-        (space.old.room < cells_used space.old + n)
-        (λ left. left + n + cells_used space.new + length space.new.spare ≡ space.new.room) }
-    ensures way { IfSome result (λ _. HasWay n space.new) }
-    ensures same { MatchOption result (space.new ≡ space.old) (λ _. space.new ≡ with_way n space.old) }
-{
-    if n <= way {
-        return Some(way - n);
-    }
-    take_spare_room(space, n)
-}
-
-// The same, where the spare list is in the way of so many cells, or they don't fit at all.
-#[inline(never)]
-fn take_spare_room(space: &mut Space, n: u32) -> Option<u32>
-    requires { space.old.room < cells_used space.old + n + length space.old.spare }
-    ensures fits { MatchOption result
-        (space.old.room < cells_used space.old + n)
-        (λ left. left + n + cells_used space.new + length space.new.spare ≡ space.new.room) }
-    ensures same { MatchOption result (space.new ≡ space.old) (λ _. space.new ≡ record space.old { spare = [] }) }
-{
-    let free = space.free();
-    if free < n {
-        return None;
-    }
-    space.drop_spare();
-    Some(free - n)
-}
-
 // How many characters begin the cells.
+#[inline]
 fn characters(cells: &[Cell]) -> u32
     requires { length cells.now ≤ 16777216 }
     ensures within { result ≤ length cells.now }

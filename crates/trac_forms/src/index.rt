@@ -135,8 +135,8 @@ pub(crate) fn look_up(
 // How many slots a search may look at before that counts as toil.
 const FEW_SLOTS: usize = 6;
 
-// How many slots are looked at for a new form before the table is given up: names that are mixed to one
-// number would make it long to fill, and no shorter to search than the forms.
+// How many slots are looked at for a new form before the table is given up: names that are mixed to
+// one number would make it long to fill, and no shorter to search than the forms.
 const MOST_SLOTS: usize = 128;
 
 // The open slot that comes first for a name of this number. None where it doesn't come soon.

@@ -1,21 +1,19 @@
 use Rattle.std.proofs.Common.{◌≡◌, ◌+◌, ◌≤◌, ◌-◌, length, slice_range}
 use Rattle.trac_space.specs.Lists.{used}
 use Rattle.trac_forms.specs.Arguments.{texts_between}
-use Rattle.trac_forms.specs.Index.{IsKept}
 use Rattle.trac_forms.proofs.Filling.{filled, Filled}
 use Rattle.trac_forms.proofs.fill.fill_cells.Given as goal
 
 -- the items up to a place stand, their gaps filled
-abbrev pub invariant-loop-left : goal.invariant-loop-left
-invariant-loop-left l =
+abbrev pub invariant-loop-way : goal.invariant-loop-way
+invariant-loop-way l =
     let given = texts_between l.fn.space.neutral l.arguments.from l.arguments.end in
     record {
       order : l.at ≤ l.stop;
-      kept : IsKept l.fn.space.spare l.space.spare;
       way : l.way + used l.space + length l.space.spare ≡ l.space.room;
       put : Filled l.fn.space l.space (filled given (slice_range l.fn.space.store l.from l.stop)) (filled given (slice_range l.fn.space.store l.at l.stop));
     }
 
 -- the cells that are left
-abbrev pub decreases-loop-left : goal.decreases-loop-left
-decreases-loop-left l = l.stop - l.at
+abbrev pub decreases-loop-way : goal.decreases-loop-way
+decreases-loop-way l = l.stop - l.at
