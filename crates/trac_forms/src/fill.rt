@@ -14,7 +14,7 @@ ghost use Rattle.trac_forms.specs.Index.{IsKept};
 use crate::arguments::{Arguments, list_parts};
 use crate::item::FormId;
 use crate::search::is_character;
-use crate::store::{head, place_of};
+use crate::store::{heads, place_of};
 use crate::work::Work;
 use trac_space::{Cell, Space};
 
@@ -35,10 +35,9 @@ impl<'a> Work<'a> {
         ensures sound { IsSound self.new }
     {
         let start = place_of(&self.space, self.last, self.start, form.0);
-        let body = start + 3 + head(&self.space, start);
-        let stop = body + head(&self.space, start + 1);
-        let from = body + head(&self.space, start + 2);
-        fill_items(&mut self.space, from, stop, first, end)
+        let (name, body, pointer) = heads(&self.space, start);
+        let place = start + 3 + name;
+        fill_items(&mut self.space, place + pointer, place + body, first, end)
     }
 }
 

@@ -27,6 +27,22 @@ pub(crate) fn copy_cells(cells: &mut [Cell], start: usize, end: usize, to: usize
     }
 }
 
+// The same, for moves of few cells.
+#[inline]
+pub(crate) fn copy_few(cells: &mut [Cell], start: usize, end: usize, to: usize)
+    requires order { start ≤ end }
+    requires within { end ≤ length cells.old }
+    requires room { to + (end - start) ≤ length cells.old }
+    ensures len { length cells.new ≡ length cells.old }
+    ensures after { cells.new ≡ copy_within cells.old start end to }
+{
+    if end - start == 1 {
+        cells[to] = cells[start];
+    } else {
+        copy_cells(cells, start, end, to);
+    }
+}
+
 // The same, for moves that mostly are of one cell.
 #[inline]
 pub(crate) fn copy_one_or_more(cells: &mut [Cell], start: usize, end: usize, to: usize)
