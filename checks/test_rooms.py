@@ -67,21 +67,21 @@ def crowded_forms():
     draw = random.Random(14)
     names = [f'form{i}' for i in range(24)]
     strings = [''.join(f'#(ds,{name},a-{name})' for name in names)]
-    there = set(names)
-    for _ in range(220):
+    gone = set()
+    for i in range(220):
         name, other = draw.choice(names), draw.choice(names)
-        strings.append(draw.choice([
+        call = draw.choice([
             f'#(cl,{name})', f'#(cl,{name},{other})', f'#(cl,{name}x)', f'#(cs,{name})',
-            f'#(ss,{name},-,r)', f'#(ds,{name},b-{other})', f'#(dd,{name})', f'#(cr,{name})']))
-        if strings[-1].startswith('#(ds,'):
-            there.add(name)
-        elif strings[-1].startswith('#(dd,'):
-            there.discard(name)
-            if len(there) < 20:
-                strings[-1] = f'#(cl,{name})'
-                there.add(name)
-    long = 'a long text that fills the block ' * 3
-    strings[60::60] = [long] * len(strings[60::60])
+            f'#(ss,{name},-,r)', f'#(ds,{name},b-{other})', f'#(dd,{name})', f'#(cr,{name})'])
+        if i % 60 == 59:
+            call = 'a long text that fills the block ' * 3
+        elif call.startswith('#(ds,'):
+            gone.discard(name)
+        elif call.startswith('#(dd,') and len(gone) < 4:
+            gone.add(name)
+        elif call.startswith('#(dd,'):
+            call = f'#(cl,{name})'
+        strings.append(call)
     return "'".join(strings) + "'"
 
 
