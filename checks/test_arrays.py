@@ -1,6 +1,8 @@
-"""The block is all: no body of the engine's crates has an array, but for one byte of a device and the buffer of itoa.
+"""The block is all: no body of the engine's crates has an array, but for one byte of a device and
+the buffer of itoa.
 
-Constants, tests and arrays of no elements aside. A slice, a slice pattern and an index are no arrays.
+Constants, tests and arrays of no elements aside; a copy of a constant array is one. A slice, a
+slice pattern and an index are no arrays.
 """
 import os
 import re
@@ -10,16 +12,27 @@ from trac import TOP
 
 PROGRAM = 'trac_cli'
 # One byte that a device reads or writes, in these files.
-ONE_BYTE = {'trac_core/src/device/read_source.rt': ['[0]'], 'trac_core/src/device/write_sink.rt': ['[byte]']}
+ONE_BYTE = {'trac_core/src/device/read_source.rt': ['[0]'],
+            'trac_core/src/device/write_sink.rt': ['[byte]']}
 PRIMITIVE = re.compile(r'(?:[ui](?:8|16|32|64|128|size)|bool|char|str|dyn|mut|as)$')
-TOKEN = re.compile(r"""//[^\n]*|/\*.*?\*/|b?"(?:\\.|[^"\\])*"|b?'(?:\\(?:x..|u\{[^}]*\}|.)|[^'\\])'|'\w+|\w+|=>|->|::|\.\.=?|&&|\S""", re.DOTALL)
+TOKEN = re.compile(
+    r"""//[^\n]*|/\*.*?\*/|b?r(?P<marks>\#*)".*?"(?P=marks)|b?"(?:\\.|[^"\\])*"
+    |b?'(?:\\(?:x..|u\{[^}]*\}|.)|[^'\\])'|'\w+|\w+|=>|->|::|\.\.=?|&&|\S""",
+    re.DOTALL | re.VERBOSE)
 OPENS, CLOSES = '([{', ')]}'
-WORDS = {'in', 'return', 'mut', 'if', 'else', 'match', 'while', 'let', 'ref', 'dyn', 'as', 'break', 'for', 'impl', 'const'}
+WORDS = {'in', 'return', 'mut', 'if', 'else', 'match', 'while', 'let', 'ref', 'dyn', 'as', 'break',
+         'for', 'impl', 'const'}
+# What reads an array where it stands, without a copy of it.
+READS = {'len', 'is_empty', 'get', 'iter', 'first', 'last', 'contains', 'as_slice'}
+# What stands before a slice in a type, and what before that says that it is one.
+POINTERS = re.compile(r"(?:&&?|mut|dyn|'\w+)$")
+BEFORE_TYPES = {'->', '<', 'as', 'impl', 'for', 'fn', 'Fn', 'FnMut', 'FnOnce'}
 
 
 def tokens(text):
     """The words of a source without comments; a string or a character is one word."""
-    return [word for word in TOKEN.findall(text) if not word.startswith(('//', '/*'))]
+    words = [found.group() for found in TOKEN.finditer(text)]
+    return [word for word in words if not word.startswith(('//', '/*'))]
 
 
 def closing(words, i):
@@ -30,6 +43,17 @@ def closing(words, i):
         if depth == 0:
             return k
     raise AssertionError('a bracket is not closed')
+
+
+def opening(words, i):
+    """The place of the bracket or of the `<` in which place i stands, None where there is none."""
+    depth = 0
+    for k in range(i - 1, -1, -1):
+        opens = words[k] in OPENS or words[k] == '<'
+        if opens and depth == 0:
+            return k
+        depth += (words[k] in CLOSES or words[k] == '>') - opens
+    return None
 
 
 def without_ghosts(words):
@@ -57,7 +81,8 @@ def without_tests(words):
     """The words without items that are compiled for tests alone."""
     kept, i = [], 0
     while i < len(words):
-        if words[i:i + 7] == ['#', '[', 'cfg', '(', 'test', ')', ']'] or words[i:i + 4] == ['#', '[', 'test', ']']:
+        if words[i:i + 7] == ['#', '[', 'cfg', '(', 'test', ')', ']'] \
+                or words[i:i + 4] == ['#', '[', 'test', ']']:
             i = item_end(words, closing(words, i + 1) + 1)
         else:
             kept.append(words[i])
@@ -65,23 +90,65 @@ def without_tests(words):
     return kept
 
 
+def is_constant(words, i):
+    """Whether a constant item begins at place i. A parameter of a type is none."""
+    return words[i] in ('const', 'static') and (i == 0 or words[i - 1] not in ('<', ',')) \
+        and re.match(r'[A-Z_]', words[i + 1]) and words[i + 2] == ':'
+
+
+def has_array(kind):
+    """Whether the words of a type name an array."""
+    return any(word == '[' and len(parts(kind[i + 1:closing(kind, i)], ';')) == 2
+               for i, word in enumerate(kind))
+
+
+class Constants:
+    """Constants: those whose type has an array, those that lend one, and the numbers."""
+
+    def __init__(self):
+        self.arrays, self.lent, self.numbers, self.others = set(), set(), {}, set()
+
+    def take(self, name, kind, value):
+        if not has_array(kind):
+            self.others.add(name)
+        elif kind[0] == '&':
+            self.lent.add(name)
+        else:
+            self.arrays.add(name)
+        self.numbers[name] = ' '.join(value)
+
+    def beside(self, more):
+        """These, and of more of them those whose names none of these has."""
+        found, own = Constants(), self.arrays | self.lent | self.others
+        found.arrays = self.arrays | (more.arrays - own)
+        found.lent = self.lent | (more.lent - own)
+        found.others = self.others | (more.others - own)
+        found.numbers = {**more.numbers, **self.numbers}
+        return found
+
+    def rename(self, words):
+        """Takes those to which `use` gives another name by that one too."""
+        for before, word, after in zip(words, words[1:], words[2:]):
+            for names in (self.arrays, self.lent):
+                if word == 'as' and before in names:
+                    names.add(after)
+
+
 def constants(words):
-    """The words without constant items, the names of constant arrays, and the numbers of constants."""
-    kept, arrays, numbers, i = [], set(), {}, 0
+    """The words without constant items, and the constants."""
+    kept, found, i = [], Constants(), 0
     while i < len(words):
-        if words[i] in ('const', 'static') and re.match(r'[A-Z_]', words[i + 1]) and words[i + 2] == ':':
+        if is_constant(words, i):
             end = i
             while words[end] != ';':
-                end = closing(words, end) + 1 if words[end] in '([{' else end + 1
-            if words[i + 3] == '[':
-                arrays.add(words[i + 1])
-            elif words[end - 2] == '=':
-                numbers[words[i + 1]] = words[end - 1]
+                end = closing(words, end) + 1 if words[end] in OPENS else end + 1
+            kind, *value = parts(words[i + 3:end], '=')
+            found.take(words[i + 1], kind, value[0] if len(value) == 1 else [])
             i = end + 1
         else:
             kept.append(words[i])
             i += 1
-    return kept, arrays, numbers
+    return kept, found
 
 
 def parts(words, mark):
@@ -96,18 +163,67 @@ def parts(words, mark):
     return found
 
 
-def is_type(inside):
-    """Whether the words name types alone, as those of a slice type do."""
+def names_types(inside):
+    """Whether the words name types alone, as those of a slice type do: one type, without a
+    comma at its top."""
     names = [word for word in inside if re.match(r"\w", word)]
-    return bool(names) and all(PRIMITIVE.match(name) or re.match(r'[A-Z]\w*[a-z]|[A-Z]$', name) for name in names) \
-        and '{' not in inside and '::' not in inside
+    return len(parts(inside, ',')) == 1 and '{' not in inside and '::' not in inside \
+        and bool(names) and all(
+            PRIMITIVE.match(name) or re.match(r'[A-Z]\w*[a-z]|[A-Z]$', name) for name in names)
+
+
+def is_declared(words, k):
+    """Whether the bracket at place k opens a struct or an enum, or stands within one."""
+    while k is not None:
+        i = k - 1
+        while i >= 0 and re.match(r"[\w'<>,]", words[i]) and words[i] not in ('struct', 'enum'):
+            i -= 1
+        if i >= 0 and words[i] in ('struct', 'enum'):
+            return True
+        k = opening(words, k)
+    return False
+
+
+def is_field(words, i):
+    """Whether the colon at place i gives a type, and not the value of a field."""
+    if words[i - 2] in ('let', 'mut', 'ref', 'pub', 'const', 'static'):
+        return True
+    k = opening(words, i)
+    return k is None or words[k] != '{' or is_declared(words, k)
+
+
+def in_type(words, i):
+    """Whether a type is what begins at place i, and not a value."""
+    k = i - 1
+    while k >= 0 and POINTERS.match(words[k]):
+        k -= 1
+    before = words[k] if k >= 0 else ''
+    if before in BEFORE_TYPES:
+        return True
+    if before == ':':
+        return is_field(words, k)
+    if before == '=':
+        return words[k - 2] == 'type'
+    if before in ('(', ','):
+        k = opening(words, i) if before == ',' else k
+        return k is not None and (words[k] == '<' or words[k] == '(' and (
+            in_type(words, k) or is_declared(words, k)))
+    return False
+
+
+def is_slice(words, i, end):
+    """Whether the bracket from place i to its end is a slice type: it stands behind a pointer or a
+    word for types, and where a type does."""
+    before = words[i - 1] if i else ''
+    return names_types(words[i + 1:end]) and before not in (':', '=', '(') and in_type(words, i)
 
 
 def is_pattern(words, i, end):
     """Whether the bracket from place i to its end is a slice pattern."""
     after = words[end + 1] if end + 1 < len(words) else ''
     inside = words[i + 1:end]
-    return after in ('=>', '|', 'if') or '@' in inside or '..' in [word for part in parts(inside, ',') for word in part[:1] if len(part) == 1] \
+    return after in ('=>', '|', 'if') or '@' in inside \
+        or ['..'] in parts(inside, ',') \
         or (after == '=' and words[i - 1] in ('let', '&', 'mut'))
 
 
@@ -125,23 +241,62 @@ def array_at(words, i, numbers):
         return None if numbers.get(number, number) == '0' else text
     if re.match(r"[\w?)\]]", before) and before not in WORDS and not before.startswith("'"):
         return None
-    if is_type(inside) or is_pattern(words, i, end):
+    if is_slice(words, i, end) or is_pattern(words, i, end):
         return None
     return text
 
 
-def arrays(text):
-    """The arrays of a source: types, expressions, and copies of constant ones."""
-    words, constant, numbers = constants(without_tests(without_ghosts(tokens(text))))
-    found = []
+def is_copied(words, i, lent):
+    """Whether the array that a word at place i names is copied there, or, where the word lends it,
+    what it lends is."""
+    after, method = words[i + 1:i + 3] if i + 2 < len(words) else ['', '']
+    while words[i - 1] == '::':
+        i -= 2
+    before = words[i - 1]
+    if after == '.':
+        return method not in READS
+    if lent:
+        return before == '*' and words[i - 2] != '&'
+    return before != '&' and after != '['
+
+
+def read(text):
+    """The words of a source that run, without its constants, and these."""
+    return constants(without_tests(without_ghosts(tokens(text))))
+
+
+def constants_of(texts):
+    """The constants of sources. A name that is an array in one of them stands for that."""
+    found = Constants()
+    for text in texts:
+        more = read(text)[1]
+        found.arrays |= more.arrays
+        found.lent |= more.lent
+        for name, number in more.numbers.items():
+            found.numbers[name] = number if found.numbers.get(name, number) == number else name
+    return found
+
+
+def arrays(text, others=Constants()):
+    """The arrays of a source: types, expressions, and copies of constant ones, those of other
+    sources with them."""
+    words, known = read(text)
+    known = known.beside(others)
+    known.rename(words)
+    found, uses = [], False
     for i, word in enumerate(words):
+        uses = word == 'use' or uses and word != ';'
         if word == '[':
-            array = array_at(words, i, numbers)
+            array = array_at(words, i, known.numbers)
             found += [array] if array else []
-        elif word in constant and words[i - 1] != '&' and words[i + 1] not in ('[', '.'):
-            found.append(word)
         elif word == 'array' and words[i + 1] == '::':
             found.append('array::' + words[i + 2])
+        elif uses:
+            continue
+        elif word in known.arrays and is_copied(words, i, False):
+            found.append(word)
+        elif (word in known.lent or re.match('br?#*"', word)) and is_copied(words, i, True):
+            found.append(word)
     return found
 
 
@@ -160,7 +315,8 @@ def engine():
 
 
 def sources(crate):
-    """The files of a crate without those of its tests, by their names from the folder of crates on."""
+    """The files of a crate without those of its tests, by their names from the folder of crates
+    on."""
     top = os.path.join(TOP, 'crates')
     for folder, _, names in os.walk(os.path.join(top, crate, 'src')):
         for name in names:
@@ -174,16 +330,15 @@ class Arrays(unittest.TestCase):
         self.assertEqual(engine(), ['trac_core', 'trac_forms', 'trac_space'])
 
     def test_bodies_have_no_array_but_one_byte_of_a_device(self):
-        found, seen = {}, 0
+        texts = {}
         for crate in engine():
             for path in sources(crate):
-                seen += 1
                 with open(os.path.join(TOP, 'crates', path), encoding='utf-8') as source:
-                    here = arrays(source.read())
-                if here:
-                    found[path] = here
-        self.assertGreater(seen, 30)
-        self.assertEqual(found, ONE_BYTE)
+                    texts[path] = source.read()
+        self.assertGreater(len(texts), 30)
+        constant = constants_of(texts.values())
+        found = {path: arrays(text, constant) for path, text in texts.items()}
+        self.assertEqual({path: here for path, here in found.items() if here}, ONE_BYTE)
 
     def test_a_table_of_arguments_is_found(self):
         path = os.path.join(TOP, 'crates', 'trac_forms', 'src', 'fill.rt')
@@ -208,14 +363,46 @@ class Arrays(unittest.TestCase):
             ('const T: [u8; 9] = [0; 9]; fn f() { g(&mut T); }', ['T']),
             ('fn f() { let a = std::array::from_fn(g); }', ['array::from_fn']),
             ('type Table = [(u32, u32); 256];', ['[( u32 , u32 ) ; 256]']),
+            ('fn f() { let none = [None, None, None]; }', ['[None , None , None]']),
+            ('fn f() { let two = [First, Second]; }', ['[First , Second]']),
+            ('fn f() { g(&[First, Second]); }', ['[First , Second]']),
+            ('fn f() { let one = [X]; }', ['[X]']),
+            ('fn f() { g([X]); g(1, &[X]); g(&mut [First]); }', ['[X]', '[X]', '[First]']),
+            ('fn f() { { g(&[X]) } h(1); { let y = E(&[X]); } }', ['[X]', '[X]']),
+            ('fn f() { let a = A { one: [X], lent: &[First] }; }', ['[X]', '[First]']),
+            ('fn f() { if x == [X] { return &[First]; } }', ['[X]', '[First]']),
+            ('fn f() { g(*b"abcdefgh"); let x = b"ab".clone(); }', ['b"abcdefgh"', 'b"ab"']),
+            ('const T: &[u8; 9] = b"abcdefghi"; fn f() { let t = *T; }', ['T']),
+            ('const T: &[u8; 9] = b"abcdefghi"; fn f() { let t = T.clone(); }', ['T']),
+            ('const T: [u8; 9] = [0; 9]; fn f() { let t = T.clone(); }', ['T']),
+            ('const T: (u8, [u8; 9]) = (1, [0; 9]); fn f() { let t = T; }', ['T']),
+            ('const T: (u8, [u8; 9]) = (1, [0; 9]); fn f() { let t = T.1; }', ['T']),
+            ('fn f<const N: usize>() { let table = [0; N]; }', ['[0 ; N]']),
         ]
         for text, wanted in rows:
             self.assertEqual(arrays(text), wanted, text)
 
+    def test_a_constant_array_of_another_source_is_found(self):
+        other = constants_of([
+            'pub const TABLE: [u8; 9] = [0; 9]; pub const SIZE: usize = 4;',
+            'pub const LENT: &[u8; 9] = b"abcdefghi"; pub const NONE: usize = 0;'])
+        rows = [
+            ('use crate::other::TABLE; fn f() { let t = TABLE; }', ['TABLE']),
+            ('use crate::other::{TABLE as T, SIZE}; fn f() { let t = T; let n = SIZE; }', ['T']),
+            ('fn f() { let t = crate::other::TABLE; let u = &crate::other::TABLE; }', ['TABLE']),
+            ('use crate::other::LENT; fn f() { let t = LENT; let u = *LENT; }', ['LENT']),
+            ('fn f() { let t = *crate::other::LENT; }', ['LENT']),
+            ('use crate::other::NONE; fn f() { let none: [u32; NONE] = []; }', []),
+            ('use crate::other::TABLE; fn f() { g(&TABLE); let x = TABLE[1]; }', []),
+            ('const TABLE: u8 = 1; fn f() { let t = TABLE; }', []),
+        ]
+        for text, wanted in rows:
+            self.assertEqual(arrays(text, other), wanted, text)
+
     def test_what_is_no_array_passes(self):
         rows = [
             'const T: [u8; 9] = [0; 9]; fn f() { g(&T); let x = T[1]; let n = T.len(); }',
-            'const NONE: usize = 0; fn f() { let none: [u32; 0] = []; let less: [u32; NONE] = []; }',
+            'const NONE: usize = 0; fn f() { let no: [u32; 0] = []; let less: [u32; NONE] = []; }',
             "fn f<'a>(x: &'a mut [Cell], y: &[(u32, u32)], z: &[u8]) -> &'a [Cell] { &x[a..b] }",
             'fn f() { match x { [first, rest @ ..] => 1, [] if y => 2, [a] => 3, _ => 4 } }',
             'fn f() { if let [a, ..] = x {} let y = &x[..][1]; g()[2] = 3; }',
@@ -224,6 +411,16 @@ class Arrays(unittest.TestCase):
             '#![tactic(auto)] #[derive(Drop)] struct A; // [0; 9]\n',
             'fn f() { let text = "[0; 9]"; let byte = b\'[\'; }',
             '#[cfg(test)] mod tests { fn f() { let x = [0; 9]; } } #[test] fn g() { let x = [1]; }',
+            'fn f<const N: usize>(x: &[u8]) -> usize { x.len() + N } fn g() { let n = 1; }',
+            "fn f<'a, const N: usize, X>(x: &'a [X]) -> Option<&'a [X]> { Some(&x[..N]) }",
+            'fn f(x: &dyn Fn(&[Cell], &mut [X]) -> bool, y: Box<[X]>, z: (&[X], &[Cell])) {}',
+            'const T: &[u8; 9] = b"abcdefghi"; fn f() { g(T); let n = T.len(); let x = T[2]; }',
+            'const T: &[u8; 9] = b"abcdefghi"; fn f() { let t = &*T; }',
+            'const T: (u8, [u8; 9]) = (1, [0; 9]); fn f() { g(&T); }',
+            'const T: (u8, &[u8]) = (1, b"a"); fn f() { let t = T; g(b"ab"); b"ab".len(); }',
+            'fn f() { let x: &[Cell] = g(); let y = x as &[X]; for z in &x[1..] {} }',
+            'struct A<X> { all: &[X] } impl B for [X] {} type C = &[Cell]; enum D { E(&[X]) }',
+            "struct A<'a>(&'a [X], u8); enum D { E { x: &[X] }, F(u8, &[X]) } struct G { x: &[X] }",
         ]
         for text in rows:
             self.assertEqual(arrays(text), [], text)

@@ -10,6 +10,8 @@ from trac import PROGRAM, TRACER
 HELLO = b"#(ps,hello)'"
 # for how many calls in a row the second kind of trial goes on
 MANY = 300
+# how often the library tries again that writes the help and the lines on standard error
+LIBRARY = 64
 
 
 def traced(words, *injections):
@@ -64,6 +66,18 @@ class Interruptions(unittest.TestCase):
             got, lines = traced([program, '--help'], 'write:error=EINTR:when=1')
             self.assertEqual(got, shown)
             self.assertEqual(injected(lines, 'write(1,'), 1)
+
+    def test_standard_error(self):
+        words = [PROGRAM, '--report']
+        plain, _ = traced(words)
+        self.assertEqual(plain, (b'hello', 'trac: 29 steps, peak 19 cells\n', 0))
+        # the second write is that of the line, the third that of its line feed
+        for at in (2, 3):
+            for more in (0, LIBRARY - 1):
+                with self.subTest(at=at, more=more):
+                    got, lines = traced(words, f'write:error=EINTR:when={at}..{at + more}')
+                    self.assertEqual(got, plain)
+                    self.assertEqual(injected(lines, 'write(2,'), 1 + more)
 
     def test_another_error_is_a_failure(self):
         first = first_read(traced([PROGRAM])[1])

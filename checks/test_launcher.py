@@ -12,7 +12,9 @@ from trac import LAUNCHER, TOP
 CRATES = ['trac_space', 'trac_forms', 'trac_core', 'trac_cli']
 BUILT = os.path.join('crates', 'trac_cli', 'out', 'trac_cli')
 SOURCE = os.path.join('crates', 'trac_core', 'src', 'machine.rt')
+# What a run by a user gets who may write nothing.
 NOBODY = 65534
+AS_NOBODY = {'user': NOBODY, 'group': NOBODY} if os.getuid() == 0 else {}
 FIRST = 'trac: building the program, and proving it: about six minutes on four idle cores ..\n'
 AGAIN = 'trac: building the program again, and proving what changed ..\n'
 RT = """#!/bin/sh
@@ -27,7 +29,8 @@ mv out/trac_cli.$$ out/trac_cli
 
 class Launcher(unittest.TestCase):
     def setUp(self):
-        self.folder = tempfile.mkdtemp()
+        # with blanks in its name, which try the launcher's quotes
+        self.folder = tempfile.mkdtemp(prefix='a b ')
         self.addCleanup(shutil.rmtree, self.folder)
         os.chmod(self.folder, 0o755)
         self.top, self.tools, self.calls = (
@@ -127,6 +130,16 @@ class Launcher(unittest.TestCase):
         self.run_once(AGAIN)
         self.assertEqual(self.builds(), 2)
 
+    def test_a_program_of_the_future(self):
+        self.run_once(FIRST)
+        self.date(BUILT, 86400)
+        self.run_once()
+        self.assertEqual(self.builds(), 1)
+        self.write(SOURCE, '\n')
+        self.run_once(AGAIN)
+        self.run_once()
+        self.assertEqual(self.builds(), 2)
+
     def test_an_edit_while_it_is_built(self):
         edit = f"echo >>'{os.path.join(self.top, SOURCE)}'\n"
         self.answer(RT.format(calls=self.calls, seconds=0.1) + edit)
@@ -152,7 +165,17 @@ class Launcher(unittest.TestCase):
                 file = os.path.join(folder, name)
                 os.chmod(file, os.stat(file).st_mode & 0o555)
         self.addCleanup(subprocess.run, ['chmod', '-R', 'u+w', self.top], check=True)
-        self.run_once(**({'user': NOBODY, 'group': NOBODY} if os.getuid() == 0 else {}))
+        self.run_once(**AS_NOBODY)
+        self.assertEqual(self.builds(), 1)
+
+    def test_a_note_that_can_not_be_written(self):
+        for folder in (self.folder, os.path.join(self.top, 'crates', 'trac_cli')):
+            os.chmod(folder, 0o777)
+        self.addCleanup(subprocess.run, ['chmod', '-R', 'u+w', self.top], check=True)
+        self.answer(RT.format(calls=self.calls, seconds=0) + 'chmod 555 out\n')
+        self.run_once(FIRST, **AS_NOBODY)
+        self.assertEqual(os.listdir(os.path.join(self.top, os.path.dirname(BUILT))), ['trac_cli'])
+        self.run_once(**AS_NOBODY)
         self.assertEqual(self.builds(), 1)
 
     def test_a_build_that_fails(self):
