@@ -1,5 +1,5 @@
 -- What stands between comma marks, part by part, and a list of where the parts begin.
-use Rattle.std.proofs.Common.{◌≡◌, ℕ, suc, ◌+◌, ◌-◌, ◌<◌, ◌≤◌, Bool, true, false, List, [], ◌∷◌, ◌++◌, length, take, drop, map, slice_range, get_or, refl, sym, ap, ◌∙◌, arith, cond, nat_le, ⊎_elim, append_assoc}
+use Rattle.std.proofs.Common.{◌≡◌, ℕ, zero, suc, ◌+◌, ◌-◌, ◌<◌, ◌≤◌, Bool, true, false, List, [], ◌∷◌, ◌++◌, length, take, drop, map, slice_range, get_or, refl, sym, ap, ◌∙◌, arith, cond, nat_le, ⊎_elim, subst, append_assoc}
 use Rattle.std.proofs.lemmas.Bool.{cases_lt}
 use Rattle.std.proofs.lemmas.List.{length-append, length-map, length-take, drop-take, drop-drop, get_or_append_left}
 use Rattle.std.proofs.Math.Seq.{get_or-append_seam}
@@ -8,7 +8,7 @@ use Rattle.trac_space.specs.declared.cell.Cell.{Cell}
 use Rattle.trac_space.specs.declared.cell.Cell.TheVariants.{Byte, Call, Comma, Gap, Head}
 use Rattle.trac_space.specs.Cells.{seen, is_comma}
 use Rattle.trac_space.specs.Lists.{Lists, used, HasWay}
-use Rattle.trac_forms.specs.Arguments.{before_comma, parts_at, parts_between, numbered_part, IsListed}
+use Rattle.trac_forms.specs.Arguments.{before_comma, parts_at, parts_between, numbered_part, IsHeadAt, IsListed}
 use Rattle.trac_forms.specs.Stored.{head_at}
 use Rattle.trac_forms.proofs.FlatLemmas.{part_of_longer}
 
@@ -103,9 +103,13 @@ parts-longer neutral more from end within =
     (λ le. parts-some (neutral ++ more) from end le ∙ ap (parts_at from from) (part_of_longer neutral more from end le within) ∙ sym (parts-some neutral from end le))
     (cases_lt end from)
 
+heads-more : (n : ℕ) (cells : List Cell) (count : ℕ) → ((i : ℕ) → i ≤ count → IsHeadAt cells i) → (i : ℕ) → i ≤ count + 1 → IsHeadAt (Head n ∷ cells) i
+heads-more n cells count heads zero within = refl
+heads-more n cells count heads (suc i) within = heads i (omega (arith, within))
+
 -- an empty list of where parts begin
-pub listed-none : (cells : List Cell) → 0 < length cells → IsListed cells [] 0
-listed-none cells some = record { all = refl; within = omega (arith, some); bounded = omega arith; begins = λ number some within. absurd (omega (arith, some, within)); ends = λ number some within. absurd (omega (arith, some, within)) }
+pub listed-none : (cells : List Cell) → 0 < length cells → IsHeadAt cells 0 → IsListed cells [] 0
+listed-none cells some first = record { heads = λ i within. (let none : 0 ≡ i = omega (arith, within) in subst (IsHeadAt cells) none first); all = refl; within = omega (arith, some); bounded = omega arith; begins = λ number some within. absurd (omega (arith, some, within)); ends = λ number some within. absurd (omega (arith, some, within)) }
 
 -- one part more is listed
 pub listed-more : (cells : List Cell) (parts : List (ℕ × ℕ)) (count from to : ℕ) → IsListed cells parts count → count ≤ 16777216 → head_at cells 0 ≡ from → IsListed (Head (to + 1) ∷ cells) (parts ++ (from, to) ∷ []) (count + 1)
@@ -121,6 +125,7 @@ listed-more cells parts count from to listed few first =
       all = omega (arith, all, length-append parts ((from, to) ∷ []));
       within = omega (arith, listed.within);
       bounded = omega (arith, few);
+      heads = heads-more (to + 1) cells count listed.heads;
       begins = λ number some within.
           let behind : count + 1 + 1 - number ≡ suc (count + 1 - number) = omega (arith, within) in
           ap (head_at (Head (to + 1) ∷ cells)) behind
@@ -162,7 +167,7 @@ lists-none old now from end order is room =
       same = rw is refl;
       order = omega (arith, order);
       split = refl;
-      listed = listed-none now.active (omega (arith, ap (λ (s : Lists). length s.active) is));
+      listed = listed-none now.active (omega (arith, ap (λ (s : Lists). length s.active) is)) (subst (λ cells. IsHeadAt cells 0) (sym (ap (λ (s : Lists). s.active) is)) refl);
       next = ap (λ (s : Lists). head_at s.active 0) is;
       few = omega arith;
       behind = ap (λ (s : Lists). drop 1 s.active) is;

@@ -1,7 +1,9 @@
 -- The arguments of a call in neutral: what stands between comma marks.
+use Rattle.std.specs.Prelude.{slice_get, Some}
 use Rattle.std.specs.Prelude.{◌≡◌, ℕ, suc, ◌+◌, ◌-◌, ◌<◌, ◌≤◌, List, [], ◌∷◌, length, drop, map}
 use Rattle.std.specs.Prelude.{slice_range, slice_index_or, nat_le, if◌then◌else◌}
 use Rattle.trac_space.specs.declared.cell.Cell.{Cell}
+use Rattle.trac_space.specs.declared.cell.Cell.TheVariants.{Head}
 use Rattle.trac_space.specs.Cells.{is_comma}
 use Rattle.trac_space.specs.Lists.{Lists}
 use Rattle.trac_forms.specs.declared.arguments.Arguments.{Arguments}
@@ -45,12 +47,17 @@ pub record AreParted (neutral : List Cell) (from end : ℕ) : Type 0 where
   pub bounded : end ≤ 16777216
   pub texts : AreTextParts neutral (parts_between neutral from end)
 
+-- a number stands at the place
+abbrev pub IsHeadAt : List Cell → ℕ → Type 0
+IsHeadAt cells i = slice_get cells i ≡ Some (Head (head_at cells i))
+
 -- the cells begin with numbers that say where each of so many parts begins, the last one first, and
 -- before them where a further one would
 pub record IsListed (cells : List Cell) (parts : List (ℕ × ℕ)) (count : ℕ) : Type 0 where
   pub all : count ≡ length parts
   pub within : count + 1 ≤ length cells
   pub bounded : count ≤ 16777217
+  pub heads : (i : ℕ) → i ≤ count → IsHeadAt cells i
   pub begins : (number : ℕ) → 0 < number → number ≤ count →
       head_at cells (count + 1 - number) ≡ (numbered_part parts number).0
   pub ends : (number : ℕ) → 0 < number → number ≤ count →

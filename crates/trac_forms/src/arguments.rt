@@ -2,11 +2,11 @@
 //! marks.
 ghost use Rattle.std.specs.Prelude.{◌≡◌, ◌⊎◌, ◌+◌, ◌-◌, ◌<◌, ◌≤◌, length, drop};
 ghost use Rattle.trac_space.specs.Lists.{HasWay};
-ghost use Rattle.trac_forms.specs.Arguments.{before_comma, parts_between, numbered_part, IsListed};
+ghost use Rattle.trac_forms.specs.Arguments.{before_comma, parts_between, numbered_part, IsHeadAt, IsListed};
 ghost use Rattle.trac_forms.specs.Arguments.{HasList};
 ghost use Rattle.trac_forms.specs.Stored.{head_at};
 
-use crate::store::number;
+use crate::store::number_in_head;
 use trac_space::{Cell, Space};
 
 /// The arguments of a call: what stands between the comma marks of neutral from a place up to
@@ -60,11 +60,13 @@ impl Arguments {
 fn listed_pair(space: &Space, place: u32) -> (u32, u32)
     requires within { place + 2 ≤ length space.now.active }
     requires bounded { place ≤ 16777217 }
+    requires from_head { IsHeadAt space.now.active (place + 1) }
+    requires next_head { IsHeadAt space.now.active place }
     ensures from { result.0 ≡ head_at space.now.active (place + 1) }
     ensures next { result.1 ≡ head_at space.now.active place }
 {
     let cells = space.active_part(place, place + 2);
-    (number(cells[1]), number(cells[0]))
+    (number_in_head(cells[1]), number_in_head(cells[0]))
 }
 
 // Where the argument of a number begins and ends, found by the comma marks before it.

@@ -8,7 +8,8 @@ use Rattle.trac_forms.specs.Contents.{IsByte, name_at}
 use Rattle.trac_forms.specs.FlatForms.{flat_forms, flat_text, text_of_cells}
 use Rattle.trac_forms.specs.Stored.{forms_in, start_of, head_number}
 use Rattle.trac_forms.specs.Index.{cell_at, IsIndex}
-use Rattle.trac_forms.proofs.Finding.{begins_at, is_head, number_is, bytes-flat}
+use Rattle.trac_forms.proofs.Finding.{begins_at, number_is, bytes-flat}
+use Rattle.trac_forms.proofs.Heads.{is_head}
 use Rattle.trac_forms.proofs.FlatLemmas.{Byte-character_of, character_of-Byte}
 use Rattle.trac_forms.proofs.Heads.{number-seen}
 use Rattle.trac_forms.proofs.Indexed.{slots_len}

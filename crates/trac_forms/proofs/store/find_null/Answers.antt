@@ -3,7 +3,8 @@ use Rattle.trac_space.specs.declared.cell.Cell.TheVariants.{Byte}
 use Rattle.trac_space.specs.Cells.{seen}
 use Rattle.trac_forms.specs.Stored.{forms_in}
 use Rattle.trac_forms.specs.Contents.{form_at}
-use Rattle.trac_forms.proofs.Finding.{begins_at, is_head, number_is}
+use Rattle.trac_forms.proofs.Finding.{begins_at, number_is}
+use Rattle.trac_forms.proofs.Heads.{is_head}
 use Rattle.trac_forms.proofs.Stores.{NoneNamed-more}
 use Rattle.trac_forms.proofs.store.find_null.Goals as goal
 

@@ -6,7 +6,8 @@ use Rattle.trac_forms.specs.Store.{NoneNamed}
 use Rattle.trac_forms.specs.Stored.{forms_in, start_of}
 use Rattle.trac_forms.specs.FlatForms.{flat_text, text_of_cells}
 use Rattle.trac_forms.specs.Contents.{form_at, IsByte}
-use Rattle.trac_forms.proofs.Finding.{begins_at, is_head, number_is, bytes-flat}
+use Rattle.trac_forms.proofs.Finding.{begins_at, number_is, bytes-flat}
+use Rattle.trac_forms.proofs.Heads.{is_head}
 use Rattle.trac_forms.proofs.FlatLemmas.{Byte-character_of, character_of-Byte}
 use Rattle.trac_forms.proofs.Stores.{NoneNamed-further}
 use Rattle.trac_forms.proofs.store.find_some.Goals as goal
