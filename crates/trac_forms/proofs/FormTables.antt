@@ -298,7 +298,7 @@ index-unmoved k count cells name start table none index =
         elim (nat_le j k) as (λ b. (if b then start j else (if nat_lt j count then start j - cells else start j)) ≡ start j) [
           | true ↦ refl
           | false ↦ elim (nat_lt j count) as (λ b. (if b then start j - cells else start j) ≡ start j) [
-              | true ↦ least
-              | false ↦ refl
-            ]
+            | true ↦ least
+            | false ↦ refl
+          ]
         ]

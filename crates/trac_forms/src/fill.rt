@@ -159,8 +159,8 @@ fn fill_cells(space: &mut Space, from: u32, stop: u32, arguments: Arguments) -> 
           neutral = space.old.neutral ++ flat_text text;
         }) }
     ensures some { OnFalse result ((done : Text) × (space.new ≡ record space.old {
-          neutral = space.old.neutral ++ flat_text done;
-        })) }
+      neutral = space.old.neutral ++ flat_text done;
+    })) }
 {
     let mut at = from;
     let mut way = space.way();

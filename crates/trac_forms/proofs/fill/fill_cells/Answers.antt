@@ -1,4 +1,4 @@
-use Rattle.std.proofs.Common.{◌≡◌, ◌+◌, ◌-◌, ◌<◌, ◌≤◌, [], ◌∷◌, length, get_or, slice_range, refl, sym, ap, ◌∙◌, arith, subst}
+use Rattle.std.proofs.Common.{◌≡◌, ◌+◌, ◌-◌, ◌<◌, ◌≤◌, [], length, slice_range, refl, sym, ap, ◌∙◌, arith, subst}
 use Rattle.std.proofs.lemmas.Bool.{false≢true}
 use Rattle.std.proofs.lemmas.List.{length-map}
 use Rattle.std.proofs.lemmas.List.Edits.{length-between}
@@ -6,7 +6,6 @@ use Rattle.trac_space.specs.Cells.{seen}
 use Rattle.trac_space.specs.Lists.{Lists, used}
 use Rattle.trac_forms.specs.Arguments.{parts_between}
 use Rattle.trac_forms.specs.Contents.{part_texts}
-use Rattle.trac_forms.specs.Gaps.{gap_ordinal}
 use Rattle.trac_forms.proofs.Filling.{filled, Filled, filled-store, filled-none, filled-whole, filled-fits, run-few, run-goes, run-put, run-full, run-free, gap-there, gap-part, gap-no_call, gap-put, gap-full, gap-free, part-is}
 use Rattle.trac_forms.proofs.fill.fill_cells.Goals as goal
 
