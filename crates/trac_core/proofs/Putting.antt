@@ -8,8 +8,7 @@ use Rattle.trac_forms.specs.Text.{Text}
 use Rattle.trac_forms.specs.FlatForms.{flat_text}
 use Rattle.trac_forms.specs.Contents.{Contents, used, IsSound, IsTextPart, part_text}
 use Rattle.trac_core.specs.declared.function.Function.{Function}
-use Rattle.trac_core.specs.declared.arguments.Arguments.{Arguments}
-use Rattle.trac_core.specs.Calls.{Valued, IsValue, AreArguments, texts}
+use Rattle.trac_core.specs.Calls.{Valued, IsValue}
 
 -- of a whole text this much is left, and the rest stands at the end of neutral
 pub record HasPut (old now : Contents) (whole left : Text) : Type 0 where

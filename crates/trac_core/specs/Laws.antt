@@ -1,9 +1,12 @@
 -- Laws of whole runs.
-use Rattle.std.specs.Prelude.{◌≡◌, ◌≢◌, ℕ, ◌+◌, ◌<◌, ◌≤◌, false, [], ◌++◌, length, codes, All}
+use Rattle.std.specs.Prelude.{◌≡◌, ◌≢◌, ◌↔◌, ℕ, ◌+◌, ◌<◌, ◌≤◌, false, [], ◌∷◌, ◌++◌, length}
+use Rattle.std.specs.Prelude.{codes, All, Some}
 use Rattle.trac_forms.specs.Text.{Text}
+use Rattle.trac_forms.specs.Store.{IsStore}
 use Rattle.trac_core.specs.declared.machine.Fate.TheVariants.{InputEnded, Workspace, Steps}
-use Rattle.trac_core.specs.Protected.{IsBalanced}
-use Rattle.trac_core.specs.State.{Input, first}
+use Rattle.trac_core.specs.Protected.{IsBalanced, IsProtected, protected}
+use Rattle.trac_core.specs.State.{State, Input, first}
+use Rattle.trac_core.specs.Step.{step, Next}
 use Rattle.trac_core.specs.Run.{Run, run}
 
 -- the second text begins with the first
@@ -71,3 +74,25 @@ Quoted =
     16 + length text ≤ room →
     25 ≤ allowance →
     run room allowance (first (quoting text)) ≡ quoted text
+
+-- of a text at most one part is protected at its beginning, and so what follows it is one as well
+abbrev pub OneProtected : Type 0
+OneProtected =
+    (text inside rest other behind : Text) →
+    IsProtected text inside rest →
+    IsProtected text other behind →
+    (inside ≡ other) × (rest ≡ behind)
+
+-- the part that the definition of a step takes is that one, and it takes one wherever there is one
+abbrev pub FindsProtected : Type 0
+FindsProtected =
+    (text inside rest : Text) →
+    (protected text ≡ Some (inside, rest)) ↔ IsProtected (40 ∷ text) inside rest
+
+-- a step keeps names distinct and pointers within their bodies
+abbrev pub KeepsForms : Type 0
+KeepsForms =
+    (before after : State) →
+    IsStore before.memory.forms →
+    step before ≡ Next after →
+    IsStore after.memory.forms

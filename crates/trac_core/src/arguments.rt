@@ -1,15 +1,12 @@
 //! The arguments of a call, taken one after the other, and the value that is put behind them.
-ghost use Rattle.std.specs.Prelude.{◌≡◌, ◌↔◌, ℕ, true, false, ◌+◌, ◌≤◌, ◌++◌, List, length, drop};
+ghost use Rattle.std.specs.Prelude.{◌≡◌, ◌↔◌, ℕ, true, false, ◌+◌, ◌≤◌, ◌++◌, length, drop};
 ghost use Rattle.std.specs.Prelude.{IsTrue};
 ghost use Rattle.std.specs.Bool.{OnTrue, OnFalse};
-ghost use Rattle.trac_space.specs.Cells.{is_comma};
-ghost use Rattle.trac_forms.specs.Text.{Text};
 ghost use Rattle.trac_forms.specs.FlatForms.{flat_text, text_of_cells};
 ghost use Rattle.trac_forms.specs.Contents.{used, part_text, IsTextPart, IsSound};
 ghost use Rattle.trac_core.specs.Cells.{IsText};
 ghost use Rattle.trac_core.specs.State.{argument};
-ghost use Rattle.trac_core.specs.declared.function.Function.{Function};
-ghost use Rattle.trac_core.specs.Calls.{MakesValue, AreArguments, texts, Valued, Makes};
+ghost use Rattle.trac_core.specs.Calls.{MakesValue, AreArguments, texts};
 
 use trac_forms::{Cell, Work, before_comma};
 

@@ -1,5 +1,5 @@
 //! The functions of bit strings: `bu`, `bi`, `bc`, `bs` and `br`.
-ghost use Rattle.std.specs.Prelude.{◌≡◌, ◌+◌, ◌-◌, ◌≤◌, ◌∷◌, ◌++◌, false, List, length, slice_get};
+ghost use Rattle.std.specs.Prelude.{◌≡◌, ◌+◌, ◌-◌, ◌≤◌, ◌++◌, false, List, length, slice_get};
 ghost use Rattle.trac_forms.specs.Text.{Text};
 ghost use Rattle.trac_forms.specs.FlatForms.{flat_text};
 ghost use Rattle.trac_forms.specs.Contents.{used, part_text, IsTextPart, IsSound};
@@ -9,7 +9,7 @@ ghost use Rattle.trac_core.specs.BitResults.{bits_at, AreDigits, AreFor, octal_m
 ghost use Rattle.trac_core.specs.declared.function.Function.{Function};
 ghost use Rattle.trac_core.specs.declared.function.Function.TheVariants.{Union, Intersection};
 ghost use Rattle.trac_core.specs.declared.function.Function.TheVariants.{Complement, Shift, Rotate};
-ghost use Rattle.trac_core.specs.Calls.{AreArguments, texts, Valued, Makes, Performs};
+ghost use Rattle.trac_core.specs.Calls.{AreArguments, Valued, Makes, Performs};
 
 use crate::arguments::{Arguments, Made, put_part, text};
 use crate::values::{self, Count};

@@ -1,5 +1,5 @@
 //! Calls: one is performed when its right parenthesis is scanned.
-ghost use Rattle.std.specs.Prelude.{◌≡◌, ◌≢◌, ◌+◌, ◌-◌, ◌<◌, ◌≤◌, ◌^◌, ◌∷◌, length, drop, None};
+ghost use Rattle.std.specs.Prelude.{◌≡◌, ◌≢◌, ◌+◌, ◌-◌, ◌<◌, ◌≤◌, ◌^◌, length, drop, None};
 ghost use Rattle.std.specs.Prelude.{Some, slice_get, All, true, false, ◌||◌};
 ghost use Rattle.trac_space.specs.Calls.{IsLastCall};
 ghost use Rattle.trac_forms.specs.Text.{Text};
@@ -9,7 +9,7 @@ ghost use Rattle.trac_core.specs.Devices.{Sent};
 ghost use Rattle.trac_core.specs.Flat.{memory_of, mode_of, mode_at, is_active_mode, arguments_at};
 ghost use Rattle.trac_core.specs.Function.{is_plain};
 ghost use Rattle.trac_core.specs.Performed.{performs, reads_input, prints_output};
-ghost use Rattle.trac_core.specs.Calls.{AreArguments, texts, Makes, Performs};
+ghost use Rattle.trac_core.specs.Calls.{AreArguments, texts, Performs};
 ghost use Rattle.trac_core.specs.Machine.{input_failures, output_failures};
 ghost use Rattle.trac_core.specs.Attempts.{scene, Tried, TriedCall, IsCall, function_at, delivered};
 ghost use Rattle.trac_core.specs.Attempts.{TakesFrom, TakesAtMost, TriedOnContents, NoneFailed};

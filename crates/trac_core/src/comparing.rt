@@ -1,9 +1,8 @@
 //! The functions that compare: `eq` and `gr`.
-ghost use Rattle.std.specs.Prelude.{◌≡◌, ◌∷◌};
-ghost use Rattle.trac_forms.specs.Text.{Text};
+ghost use Rattle.std.specs.Prelude.{◌≡◌};
 ghost use Rattle.trac_forms.specs.Contents.{IsSound};
 ghost use Rattle.trac_core.specs.declared.function.Function.TheVariants.{Equal, Greater};
-ghost use Rattle.trac_core.specs.Calls.{AreArguments, texts, Makes, Performs};
+ghost use Rattle.trac_core.specs.Calls.{AreArguments, Performs};
 
 use crate::arguments::{Arguments, Made, give, text};
 use crate::values;

@@ -1,5 +1,5 @@
 //! The functions that take a part of a form: `cs`, `cc`, `cn`, `in`, and `cr`.
-ghost use Rattle.std.specs.Prelude.{◌≡◌, ◌↔◌, ℕ, ◌+◌, ◌-◌, ◌<◌, ◌≤◌, ◌++◌, ◌∷◌, min, take, drop};
+ghost use Rattle.std.specs.Prelude.{◌≡◌, ◌↔◌, ℕ, ◌+◌, ◌-◌, ◌<◌, ◌≤◌, ◌++◌, min, take, drop};
 ghost use Rattle.std.specs.Prelude.{reverse, length, Some, None, IsTrue, true, false};
 ghost use Rattle.std.specs.Bool.{OnTrue};
 ghost use Rattle.trac_forms.specs.Text.{Text};
@@ -13,7 +13,7 @@ ghost use Rattle.trac_core.specs.Digits.{signed};
 ghost use Rattle.trac_core.specs.Part.{first_characters, characters, next_characters};
 ghost use Rattle.trac_core.specs.Part.{previous_characters, next_segment, initial_part};
 ghost use Rattle.trac_core.specs.Part.{characters_between, part_between};
-ghost use Rattle.trac_core.specs.Calls.{AreArguments, texts, Makes, Performs};
+ghost use Rattle.trac_core.specs.Calls.{AreArguments, Performs};
 ghost use Rattle.trac_core.specs.Taking.{TakesPart, IsFirstOr, TakesOrDefault};
 ghost use Rattle.trac_forms.specs.Search.{character_at, gap_at};
 
