@@ -4,6 +4,7 @@ pub mod Parentheses
 pub mod Quoting
 pub mod Stores
 pub mod Rules
+pub mod Fitting
 pub mod Suffixes
 pub mod OctalDigits
 pub mod Reached

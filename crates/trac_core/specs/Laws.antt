@@ -7,6 +7,8 @@ use Rattle.trac_core.specs.declared.machine.Fate.TheVariants.{InputEnded, Worksp
 use Rattle.trac_core.specs.Protected.{IsBalanced, IsProtected, protected}
 use Rattle.trac_core.specs.State.{State, Input, first}
 use Rattle.trac_core.specs.Step.{step, Next}
+use Rattle.trac_core.specs.Rule.{Rule, rule}
+use Rattle.trac_core.specs.Fitting.{Fits}
 use Rattle.trac_core.specs.Run.{Run, run}
 
 -- the second text begins with the first
@@ -96,3 +98,7 @@ KeepsForms =
     IsStore before.memory.forms →
     step before ≡ Next after →
     IsStore after.memory.forms
+
+-- the rule of a step is the one that fits, and no other does
+abbrev pub RuleFits : Type 0
+RuleFits = (text : Text) (r : Rule) → (rule text ≡ r) ↔ Fits text r

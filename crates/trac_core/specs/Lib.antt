@@ -21,6 +21,7 @@ pub mod View
 pub mod Attempts
 pub mod Taking
 pub mod Together
+pub mod Fitting
 pub mod Laws
 pub mod BitResults
 pub mod Display
