@@ -6,7 +6,7 @@ use Rattle.trac_space.specs.declared.cell.Mode.TheVariants.{Active, Neutral}
 use Rattle.trac_forms.specs.Text.{Text}
 use Rattle.trac_core.specs.Protected.{IsProtected, protected}
 use Rattle.trac_core.specs.Rule.{Rule, LoadIdling, DeleteLayout, AddProtected, ClearActive, BeginArgument, BeginCall, EndCall, AddCharacter, parenthesis_rule, rule}
-use Rattle.trac_core.specs.Fitting.{IsLayout, IsOrdinary, Begins, IsAdded, IsUnmatched, Fits}
+use Rattle.trac_core.specs.Fitting.{Begins, IsAdded, Fits}
 use Rattle.trac_core.proofs.Parentheses.{found_protected, none_protected}
 use Rattle.trac_core.proofs.Rules.{rule_tab, rule_line_feed, rule_return, rule_comma, rule_end, rule_active, rule_neutral, rule_sign_last, rule_two_signs_last, rule_sign, rule_two_signs, rule_protected, rule_other}
 

@@ -5,6 +5,7 @@ pub mod Quoting
 pub mod Stores
 pub mod Rules
 pub mod Fitting
+pub mod Stepping
 pub mod Suffixes
 pub mod OctalDigits
 pub mod Reached

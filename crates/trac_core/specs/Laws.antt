@@ -6,9 +6,10 @@ use Rattle.trac_forms.specs.Store.{IsStore}
 use Rattle.trac_core.specs.declared.machine.Fate.TheVariants.{InputEnded, Workspace, Steps}
 use Rattle.trac_core.specs.Protected.{IsBalanced, IsProtected, protected}
 use Rattle.trac_core.specs.State.{State, Input, first}
-use Rattle.trac_core.specs.Step.{step, Next}
+use Rattle.trac_core.specs.Step.{Outcome, step, Next}
 use Rattle.trac_core.specs.Rule.{Rule, rule}
 use Rattle.trac_core.specs.Fitting.{Fits}
+use Rattle.trac_core.specs.Stepping.{Leads}
 use Rattle.trac_core.specs.Run.{Run, run}
 
 -- the second text begins with the first
@@ -102,3 +103,7 @@ KeepsForms =
 -- the rule of a step is the one that fits, and no other does
 abbrev pub RuleFits : Type 0
 RuleFits = (text : Text) (r : Rule) → (rule text ≡ r) ↔ Fits text r
+
+-- a step is what the rule that fits does
+abbrev pub StepFits : Type 0
+StepFits = (before : State) (outcome : Outcome) → (step before ≡ outcome) ↔ Leads before outcome

@@ -22,6 +22,7 @@ pub mod Attempts
 pub mod Taking
 pub mod Together
 pub mod Fitting
+pub mod Stepping
 pub mod Laws
 pub mod BitResults
 pub mod Display
