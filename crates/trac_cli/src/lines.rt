@@ -1,5 +1,6 @@
 //! The lines on standard error, and the exit status. Both are this processor's own choice.
-ghost use Rattle.std.specs.Prelude.{◌≡◌, ◌+◌, ◌≤◌, ◌++◌, List, ℕ, [], length, take, true, decimal};
+ghost use Rattle.std.specs.Prelude.{◌≡◌, ◌+◌, ◌≤◌, ◌++◌, []};
+ghost use Rattle.std.specs.Prelude.{List, ℕ, length, take, true, decimal};
 ghost use Rattle.trac_cli.specs.Lines.{fault_text, is_one_line, memory_text, report_text};
 ghost use Rattle.trac_cli.specs.Lines.{status_of};
 

@@ -1,5 +1,7 @@
 //! The function that displays a form: `pf`.
-ghost use Rattle.std.specs.Prelude.{◌≡◌, ◌≢◌, ℕ, ◌+◌, ◌-◌, ◌<◌, ◌≤◌, ◌^◌, [], ◌∷◌, ◌++◌, drop};
+ghost use Rattle.std.specs.Prelude.{◌≡◌, ◌≢◌, ◌+◌, ◌-◌, ◌<◌, ◌≤◌, ◌^◌, []};
+ghost use Rattle.std.specs.Prelude.{◌∷◌, ◌++◌};
+ghost use Rattle.std.specs.Prelude.{ℕ, drop};
 ghost use Rattle.std.specs.Prelude.{length, Some, slice_range, OnErr, OnOk, codes, decimal};
 ghost use Rattle.trac_forms.specs.Contents.{form_at, body_at, IsTextPart, IsSound};
 ghost use Rattle.trac_core.specs.Devices.{Stream, failures_of, Prints, Sent};

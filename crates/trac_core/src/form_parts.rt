@@ -1,5 +1,6 @@
 //! The functions that take a part of a form: `cs`, `cc`, `cn`, `in`, and `cr`.
-ghost use Rattle.std.specs.Prelude.{◌≡◌, ◌↔◌, ℕ, ◌+◌, ◌-◌, ◌<◌, ◌≤◌, ◌++◌, min, take, drop};
+ghost use Rattle.std.specs.Prelude.{◌≡◌, ◌↔◌, ◌+◌, ◌-◌, ◌<◌, ◌≤◌, ◌++◌};
+ghost use Rattle.std.specs.Prelude.{ℕ, min, take, drop};
 ghost use Rattle.std.specs.Prelude.{reverse, length, Some, None, IsTrue, true, false};
 ghost use Rattle.std.specs.Bool.{OnTrue};
 ghost use Rattle.trac_forms.specs.Text.{Text};

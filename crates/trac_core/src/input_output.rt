@@ -1,6 +1,7 @@
 //! The functions that read, print, change the meta
 //! character and stop: `rs`, `rc`, `ps`, `cm`, `hl`.
-ghost use Rattle.std.specs.Prelude.{◌≡◌, ◌≢◌, ℕ, ◌+◌, ◌-◌, ◌<◌, ◌≤◌, ◌^◌, None, Some, drop, length};
+ghost use Rattle.std.specs.Prelude.{◌≡◌, ◌≢◌, ◌+◌, ◌-◌, ◌<◌, ◌≤◌, ◌^◌};
+ghost use Rattle.std.specs.Prelude.{ℕ, None, Some, drop, length};
 ghost use Rattle.std.specs.Prelude.{All, false, slice_get};
 ghost use Rattle.trac_forms.specs.Text.{Text};
 ghost use Rattle.trac_forms.specs.FlatForms.{text_of_cells};

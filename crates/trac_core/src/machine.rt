@@ -1,5 +1,6 @@
 //! The machine: one step, and a run to the end.
-ghost use Rattle.std.specs.Prelude.{◌≡◌, ◌≢◌, ◌+◌, ◌-◌, ◌^◌, ◌<◌, ◌≤◌, length, false, true, None};
+ghost use Rattle.std.specs.Prelude.{◌≡◌, ◌≢◌, ◌+◌, ◌-◌, ◌^◌, ◌<◌, ◌≤◌};
+ghost use Rattle.std.specs.Prelude.{length, false, true, None};
 ghost use Rattle.std.specs.Prelude.{Some, IsSome};
 ghost use Rattle.trac_forms.specs.Text.{Text};
 ghost use Rattle.trac_core.specs.Devices.{Sent};

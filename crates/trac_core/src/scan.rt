@@ -1,5 +1,6 @@
 //! The scanner: the rules that perform no call.
-ghost use Rattle.std.specs.Prelude.{◌≡◌, ◌≢◌, ℕ, ◌+◌, ◌<◌, ◌≤◌, [], ◌∷◌, length, take, drop};
+ghost use Rattle.std.specs.Prelude.{◌≡◌, ◌≢◌, ◌+◌, ◌<◌, ◌≤◌, [], ◌∷◌};
+ghost use Rattle.std.specs.Prelude.{ℕ, length, take, drop};
 ghost use Rattle.std.specs.Prelude.{slice_get, MatchOption, IsTrue, ◌↔◌, None, Some, true, false};
 ghost use Rattle.std.specs.Prelude.{◌++◌, All};
 ghost use Rattle.trac_forms.specs.FlatForms.{character_of, text_of_cells};

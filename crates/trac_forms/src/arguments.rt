@@ -2,7 +2,8 @@
 //! marks.
 ghost use Rattle.std.specs.Prelude.{◌≡◌, ◌⊎◌, ◌+◌, ◌-◌, ◌<◌, ◌≤◌, length, drop};
 ghost use Rattle.trac_space.specs.Lists.{HasWay};
-ghost use Rattle.trac_forms.specs.Arguments.{before_comma, parts_between, numbered_part, IsHeadAt, IsListed};
+ghost use Rattle.trac_forms.specs.Arguments.{before_comma, parts_between, numbered_part};
+ghost use Rattle.trac_forms.specs.Arguments.{IsHeadAt, IsListed};
 ghost use Rattle.trac_forms.specs.Arguments.{HasList};
 ghost use Rattle.trac_forms.specs.Stored.{head_at};
 

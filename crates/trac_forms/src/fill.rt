@@ -1,5 +1,6 @@
 //! Whole forms, their gaps filled, put at the end of neutral (Mooers 1966).
-ghost use Rattle.std.specs.Prelude.{◌≡◌, ◌+◌, ◌≤◌, ◌<◌, ◌↔◌, ◌++◌, true, false, [], length};
+ghost use Rattle.std.specs.Prelude.{◌≡◌, ◌+◌, ◌≤◌, ◌<◌, ◌↔◌, ◌++◌, []};
+ghost use Rattle.std.specs.Prelude.{true, false, length};
 ghost use Rattle.std.specs.Prelude.{take};
 ghost use Rattle.std.specs.Prelude.{IsTrue, All};
 ghost use Rattle.std.specs.Bool.{OnTrue, OnFalse};
@@ -62,8 +63,8 @@ fn fill_items(space: &mut Space, from: u32, stop: u32, first: u32, end: u32) -> 
         || fill_without_list(space, from, stop, first, end)
 }
 
-// The same where a list of the arguments and the text fit into cells that are in no list. False where
-// they don't.
+// The same where a list of the arguments and the text fit into cells that are in no list. False
+// where they don't.
 #[inline(never)]
 fn fill_beside_list(space: &mut Space, from: u32, stop: u32, first: u32, end: u32) -> bool
     requires order { from ≤ stop }
@@ -117,8 +118,8 @@ fn fill_without_list(space: &mut Space, from: u32, stop: u32, first: u32, end: u
     fill_or_cut(space, from, stop, arguments)
 }
 
-// The same with arguments that are listed or not. False where the text doesn't fit into cells that are
-// in no list.
+// The same with arguments that are listed or not. False where the text doesn't fit into cells that
+// are in no list.
 #[inline(always)]
 fn fill_or_cut(space: &mut Space, from: u32, stop: u32, arguments: Arguments) -> bool
     requires order { from ≤ stop }
@@ -142,9 +143,9 @@ fn fill_or_cut(space: &mut Space, from: u32, stop: u32, arguments: Arguments) ->
     filled
 }
 
-// Puts the items in the store from place `from` up to `stop` at the end of neutral, each gap replaced
-// by the argument of its number. False where they don't fit into cells that are in no list; then some
-// of them may stand there.
+// Puts the items in the store from place `from` up to `stop` at the end of neutral, each gap
+// replaced by the argument of its number. False where they don't fit into cells that are in no
+// list; then some of them may stand there.
 #[inline(always)]
 fn fill_cells(space: &mut Space, from: u32, stop: u32, arguments: Arguments) -> bool
     requires order { from ≤ stop }

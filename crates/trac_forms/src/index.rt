@@ -2,7 +2,8 @@
 //!
 //! Half of it are slots, in which a form's number stands where its name sends the search, or behind
 //! that. The third quarter says where each form begins, the last one which slot it has.
-ghost use Rattle.std.specs.Prelude.{◌≡◌, ◌≢◌, [], ◌<◌, ◌≤◌, ◌^◌, ℕ, ◌+◌, ◌-◌, ◌*◌, length, map};
+ghost use Rattle.std.specs.Prelude.{◌≡◌, ◌≢◌, [], ◌<◌, ◌≤◌, ◌^◌, ◌+◌, ◌-◌, ◌*◌};
+ghost use Rattle.std.specs.Prelude.{ℕ, length, map};
 ghost use Rattle.std.specs.Prelude.{not, take, slice_range, remove, All, MatchOption, IfSome};
 ghost use Rattle.std.specs.Prelude.{Decides};
 ghost use Rattle.std.specs.Bool.{OnTrue, OnFalse};

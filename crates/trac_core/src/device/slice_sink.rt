@@ -1,5 +1,6 @@
 //! A sink over memory.
-ghost use Rattle.std.specs.Prelude.{◌≡◌, ◌+◌, ◌-◌, ◌^◌, ◌<◌, ◌≤◌, [], length, take, unwrap_or};
+ghost use Rattle.std.specs.Prelude.{◌≡◌, ◌+◌, ◌-◌, ◌^◌, ◌<◌, ◌≤◌, []};
+ghost use Rattle.std.specs.Prelude.{length, take, unwrap_or};
 ghost use Rattle.std.specs.Prelude.{is_ok, is_err, ◌&&◌, ◌||◌, OnOk, not, nat_eq, nat_lt, true};
 ghost use Rattle.std.specs.Prelude.{false};
 ghost use Rattle.trac_core.specs.Devices.{failures_of, after_put};

@@ -1,5 +1,6 @@
 //! Bit strings at the end of texts.
-ghost use Rattle.std.specs.Prelude.{◌≡◌, ◌+◌, ◌*◌, ◌%◌, ◌<◌, ◌≤◌, ◌^◌, false, true, length, pos};
+ghost use Rattle.std.specs.Prelude.{◌≡◌, ◌+◌, ◌*◌, ◌%◌, ◌<◌, ◌≤◌, ◌^◌};
+ghost use Rattle.std.specs.Prelude.{false, true, length, pos};
 ghost use Rattle.std.specs.Prelude.{slice_get, slice_index_or, ◌+ℤ◌};
 ghost use Rattle.trac_core.specs.BitString.{bit_at, complement, intersection, is_octal, octal};
 ghost use Rattle.trac_core.specs.BitString.{octal_digit, octal_digits, octal_prefix, rotated};
