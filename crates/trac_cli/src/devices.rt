@@ -112,14 +112,16 @@ impl<W: Write> OutputDevice<W> {
         ensures kind { IfErr result (λ e. self.new.last_failure ≡ Some (error_kind e)) }
         ensures flushed { OnOk result (self.new.is_flushed ≡ true) }
     {
-        let answer = self.writer.flush();
-        match &answer {
-            Ok(()) => self.is_flushed = true,
+        match self.writer.flush() {
+            Ok(()) => {
+                self.is_flushed = true;
+                Ok(())
+            }
             Err(error) => {
                 self.failures = self.failures.saturating_add(1);
                 self.last_failure = Some(error.kind());
+                Err(error)
             }
         }
-        answer
     }
 }

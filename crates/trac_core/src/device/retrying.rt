@@ -84,8 +84,9 @@ fn read_again<R: Read>(reader: &mut R, buf: &mut [u8]) -> io::Result<usize>
 {
     for _ in 0..TRIES {
         match reader.read(buf) {
+            Ok(count) => return Ok(count),
             Err(error) if error.kind() == ErrorKind::Interrupted => {}
-            answer => return answer,
+            Err(error) => return Err(error),
         }
     }
     Err(io::Error::from(ErrorKind::TimedOut))
@@ -98,8 +99,9 @@ fn write_again<W: Write>(writer: &mut W, buf: &[u8]) -> io::Result<usize>
 {
     for _ in 0..TRIES {
         match writer.write(buf) {
+            Ok(count) => return Ok(count),
             Err(error) if error.kind() == ErrorKind::Interrupted => {}
-            answer => return answer,
+            Err(error) => return Err(error),
         }
     }
     Err(io::Error::from(ErrorKind::TimedOut))
@@ -111,8 +113,9 @@ fn flush_again<W: Write>(writer: &mut W) -> io::Result<()>
 {
     for _ in 0..TRIES {
         match writer.flush() {
+            Ok(()) => return Ok(()),
             Err(error) if error.kind() == ErrorKind::Interrupted => {}
-            answer => return answer,
+            Err(error) => return Err(error),
         }
     }
     Err(io::Error::from(ErrorKind::TimedOut))
