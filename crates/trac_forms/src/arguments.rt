@@ -31,28 +31,14 @@ impl Arguments {
             result ≡ numbered_part parts number }
     {
         let place = number.wrapping_sub(1);
-        if place >= self.listed {
-            return self.unlisted_part(space, number);
+        if place < self.listed {
+            let (from, next) = listed_pair(space, self.listed - number);
+            return (from, next - 1);
         }
-        let (from, next) = listed_pair(space, self.listed - number);
-        (from, next - 1)
-    }
-
-    // The same of an argument that is in no list.
-    #[inline(never)]
-    fn unlisted_part(self, space: &Space, number: u32) -> (u32, u32)
-        requires listed { HasList space.now self }
-        requires not_listed { (number ≡ 0) ⊎ (self.listed < number) }
-        requires within { self.end ≤ length space.now.neutral }
-        requires bounded { self.end ≤ 16777216 }
-        ensures { let parts = parts_between space.now.neutral self.from self.end in
-            result ≡ numbered_part parts number }
-    {
         if number > 0 && self.listed == 0 {
-            find_part(space, self.from, self.end, number)
-        } else {
-            (0, 0)
+            return find_part(space, self.from, self.end, number);
         }
+        (0, 0)
     }
 }
 
