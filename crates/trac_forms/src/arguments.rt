@@ -1,6 +1,6 @@
 //! The arguments of a call in neutral, found by a list of where they begin, or by their comma
 //! marks.
-ghost use Rattle.std.specs.Prelude.{◌≡◌, ◌⊎◌, ◌+◌, ◌-◌, ◌<◌, ◌≤◌, length, drop};
+ghost use Rattle.std.specs.Prelude.{◌≡◌, ◌+◌, ◌-◌, ◌<◌, ◌≤◌, length, drop};
 ghost use Rattle.trac_space.specs.Lists.{HasWay};
 ghost use Rattle.trac_forms.specs.Arguments.{before_comma, parts_between, numbered_part};
 ghost use Rattle.trac_forms.specs.Arguments.{IsHeadAt, IsListed};
