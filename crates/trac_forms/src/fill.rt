@@ -1,6 +1,6 @@
 //! Whole forms, their gaps filled, put at the end of neutral (Mooers 1966).
 ghost use Rattle.std.specs.Prelude.{◌≡◌, ◌+◌, ◌≤◌, ◌<◌, ◌↔◌, ◌++◌, []};
-ghost use Rattle.std.specs.Prelude.{true, false, length};
+ghost use Rattle.std.specs.Prelude.{true, false, length, Some};
 ghost use Rattle.std.specs.Prelude.{take};
 ghost use Rattle.std.specs.Prelude.{IsTrue, All};
 ghost use Rattle.std.specs.Bool.{OnTrue, OnFalse};
@@ -9,7 +9,7 @@ ghost use Rattle.trac_forms.specs.Text.{Text};
 ghost use Rattle.trac_forms.specs.FlatForms.{flat_text};
 ghost use Rattle.trac_forms.specs.Contents.{used, IsSound};
 ghost use Rattle.trac_forms.specs.Arguments.{AreParted, HasList, filled_body, filled_cells};
-ghost use Rattle.trac_forms.specs.Gaps.{is_byte_cell, byte_cell_at, gap_ordinal};
+ghost use Rattle.trac_forms.specs.Gaps.{is_byte_cell, byte_cell_at, gap_number, gap_ordinal};
 ghost use Rattle.trac_forms.specs.Index.{IsKept};
 
 use crate::arguments::{Arguments, list_parts};
@@ -204,10 +204,20 @@ fn characters(cells: &[Cell]) -> u32
 // The ordinal of the gap at place `i` of the store, 0 of any other cell.
 #[inline]
 fn ordinal(space: &Space, i: u32) -> u32
+    requires within { i < length space.now.store }
+    requires bounded { length space.now.store ≤ 16777216 }
     ensures { result ≡ gap_ordinal space.now.store i }
 {
-    match space.store_at(i) {
-        Some(Cell::Gap(ordinal)) => ordinal,
+    ordinal_in(space.store_part(i, i + 1)[0])
+}
+
+// The ordinal in a cell that is a gap, 0 of any other cell.
+#[inline]
+fn ordinal_in(cell: Cell) -> u32
+    ensures { result ≡ gap_number (Some cell) }
+{
+    match cell {
+        Cell::Gap(ordinal) => ordinal,
         _ => 0,
     }
 }

@@ -3,7 +3,7 @@ use Rattle.trac_space.specs.Cells.{seen}
 use Rattle.trac_forms.specs.FlatForms.{text_of_cells}
 use Rattle.trac_forms.specs.Store.{NoneNamed}
 use Rattle.trac_forms.specs.Stored.{forms_in, start_of}
-use Rattle.trac_forms.proofs.store.find_some.Given as goal
+use Rattle.trac_forms.proofs.store.search_some.Given as goal
 
 -- the name of the form that is next begins at the place, and no form before it has the name
 abbrev pub invariant-loop-left : goal.invariant-loop-left

@@ -10,7 +10,7 @@ use Rattle.trac_forms.proofs.Finding.{begins_at, number_is, bytes-flat}
 use Rattle.trac_forms.proofs.Heads.{is_head}
 use Rattle.trac_forms.proofs.FlatLemmas.{Byte-character_of, character_of-Byte}
 use Rattle.trac_forms.proofs.Stores.{NoneNamed-further}
-use Rattle.trac_forms.proofs.store.find_some.Goals as goal
+use Rattle.trac_forms.proofs.store.search_some.Goals as goal
 
 pub offset_bounds-store-at : goal.offset_bounds-store-at
 offset_bounds-store-at c =
