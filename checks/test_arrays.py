@@ -1,5 +1,5 @@
-"""The block is all: no body of the engine's crates has an array, but for one byte of a device and
-the buffer of itoa.
+"""The block is all: no body of the engine's crates has an array, but for one byte of a device, the
+buffer of itoa, and the buffers of devices, which only a caller makes.
 
 Constants, tests and arrays of no elements aside; a copy of a constant array is one. A slice, a
 slice pattern and an index are no arrays.
@@ -8,12 +8,18 @@ import os
 import re
 import unittest
 
-from trac import TOP
+from trac import TOP, crates_of
 
-PROGRAM = 'trac_cli'
+# The machine's crate, and those that it stands on.
+ENGINE = crates_of('trac_core')
 # One byte that a device reads or writes, in these files.
-ONE_BYTE = {'trac_core/src/device/read_source.rt': ['[0]'],
-            'trac_core/src/device/write_sink.rt': ['[byte]']}
+ONE_BYTE = {'trac_devices/src/input.rt': ['[0]'],
+            'trac_devices/src/output.rt': ['[byte]'],
+            'trac_devices/src/read_source.rt': ['[0]'],
+            'trac_devices/src/write_sink.rt': ['[byte]']}
+# The buffers that a caller puts in front of a reader or behind a writer. No run makes one.
+BUFFERS = {'trac_devices/src/buffered.rt':
+           ['[u8 ; CAPACITY]', '[0 ; CAPACITY]', '[u8 ; CAPACITY]', '[0 ; CAPACITY]']}
 PRIMITIVE = re.compile(r'(?:[ui](?:8|16|32|64|128|size)|bool|char|str|dyn|mut|as)$')
 TOKEN = re.compile(
     r"""//[^\n]*|/\*.*?\*/|b?r(?P<marks>\#*)".*?"(?P=marks)|b?"(?:\\.|[^"\\])*"
@@ -300,20 +306,6 @@ def arrays(text, others=Constants()):
     return found
 
 
-def engine():
-    """The crates of the repository that the program's crate stands on."""
-    with open(os.path.join(TOP, 'crates.txt'), encoding='utf-8') as lines:
-        rows = [line.split('#')[0].split(':') for line in lines]
-    uses = {row[0].split()[0]: row[1].split() for row in rows if len(row) == 2}
-    found, left = set(), [PROGRAM]
-    while left:
-        for name in uses[left.pop()]:
-            if name in uses and name not in found:
-                found.add(name)
-                left.append(name)
-    return sorted(found)
-
-
 def sources(crate):
     """The files of a crate without those of its tests, by their names from the folder of crates
     on."""
@@ -326,19 +318,21 @@ def sources(crate):
 
 
 class Arrays(unittest.TestCase):
-    def test_the_engine_is_three_crates(self):
-        self.assertEqual(engine(), ['trac_core', 'trac_forms', 'trac_space'])
+    def test_the_crates_of_the_engine(self):
+        self.assertEqual(ENGINE, ['trac_language', 'trac_laws', 'trac_space', 'trac_values',
+                                  'trac_forms', 'trac_devices', 'trac_functions', 'trac_core'])
 
-    def test_bodies_have_no_array_but_one_byte_of_a_device(self):
+    def test_bodies_have_no_array_but_one_byte_of_a_device_and_the_buffers(self):
         texts = {}
-        for crate in engine():
+        for crate in ENGINE:
             for path in sources(crate):
                 with open(os.path.join(TOP, 'crates', path), encoding='utf-8') as source:
                     texts[path] = source.read()
         self.assertGreater(len(texts), 30)
         constant = constants_of(texts.values())
         found = {path: arrays(text, constant) for path, text in texts.items()}
-        self.assertEqual({path: here for path, here in found.items() if here}, ONE_BYTE)
+        self.assertEqual({path: here for path, here in found.items() if here},
+                         ONE_BYTE | BUFFERS)
 
     def test_a_table_of_arguments_is_found(self):
         path = os.path.join(TOP, 'crates', 'trac_forms', 'src', 'fill.rt')

@@ -1,15 +1,16 @@
 """The launcher, over a throw-away copy of the sources and an `rt` that only writes down that it was
 called."""
 import os
+import re
 import shutil
 import subprocess
 import tempfile
 import time
 import unittest
 
-from trac import LAUNCHER, TOP
+from trac import LAUNCHER, TOP, crates_of
 
-CRATES = ['trac_space', 'trac_forms', 'trac_core', 'trac_cli']
+CRATES = crates_of('trac_cli')
 BUILT = os.path.join('crates', 'trac_cli', 'out', 'trac_cli')
 SOURCE = os.path.join('crates', 'trac_core', 'src', 'machine.rt')
 # What a run by a user gets who may write nothing.
@@ -39,7 +40,8 @@ class Launcher(unittest.TestCase):
         for crate in CRATES:
             for part in ('src', 'specs', 'proofs'):
                 place = os.path.join('crates', crate, part)
-                shutil.copytree(os.path.join(TOP, place), os.path.join(self.top, place))
+                if os.path.exists(os.path.join(TOP, place)):
+                    shutil.copytree(os.path.join(TOP, place), os.path.join(self.top, place))
         shutil.copy(os.path.join(TOP, 'crates.txt'), self.top)
         shutil.copy(LAUNCHER, self.top)
         self.answer(RT.format(calls=self.calls, seconds=0))
@@ -77,6 +79,11 @@ class Launcher(unittest.TestCase):
     def date(self, name, seconds):
         when = time.time() + seconds
         os.utime(os.path.join(self.top, name), (when, when))
+
+    def test_it_knows_each_crate(self):
+        with open(LAUNCHER, encoding='utf-8') as launcher:
+            crates = re.search("^crates='([^']*)'", launcher.read(), re.MULTILINE).group(1)
+        self.assertEqual(crates.split(), CRATES)
 
     def test_it_builds_once(self):
         self.run_once(FIRST)

@@ -8,6 +8,20 @@ PROGRAM = os.path.join(TOP, 'crates', 'trac_cli', 'out', 'trac_cli')
 TRACER = os.path.join(TOP, 'crates', 'trac_trace', 'out', 'trac_trace')
 
 
+def crates_of(crate):
+    """A crate of the repository and those that it stands on, in the order of crates.txt."""
+    with open(os.path.join(TOP, 'crates.txt'), encoding='utf-8') as lines:
+        rows = [line.split('#')[0].split(':') for line in lines]
+    uses = {row[0].split()[0]: row[1].split() for row in rows if len(row) == 2}
+    found, left = {crate}, [crate]
+    while left:
+        for name in uses[left.pop()]:
+            if name in uses and name not in found:
+                found.add(name)
+                left.append(name)
+    return [name for name in uses if name in found]
+
+
 def run(script, *words, **more):
     """What the program writes, what it says on standard error, and its status."""
     if isinstance(script, str):

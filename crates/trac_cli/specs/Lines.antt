@@ -1,12 +1,10 @@
 -- The lines that the program writes on standard error, without their line feed.
 use Rattle.std.specs.Prelude.{◌+◌, ◌++◌, ◌==◌, ℕ, Bool, List, Option, Some, None, codes, not}
-use Rattle.std.specs.Prelude.{decimal, false}
+use Rattle.std.specs.Prelude.{decimal}
 use Rattle.std.specs.List.{list_all}
-use Rattle.clap.specs.declared.error.kind.ErrorKind.{ErrorKind}
-use Rattle.clap.specs.declared.error.kind.ErrorKind.TheVariants.{DisplayHelp, OutOfMemory}
-use Rattle.trac_core.specs.declared.machine.Fate.{Fate}
-use Rattle.trac_core.specs.declared.machine.Fate.TheVariants.{Halted, InputEnded, Workspace, Steps}
-use Rattle.trac_core.specs.declared.machine.Fate.TheVariants.{InputFailed, OutputFailed}
+use Rattle.trac_language.specs.declared.fate.Fate.{Fate}
+use Rattle.trac_language.specs.declared.fate.Fate.TheVariants.{Halted, InputEnded, Workspace, Steps}
+use Rattle.trac_language.specs.declared.fate.Fate.TheVariants.{InputFailed, OutputFailed}
 
 abbrev pub is_one_line : List ℕ → Bool
 is_one_line = list_all (λ b. not (b == 10))
@@ -41,15 +39,3 @@ status_of Workspace = 1
 status_of Steps = 3
 status_of InputFailed = 4
 status_of OutputFailed = 5
-
--- the exit status of the program where the words gave this error in place of settings
-abbrev pub refusal_status : ErrorKind → ℕ
-refusal_status DisplayHelp = 0
-refusal_status OutOfMemory = 6
-refusal_status _ = 2
-
--- the same, once the error was shown or could not be: a
--- help that could not be written is an output that failed
-abbrev pub shown_status : ErrorKind → Bool → ℕ
-shown_status DisplayHelp false = 5
-shown_status kind shown = refusal_status kind

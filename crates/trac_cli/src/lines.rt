@@ -1,13 +1,13 @@
 //! The lines on standard error, and the exit status. Both are this processor's own choice.
-ghost use Rattle.std.specs.Prelude.{◌≡◌, ◌+◌, ◌≤◌, ◌++◌, []};
-ghost use Rattle.std.specs.Prelude.{List, ℕ, length, take, true, decimal};
+ghost use Rattle.std.specs.Prelude.{◌≡◌, ◌+◌, ◌≤◌, ◌++◌, [], List, ℕ, length, take, true};
+ghost use Rattle.std.specs.Prelude.{decimal};
 ghost use Rattle.trac_cli.specs.Lines.{fault_text, is_one_line, memory_text, report_text};
 ghost use Rattle.trac_cli.specs.Lines.{status_of};
 
-use crate::settings::Settings;
 use itoa::Buffer;
 use std::marker::Model;
 use trac_core::{Fate, Report};
+use trac_words::Settings;
 
 /// A line of at most 80 bytes, without a line feed.
 #[derive(Drop)]

@@ -2,38 +2,27 @@
 //! command line, the lines on standard error and the exit statuses are this processor's own choice.
 #![tactic(auto)]
 
-ghost use Rattle.std.specs.Prelude.{◌≡◌, Bool};
-ghost use Rattle.clap.specs.Words.{kind_of};
-ghost use Rattle.trac_cli.specs.Lines.{refusal_status, shown_status, status_of};
+ghost use Rattle.std.specs.Prelude.{◌≡◌};
+ghost use Rattle.trac_cli.specs.Lines.{status_of};
 
-mod buffered;
-mod devices;
-mod input;
 mod lines;
-mod output;
 mod serve;
-mod settings;
 mod words;
 
-use clap::error::ErrorKind;
-use input::Input;
 use lines::{Line, fault_line, memory_line, report_line, status};
-use output::Output;
 use serve::{NoMemory, serve};
-use settings::Settings;
 use std::io::Write;
 use std::process::ExitCode;
 use std::rt::Env;
 use std::{env, io};
-use trac_core::Report;
+use trac_core::{Input, Output, Report};
+use trac_words::{Settings, refused, refused_words};
 use words::settings_from;
 
-// The status where the words can't be used.
-const USAGE: u8 = 2;
-// The status where the help can't be written, as for a run whose output failed.
-const OUTPUT_FAILED: u8 = 5;
-// The status where there is no memory for the words or for the block.
+// The status where there is no memory for the block.
 const NO_MEMORY: u8 = 6;
+// The line where there is no memory for the words.
+const NO_MEMORY_LINE: &str = "trac: no memory for the command line";
 
 fn main(rt: HostRuntime) -> ExitCode {
     let settings = match env::args(&rt) {
@@ -41,56 +30,11 @@ fn main(rt: HostRuntime) -> ExitCode {
             Ok(words) => settings_from(rt.alloc(), words),
             Err(error) => Err(clap::Error::from(error)),
         },
-        Err(error) => return ExitCode::from(refused_words(&rt, error.kind())),
+        Err(error) => return ExitCode::from(refused_words(&rt, error.kind(), NO_MEMORY_LINE)),
     };
     match settings {
         Ok(settings) => ExitCode::from(run(&rt, &settings)),
-        Err(error) => ExitCode::from(refused(&rt, &error)),
-    }
-}
-
-// Says why the words could not be read, and gives the status.
-fn refused_words<R: Eprint>(rt: &R, kind: io::ErrorKind) -> u8 {
-    if kind == io::ErrorKind::OutOfMemory {
-        let _ = rt.eprintln("trac: no memory for the command line");
-        return NO_MEMORY;
-    }
-    let _ = rt.eprintln("error: the command line isn't UTF-8");
-    USAGE
-}
-
-// Shows what clap answered in place of settings, and gives
-// the status. That standard error fails is ignored.
-fn refused<R: Print + Eprint>(rt: &R, error: &clap::Error) -> u8
-    ensures { (shown : Bool) × (result ≡ shown_status (kind_of error.now) shown) }
-{
-    let kind = error.kind();
-    if kind == ErrorKind::OutOfMemory {
-        let _ = rt.eprintln("trac: no memory for the command line");
-        return error_status(kind);
-    }
-    status_when_shown(kind, error.print(rt).is_ok())
-}
-
-// The status once an error of the words was shown or could not
-// be: a help that can't be written is an output that failed.
-fn status_when_shown(kind: ErrorKind, is_shown: bool) -> u8
-    ensures { result ≡ shown_status kind is_shown }
-{
-    if kind == ErrorKind::DisplayHelp && !is_shown {
-        return OUTPUT_FAILED;
-    }
-    error_status(kind)
-}
-
-// The status for a kind of error of the words.
-fn error_status(kind: ErrorKind) -> u8
-    ensures { result ≡ refusal_status kind }
-{
-    match kind {
-        ErrorKind::DisplayHelp => 0,
-        ErrorKind::OutOfMemory => NO_MEMORY,
-        _ => USAGE,
+        Err(error) => ExitCode::from(refused(&rt, &error, NO_MEMORY_LINE)),
     }
 }
 

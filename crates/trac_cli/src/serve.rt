@@ -1,15 +1,15 @@
 //! A run in a block of its own.
 ghost use Rattle.std.specs.Prelude.{◌≡◌, ◌≢◌, ◌+◌, ◌-◌, ◌^◌, ◌<◌, ◌≤◌, OnErr, IfOk};
-ghost use Rattle.trac_core.specs.declared.machine.Fate.TheVariants.{OutputFailed};
-ghost use Rattle.trac_core.specs.Devices.{Sent};
+ghost use Rattle.trac_language.specs.declared.fate.Fate.TheVariants.{OutputFailed};
+ghost use Rattle.trac_devices.specs.Devices.{Sent};
 ghost use Rattle.trac_core.specs.Machine.{Reports, course, made, reported_input_failures};
 ghost use Rattle.trac_core.specs.Machine.{reported_output_failures};
 
-use crate::settings::Settings;
 use std::alloc::Global;
 use thiserror::Error;
 use trac_core::{Machine, Report, Sink, Source};
 use trac_space::make_block;
+use trac_words::Settings;
 
 /// There is no memory for the block of cells, so nothing was read and nothing was written.
 #[derive(Debug, Drop, Error)]

@@ -2,22 +2,21 @@
 //! are interrupted, and the command's answers to words that are written out.
 ghost use Rattle.std.specs.Prelude.{◌≡◌, ◌≤◌, length};
 
-use crate::buffered::{BufferedReader, BufferedWriter};
-use crate::input::Input;
 use crate::lines::{fault_line, memory_line, report_line, status};
-use crate::output::Output;
 use crate::serve::{NoMemory, serve};
-use crate::settings::Settings;
 use crate::words::settings_from;
-use crate::{error_status, status_when_shown};
 use clap::error::ErrorKind;
 use std::alloc::Global;
 use std::io;
 use std::io::{Read, Write};
 use std::process::Abort;
 use std::test::Fail;
-use trac_core::{Cell, Fate, Next, Report, Sink, SliceSink, SliceSource, Source, Work};
+use trac_core::{
+    BufferedReader, BufferedWriter, Cell, Fate, Input, Next, Output, Report, Sink, SliceSink,
+    SliceSource, Source, Work,
+};
 use trac_space::make_block;
+use trac_words::Settings;
 
 const HELLO: &str = "#(ps,hello)'";
 
@@ -254,69 +253,35 @@ fn refusals_of_words(rt: HostRuntime) -> Result<(), Fail> {
         (
             ["trac", "--cells", "0"].as_slice(),
             ErrorKind::ValueValidation,
-            2,
         ),
         (
             ["trac", "--cells", "16777217"].as_slice(),
             ErrorKind::ValueValidation,
-            2,
         ),
         (
             ["trac", "--steps", "0"].as_slice(),
             ErrorKind::ValueValidation,
-            2,
         ),
         (
             ["trac", "--steps", "x"].as_slice(),
             ErrorKind::ValueValidation,
-            2,
         ),
-        (["trac", "--steps"].as_slice(), ErrorKind::InvalidValue, 2),
-        (["trac", "extra"].as_slice(), ErrorKind::UnknownArgument, 2),
+        (["trac", "--steps"].as_slice(), ErrorKind::InvalidValue),
+        (["trac", "extra"].as_slice(), ErrorKind::UnknownArgument),
         (
             ["trac", "--report", "--report"].as_slice(),
             ErrorKind::ArgumentConflict,
-            2,
         ),
-        (["trac", "--help"].as_slice(), ErrorKind::DisplayHelp, 0),
-        (["trac", "-h"].as_slice(), ErrorKind::DisplayHelp, 0),
+        (["trac", "--help"].as_slice(), ErrorKind::DisplayHelp),
+        (["trac", "-h"].as_slice(), ErrorKind::DisplayHelp),
     ];
-    for (texts, kind, code) in rows {
+    for (texts, kind) in rows {
         let error = settings_from(alloc, words(alloc, texts)?)
             .err()
             .ok_or("an error")?;
         assert_eq!(rt; error.kind(), kind);
-        assert_eq!(rt; error_status(error.kind()), code);
     }
     Ok(())
-}
-
-#[test]
-fn the_status_without_memory(rt: HostRuntime) {
-    assert_eq!(rt; error_status(ErrorKind::OutOfMemory), 6);
-    assert_eq!(rt; status_when_shown(ErrorKind::OutOfMemory, false), 6);
-}
-
-#[test]
-fn the_status_of_a_help_that_is_not_written(rt: HostRuntime) {
-    for (kind, shown, unshown) in [
-        (ErrorKind::DisplayHelp, 0, 5),
-        (ErrorKind::UnknownArgument, 2, 2),
-    ] {
-        assert_eq!(rt; status_when_shown(kind, true), shown);
-        assert_eq!(rt; status_when_shown(kind, false), unshown);
-    }
-}
-
-#[test]
-fn settings_in_range(rt: HostRuntime) {
-    let none = [(0, 1), (16_777_217, 1), (1, 0), (1, 1_000_000_000_001)];
-    for (cells, steps) in none {
-        assert_eq!(rt; Settings::new(cells, steps, false), None);
-    }
-    for (cells, steps) in [(1, 1), (16_777_216, 1_000_000_000_000)] {
-        assert!(rt; Settings::new(cells, steps, true).is_some());
-    }
 }
 
 #[test]

@@ -1,24 +1,24 @@
 -- The display of a form.
 use Rattle.std.proofs.Common.{◌≡◌, ◌≢◌, ℕ, ◌+◌, ◌-◌, ◌<◌, ◌≤◌, false, List, [], ◌∷◌, ◌++◌, length, take, drop, slice_range, Option, Some, None, refl, sym, ap, ◌∙◌, subst, arith, append_assoc, append-nil}
-use Rattle.std.specs.Prelude.{Result, Ok, Err, IsErr, OnErr, codes, decimal}
+use Rattle.std.specs.Prelude.{Result, Ok, Err, OnErr, codes, decimal}
 use Rattle.std.proofs.Math.Seq.{take-add, drop-cons}
 use Rattle.std.proofs.lemmas.List.{take-append-drop, drop-drop, take_rest, length-append}
-use Rattle.trac_forms.specs.declared.item.Item.{Item}
-use Rattle.trac_forms.specs.declared.item.Item.TheVariants.{Byte, Gap}
-use Rattle.trac_forms.specs.Text.{Text}
-use Rattle.trac_forms.specs.Form.{Form, before_pointer, after_pointer}
+use Rattle.trac_language.specs.declared.item.Item.{Item}
+use Rattle.trac_language.specs.declared.item.Item.TheVariants.{Byte, Gap}
+use Rattle.trac_language.specs.declared.function.Function.TheVariants.{PrintForm}
+use Rattle.trac_language.specs.declared.fate.Fate.TheVariants.{OutputFailed}
+use Rattle.trac_language.specs.Text.{Text}
+use Rattle.trac_language.specs.Form.{Form, before_pointer, after_pointer}
+use Rattle.trac_language.specs.Store.{form_named}
+use Rattle.trac_language.specs.State.{argument}
+use Rattle.trac_language.specs.Meaning.{World, on_form, printing, show, show_form, meaning_of, value_length}
 use Rattle.trac_forms.specs.Search.{item_at}
-use Rattle.trac_forms.specs.Store.{form_named}
 use Rattle.trac_forms.specs.Contents.{Contents, used}
-use Rattle.trac_core.specs.declared.function.Function.TheVariants.{PrintForm}
-use Rattle.trac_core.specs.declared.machine.Fate.TheVariants.{OutputFailed}
-use Rattle.trac_core.specs.State.{argument}
-use Rattle.trac_core.specs.Meaning.{World, on_form, printing, show, show_form, meaning_of, value_length}
-use Rattle.trac_core.specs.Flat.{mode_at, arguments_at}
-use Rattle.trac_core.specs.Calls.{world}
+use Rattle.trac_devices.specs.Devices.{Stream, Breaks, Prints}
+use Rattle.trac_functions.specs.Flat.{mode_at, arguments_at}
+use Rattle.trac_functions.specs.Calls.{world}
 use Rattle.trac_core.specs.Machine.{ending}
 use Rattle.trac_core.specs.Attempts.{scene, TriedCall, IsCall}
-use Rattle.trac_core.specs.Devices.{Stream, Breaks, Prints}
 use Rattle.trac_core.specs.Display.{display}
 use Rattle.trac_core.proofs.Performing.{closed, delivered-null, tried-answer, tried-broken}
 
@@ -39,11 +39,6 @@ breaks-then old mid new a b first p =
 pub prints-then : {A E : Type 0} (r : Result A E) (old mid new a b : Text) → mid ≡ old ++ a → Prints r mid b new → Prints r old (a ++ b) new
 prints-then (Ok x) old mid new a b first p = p ∙ ap (λ t. t ++ b) first ∙ append_assoc old a b
 prints-then (Err e) old mid new a b first p = breaks-then old mid new a b first p
-
--- a text that was broken off
-pub prints-err : {A E : Type 0} (r : Result A E) (old new a : Text) → IsErr r → Breaks old a new → Prints r old a new
-prints-err (Ok x) old new a wrong p = absurd cc
-prints-err (Err e) old new a err p = p
 
 -- and more that was to follow
 pub breaks-off : (old new a b : Text) → Breaks old a new → Breaks old (a ++ b) new

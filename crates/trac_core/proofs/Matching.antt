@@ -1,13 +1,12 @@
 -- The search for the right parenthesis that matches, character by character.
-use Rattle.std.proofs.Common.{◌≡◌, ◌≢◌, ℕ, ◌+◌, ◌-◌, ◌<◌, ◌≤◌, true, false, ◌&&◌, [], ◌∷◌, ◌++◌, length, take, drop, Some, None, get_or, refl, sym, ap, ◌∙◌, arith}
+use Rattle.std.proofs.Common.{◌≡◌, ◌≢◌, ℕ, ◌+◌, ◌-◌, ◌<◌, ◌≤◌, true, false, ◌&&◌, [], ◌∷◌, ◌++◌, length, take, drop, Some, None, get_or, refl, sym, ap, ◌∙◌, arith, eq-eqb}
 use Rattle.std.specs.Prelude.{◌==◌}
-use Rattle.std.proofs.Common.{eq-eqb}
 use Rattle.std.proofs.lemmas.Bool.{ne_eqb}
 use Rattle.std.proofs.lemmas.List.{drop_more, take_more}
 use Rattle.std.proofs.Math.ListN.{drop_of_length-le}
-use Rattle.trac_forms.specs.Text.{Text}
-use Rattle.trac_core.specs.Protected.{count, split_at_match, protected}
-use Rattle.trac_core.proofs.Parentheses.{weight, count_push, matches, split_found, split_passed, split_none}
+use Rattle.trac_language.specs.Text.{Text}
+use Rattle.trac_language.specs.Protected.{count, split_at_match, protected}
+use Rattle.trac_laws.proofs.Parentheses.{weight, count_push, matches, split_found, split_passed, split_none}
 
 -- the search has passed i characters, and so many left parentheses are open
 pub record IsAt (text : Text) (i depth : ℕ) : Type 0 where

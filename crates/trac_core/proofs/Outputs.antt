@@ -1,13 +1,13 @@
 -- A run prints the same after anything that was printed before it.
 use Rattle.std.proofs.Common.{◌≡◌, ℕ, zero, suc, List, [], ◌∷◌, ◌++◌, Bool, true, false, refl, sym, ap, ◌∙◌, append_assoc, append-nil}
-use Rattle.trac_forms.specs.Text.{Text}
-use Rattle.trac_space.specs.declared.cell.Mode.{Mode}
-use Rattle.trac_core.specs.State.{OpenCall, Input, State, empty, first}
-use Rattle.trac_core.specs.Meaning.{Meaning, Gives, Ends}
-use Rattle.trac_core.specs.Rule.{Rule, LoadIdling, DeleteLayout, AddProtected, ClearActive, BeginArgument, BeginCall, EndCall, AddCharacter, rule}
-use Rattle.trac_core.specs.Step.{Outcome, Next, Over, deliver, perform, end_call, with_active, follow, end_need, need_by, step, need}
-use Rattle.trac_core.specs.Run.{Run, within, go_on, one_more, run}
 use Rattle.std.specs.Prelude.{nat_lt}
+use Rattle.trac_language.specs.declared.mode.Mode.{Mode}
+use Rattle.trac_language.specs.Text.{Text}
+use Rattle.trac_language.specs.State.{OpenCall, Input, State, empty, first}
+use Rattle.trac_language.specs.Meaning.{Meaning, Gives, Ends}
+use Rattle.trac_language.specs.Rule.{Rule, LoadIdling, DeleteLayout, AddProtected, ClearActive, BeginArgument, BeginCall, EndCall, AddCharacter, rule}
+use Rattle.trac_language.specs.Step.{Outcome, Next, Over, deliver, perform, end_call, with_active, follow, end_need, need_by, step, need}
+use Rattle.trac_language.specs.Run.{Run, within, go_on, one_more, run}
 use Rattle.trac_core.specs.Machine.{state_with}
 
 module _ (before : Text) where

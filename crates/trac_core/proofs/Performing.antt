@@ -5,34 +5,36 @@ use Rattle.std.proofs.lemmas.Option.{unwrap_or-slice_get}
 use Rattle.std.specs.List.{list_any}
 use Rattle.std.proofs.lemmas.List.{length-map, length-drop, get_or_append_left}
 use Rattle.std.proofs.Math.Seq.{drop-append_seam, take-append_seam, take-length}
+use Rattle.trac_language.specs.declared.mode.Mode.{Mode}
+use Rattle.trac_language.specs.declared.mode.Mode.TheVariants.{Active, Neutral as NeutralMode}
+use Rattle.trac_language.specs.declared.function.Function.{Function}
+use Rattle.trac_language.specs.declared.function.Function.TheVariants.{ReadString, ReadCharacter, ChangeMeta, PrintString, PrintForm, Halt}
+use Rattle.trac_language.specs.declared.fate.Fate.{Fate}
+use Rattle.trac_language.specs.declared.fate.Fate.TheVariants.{Halted, InputEnded, Workspace, Steps, InputFailed, OutputFailed}
+use Rattle.trac_language.specs.Text.{Text}
+use Rattle.trac_language.specs.Form.{Form}
+use Rattle.trac_language.specs.Function.{function_named}
+use Rattle.trac_language.specs.State.{Input, State, arguments, argument, size}
+use Rattle.trac_language.specs.Meaning.{Answer, Gives, Ends, meaning_of, meaning, built}
+use Rattle.trac_language.specs.Rule.{EndCall, rule}
+use Rattle.trac_language.specs.Step.{Next, function_of, deliver, perform, end_call, follow, end_need, need_by, step, need}
+use Rattle.trac_laws.specs.LastRead.{is_read_string, reads_last, end_reads_last, reads_last_by, reads_to_end}
+use Rattle.trac_laws.proofs.Rules.{rule_end}
 use Rattle.trac_space.specs.declared.cell.Cell.{Cell}
 use Rattle.trac_space.specs.declared.cell.Cell.TheVariants.{Byte, Call, Comma, Gap, Head}
-use Rattle.trac_space.specs.declared.cell.Mode.{Mode}
-use Rattle.trac_space.specs.declared.cell.Mode.TheVariants.{Active, Neutral as NeutralMode}
-use Rattle.trac_forms.specs.Text.{Text}
-use Rattle.trac_forms.specs.Form.{Form}
-use Rattle.trac_forms.specs.FlatForms.{flat_text, text_of_cells, character_of}
+use Rattle.trac_space.specs.Texts.{flat_text, text_of_cells, character_of, IsByte}
 use Rattle.trac_space.specs.Calls.{IsLastCall}
-use Rattle.trac_forms.specs.Contents.{Contents, used, IsByte, IsSound}
-use Rattle.trac_core.specs.declared.function.Function.{Function}
-use Rattle.trac_core.specs.declared.function.Function.TheVariants.{ReadString, ReadCharacter, ChangeMeta, PrintString, PrintForm, Halt}
-use Rattle.trac_core.specs.declared.machine.Fate.{Fate}
-use Rattle.trac_core.specs.declared.machine.Fate.TheVariants.{Halted, InputEnded, Workspace, Steps, InputFailed, OutputFailed}
-use Rattle.trac_core.specs.Devices.{Stream}
-use Rattle.trac_core.specs.Function.{function_named, is_plain, is_read_string}
-use Rattle.trac_core.specs.State.{Input, State, arguments, argument, size}
-use Rattle.trac_core.specs.Meaning.{Answer, Gives, Ends, meaning_of, meaning, built}
-use Rattle.trac_core.specs.Rule.{EndCall, rule}
-use Rattle.trac_core.specs.Step.{Next, function_of, deliver, perform, end_call, follow, end_need, need_by, step, need, reads_last, end_reads_last, reads_last_by, reads_to_end}
-use Rattle.trac_core.specs.Performed.{performed_by, performs}
-use Rattle.trac_core.specs.Flat.{texts_of, Neutral, no_neutral, neutral_of, memory_with, memory_of, mode_of, mode_at, is_active_mode, arguments_at}
-use Rattle.trac_core.specs.declared.arguments.Made.TheVariants.{Full}
-use Rattle.trac_core.specs.Calls.{texts_from, world, IsValue, IsDefined, Makes}
+use Rattle.trac_space.proofs.Texts.{text_of_cells-append}
+use Rattle.trac_forms.specs.Contents.{Contents, used, IsSound}
+use Rattle.trac_devices.specs.Devices.{Stream}
+use Rattle.trac_functions.specs.declared.arguments.Made.TheVariants.{Full}
+use Rattle.trac_functions.specs.Flat.{texts_of, Neutral, no_neutral, neutral_of, memory_with, memory_of, mode_of, mode_at, is_active_mode, arguments_at}
+use Rattle.trac_functions.specs.Calls.{texts_from, world, IsValue, IsDefined, Makes}
+use Rattle.trac_functions.proofs.FlatLemmas.{with_cells-append, with_cells-text, text_of-flat, neutral_of-innermost, call_at, opened, texts_of-some, grown-mode, arguments-call_at, size-used}
+use Rattle.trac_functions.proofs.ArgumentLemmas.{bytes-flat}
+use Rattle.trac_core.specs.Performed.{is_plain, performed_by, performs}
 use Rattle.trac_core.specs.Machine.{MachineState, moment, ending, failing, state_with, state_of, failing_state_of, EndsRun}
-use Rattle.trac_core.specs.Attempts.{scene, Tried, TriedCall, Performs, Scanned, function_at, delivered}
-use Rattle.trac_core.proofs.FlatLemmas.{with_cells-append, with_cells-text, text_of-flat, text_of_cells-append, neutral_of-innermost, call_at, opened, texts_of-some, grown-mode, arguments-call_at, size-used}
-use Rattle.trac_core.proofs.Rules.{rule_end}
-use Rattle.trac_core.proofs.ArgumentLemmas.{bytes-flat}
+use Rattle.trac_core.specs.Attempts.{scene, Tried, TriedCall, ClosesCall, Scanned, function_at, delivered}
 
 -- the contents without the innermost call
 abbrev pub closed : Contents → ℕ → Contents
@@ -51,7 +53,7 @@ memory-delivered mode forced value place meta w = go mode forced
 
 -- ---- the step that performs the call
 
-module _ (old w : Contents) (place : ℕ) (p : Performs old w place) (f : Option Function) (names : function_named (argument (arguments_at w.neutral place) 0) ≡ f) where
+module _ (old w : Contents) (place : ℕ) (p : ClosesCall old w place) (f : Option Function) (names : function_named (argument (arguments_at w.neutral place) 0) ≡ f) where
   pub step-performs : (meta : ℕ) (input : Input) (output : Text) → step (state_with (memory_of meta old) input output) ≡ perform (mode_at w.neutral place) (meaning f (arguments_at w.neutral place) (world w.forms meta input)) (state_with (memory_of meta (closed w place)) input output)
   unfolding step
   step-performs meta input output =
@@ -111,7 +113,7 @@ pub record Answered (w new : Contents) (place : ℕ) (f : Option Function) (meta
   pub stays_ended : source.ended ≡ true → source'.ended ≡ true
   pub read_all : reads_last f (world w.forms meta (ending source.bytes)) ≡ true → source'.ended ≡ true
 
-room-performs : (old w : Contents) (place : ℕ) → Performs old w place → old.room ≡ w.room
+room-performs : (old w : Contents) (place : ℕ) → ClosesCall old w place → old.room ≡ w.room
 room-performs old w place p = ap (λ (w : Contents). w.room) p.same
 
 pub tried-answer : (w new : Contents) (place : ℕ) (f : Option Function) (meta meta' : ℕ) (source source' : Stream) (written put : Text) (needed : ℕ) (value : Text) (forced : Bool) (forms : List Form) → function_named (argument (arguments_at w.neutral place) 0) ≡ f → Answered w new place f meta meta' source source' put needed value forced forms → TriedCall place (scene w meta source written) None needed (scene new meta' source' (written ++ put))
@@ -151,7 +153,7 @@ tried-full w new place f meta source source' written needed names full = λ old 
     }
 
 -- the call is an end of the language that counts as a step
-pub tried-end : (fate : Fate) (w new : Contents) (place : ℕ) (f : Option Function) (meta : ℕ) (source source' : Stream) (written : Text) (needed : ℕ) → function_named (argument (arguments_at w.neutral place) 0) ≡ f → meaning f (arguments_at w.neutral place) (world w.forms meta (ending source.bytes)) ≡ Ends fate → needed ≡ used w + built f (arguments_at w.neutral place) (world w.forms meta (ending source.bytes)) → needed ≤ w.room → source'.bytes ≡ source.bytes → (old : Contents) → Performs old w place → (m : MachineState) → m.room ≡ old.room → m.memory ≡ memory_of meta old → m.steps < m.allowance → (new' : MachineState) → new'.steps ≡ m.steps + 1 → new'.peak ≡ max m.peak needed → EndsRun fate (moment m source written) (moment new' source' written)
+pub tried-end : (fate : Fate) (w new : Contents) (place : ℕ) (f : Option Function) (meta : ℕ) (source source' : Stream) (written : Text) (needed : ℕ) → function_named (argument (arguments_at w.neutral place) 0) ≡ f → meaning f (arguments_at w.neutral place) (world w.forms meta (ending source.bytes)) ≡ Ends fate → needed ≡ used w + built f (arguments_at w.neutral place) (world w.forms meta (ending source.bytes)) → needed ≤ w.room → source'.bytes ≡ source.bytes → (old : Contents) → ClosesCall old w place → (m : MachineState) → m.room ≡ old.room → m.memory ≡ memory_of meta old → m.steps < m.allowance → (new' : MachineState) → new'.steps ≡ m.steps + 1 → new'.peak ≡ max m.peak needed → EndsRun fate (moment m source written) (moment new' source' written)
 tried-end fate w new place f meta source source' written needed names means needs fits left old p m room_is memory_is allowed new' steps_is peak_is =
     let input = ending source.bytes in
     let s = state_with (memory_of meta old) input written in
@@ -372,7 +374,7 @@ first-byte [] c h e = absurd cc
 first-byte (cell ∷ cells) c h e = let same : character_of cell ≡ c = cc in ap (λ x. x ∷ cells) (byte-first cell c (h 0 (Byte 0) (omega arith)) same)
 
 -- a right parenthesis that begins the active string performs the innermost call
-pub performs-closed : (old w : Contents) (place : ℕ) → IsSound old → slice_get (text_of_cells old.active) 0 ≡ Some 41 → IsLastCall old.neutral place → w ≡ record old { active = drop 1 old.active } → Performs old w place
+pub performs-closed : (old w : Contents) (place : ℕ) → IsSound old → slice_get (text_of_cells old.active) 0 ≡ Some 41 → IsLastCall old.neutral place → w ≡ record old { active = drop 1 old.active } → ClosesCall old w place
 performs-closed old w place sound first last w_is =
     record {
       same = ap (λ a. record old { active = a }) (first-byte old.active 41 sound.active first) ∙ sym (ap (λ (w : Contents). record w { active = Byte 41 ∷ w.active }) w_is);
@@ -380,7 +382,7 @@ performs-closed old w place sound first last w_is =
     }
 
 -- the function of the call is that which the step performs
-pub function-performs : (old w : Contents) (place meta : ℕ) → Performs old w place → performs (memory_of meta old) ≡ function_at w.neutral place
+pub function-performs : (old w : Contents) (place meta : ℕ) → ClosesCall old w place → performs (memory_of meta old) ≡ function_at w.neutral place
 function-performs old w place meta p = performs-call old w place p (function_at w.neutral place) refl meta
 
 -- all arguments of the innermost call

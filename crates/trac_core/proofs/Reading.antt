@@ -1,26 +1,25 @@
 -- The calls that read.
-use Rattle.std.proofs.Common.{◌≡◌, ℕ, ◌+◌, ◌<◌, ◌≤◌, Bool, true, false, not, ◌||◌, List, [], ◌∷◌, ◌++◌, length, take, drop, Some, None, refl, sym, ap, ◌∙◌, subst, arith, append_assoc, length-append, All, ⊎_elim}
+use Rattle.std.proofs.Common.{◌≡◌, ℕ, ◌+◌, ◌<◌, ◌≤◌, Bool, true, false, not, ◌||◌, List, [], ◌∷◌, ◌++◌, length, take, drop, Some, None, refl, sym, ap, ◌∙◌, subst, arith, append_assoc, length-append, All, ⊎_elim, eq-eqb}
 use Rattle.std.specs.Prelude.{◌==◌}
 use Rattle.std.specs.List.{before_first, position_or_len, list_any}
-use Rattle.std.proofs.Common.{eq-eqb}
 use Rattle.std.proofs.lemmas.List.{length-map}
 use Rattle.std.proofs.lemmas.Bool.{cases_lt}
 use Rattle.std.proofs.Math.Seq.{drop-append_seam}
+use Rattle.trac_language.specs.declared.function.Function.TheVariants.{ReadString, ReadCharacter}
+use Rattle.trac_language.specs.declared.fate.Fate.TheVariants.{InputEnded, Workspace, InputFailed}
+use Rattle.trac_language.specs.Text.{Text}
+use Rattle.trac_language.specs.Meaning.{World, meaning_of, built, before_meta, from_meta, read_string, read_all, valued, with_input}
 use Rattle.trac_space.specs.declared.cell.Cell.TheVariants.{Byte}
-use Rattle.trac_forms.specs.Text.{Text}
-use Rattle.trac_forms.specs.FlatForms.{flat_text, text_of_cells}
-use Rattle.trac_forms.specs.Contents.{Contents, used, IsByte, IsSound}
-use Rattle.trac_core.specs.declared.function.Function.TheVariants.{ReadString, ReadCharacter}
-use Rattle.trac_core.specs.declared.machine.Fate.TheVariants.{InputEnded, Workspace, InputFailed}
-use Rattle.trac_core.specs.Devices.{Stream, has_byte}
-use Rattle.trac_core.specs.Meaning.{World, meaning_of, built, before_meta, from_meta, read_string, read_all, valued, with_input}
-use Rattle.trac_core.specs.Transfer.{Reads}
-use Rattle.trac_core.specs.Flat.{mode_at, arguments_at}
-use Rattle.trac_core.specs.Calls.{world}
+use Rattle.trac_space.specs.Texts.{flat_text, text_of_cells, IsByte}
+use Rattle.trac_forms.specs.Contents.{Contents, used, IsSound}
+use Rattle.trac_devices.specs.Devices.{Stream, has_byte}
+use Rattle.trac_devices.specs.HeldBytes.{Reads}
+use Rattle.trac_functions.specs.Flat.{mode_at, arguments_at}
+use Rattle.trac_functions.specs.Calls.{world}
+use Rattle.trac_functions.proofs.ArgumentLemmas.{bytes-flat}
 use Rattle.trac_core.specs.Machine.{ending, failing}
 use Rattle.trac_core.specs.Attempts.{scene, TriedCall, IsCall, delivered, TakesFrom}
-use Rattle.trac_core.proofs.ArgumentLemmas.{bytes-flat}
-use Rattle.trac_core.proofs.MetaLemmas.{position-past, before-none, from-none, before-at, from-at, length-before, any-at}
+use Rattle.trac_core.proofs.MetaCharacters.{position-past, before-none, from-none, before-at, from-at, length-before, any-at}
 use Rattle.trac_core.proofs.Performing.{tried-quiet, tried-full, tried-end, tried-failed, delivered-value}
 
 -- the cells that are used after a text was read

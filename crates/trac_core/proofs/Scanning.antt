@@ -5,27 +5,28 @@ use Rattle.std.proofs.lemmas.Bool.{cases_eq}
 use Rattle.std.proofs.lemmas.List.{drop-map, take-map, length-drop, drop-drop}
 use Rattle.std.proofs.lemmas.List.Elements.{All-take, All-drop}
 use Rattle.std.proofs.Math.Seq.{take-length}
+use Rattle.trac_language.specs.declared.mode.Mode.{Mode}
+use Rattle.trac_language.specs.declared.mode.Mode.TheVariants.{Active, Neutral as NeutralMode}
+use Rattle.trac_language.specs.Text.{Text}
+use Rattle.trac_language.specs.Form.{Form}
+use Rattle.trac_language.specs.Store.{cells}
+use Rattle.trac_language.specs.Protected.{protected}
+use Rattle.trac_language.specs.State.{Input, OpenCall, add, begin_argument, begin_call}
+use Rattle.trac_language.specs.Rule.{Rule, LoadIdling, DeleteLayout, AddProtected, ClearActive, BeginArgument, BeginCall, EndCall, AddCharacter, parenthesis_rule, is_layout, rule}
+use Rattle.trac_language.specs.Step.{Next, idling, end_call, with_active, follow, end_need, need_by, step, need, world_of}
+use Rattle.trac_laws.specs.LastRead.{end_reads_last, reads_last_by}
+use Rattle.trac_laws.proofs.Rules.{rule_comma, rule_end, rule_active, rule_neutral, rule_sign_last, rule_two_signs_last, rule_sign, rule_two_signs, rule_other}
 use Rattle.trac_space.specs.declared.cell.Cell.{Cell}
 use Rattle.trac_space.specs.declared.cell.Cell.TheVariants.{Byte, Call, Comma}
-use Rattle.trac_space.specs.declared.cell.Mode.{Mode}
-use Rattle.trac_space.specs.declared.cell.Mode.TheVariants.{Active, Neutral as NeutralMode}
 use Rattle.trac_space.specs.Cells.{NoCall}
 use Rattle.trac_space.specs.Calls.{IsLastCall}
-use Rattle.trac_forms.specs.Text.{Text}
-use Rattle.trac_forms.specs.Form.{Form}
-use Rattle.trac_forms.specs.Store.{cells}
-use Rattle.trac_forms.specs.FlatForms.{flat_text, text_of_cells, character_of}
-use Rattle.trac_forms.specs.Contents.{Contents, used, IsByte, IsSound}
-use Rattle.trac_core.specs.Protected.{protected}
-use Rattle.trac_core.specs.State.{Input, OpenCall, add, begin_argument, begin_call}
-use Rattle.trac_core.specs.Rule.{Rule, LoadIdling, DeleteLayout, AddProtected, ClearActive, BeginArgument, BeginCall, EndCall, AddCharacter, parenthesis_rule, is_layout, rule}
-use Rattle.trac_core.specs.Step.{Next, idling, end_call, with_active, follow, end_need, need_by, step, need, world_of, end_reads_last, reads_last_by}
-use Rattle.trac_core.specs.Flat.{Neutral, with_cell, neutral_of, memory_with, memory_of}
+use Rattle.trac_space.specs.Texts.{flat_text, text_of_cells, character_of, IsByte}
+use Rattle.trac_forms.specs.Contents.{Contents, used, IsSound}
+use Rattle.trac_functions.specs.Flat.{Neutral, with_cell, neutral_of, memory_with, memory_of}
+use Rattle.trac_functions.proofs.FlatLemmas.{with_cells-append, neutral_of-push, neutral_of-innermost, size-used, with_cells-text, calls-none}
+use Rattle.trac_functions.proofs.ArgumentLemmas.{flat-bytes}
 use Rattle.trac_core.specs.Machine.{state_with}
 use Rattle.trac_core.specs.Attempts.{Scans, ClosesNone}
-use Rattle.trac_core.proofs.FlatLemmas.{with_cells-append, neutral_of-push, neutral_of-innermost, size-used, with_cells-text, calls-none}
-use Rattle.trac_core.proofs.ArgumentLemmas.{flat-bytes}
-use Rattle.trac_core.proofs.Rules.{rule_comma, rule_end, rule_active, rule_neutral, rule_sign_last, rule_two_signs_last, rule_sign, rule_two_signs, rule_other}
 
 -- ---- texts
 

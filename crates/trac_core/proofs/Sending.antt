@@ -1,8 +1,8 @@
 -- What was put into a sink was sent on.
 use Rattle.std.proofs.Common.{◌≡◌, ◌≢◌, [], ◌∷◌, ◌++◌, length, refl, sym, ap, ◌∙◌, subst, inl, inr, ⊎_elim, arith}
 use Rattle.std.proofs.lemmas.List.{length-append}
-use Rattle.trac_forms.specs.Text.{Text}
-use Rattle.trac_core.specs.Devices.{Sent}
+use Rattle.trac_language.specs.Text.{Text}
+use Rattle.trac_devices.specs.Devices.{Sent}
 
 module _ {S : Type 0} (tells flushed : S → Type 0) (written : S → Text) where
   -- a text was put and then flushed, unless it is null

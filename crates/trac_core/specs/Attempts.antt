@@ -1,24 +1,25 @@
 -- What a try of one step over the contents of a workspace says of each machine that holds them.
-use Rattle.std.specs.Prelude.{◌≡◌, ℕ, ◌+◌, ◌<◌, ◌≤◌, Bool, true, false, List, ◌∷◌, ◌++◌, length}
-use Rattle.std.specs.Prelude.{◌≢◌, drop, take, Option, Some, None, slice_get}
+use Rattle.std.specs.Prelude.{◌≡◌, ℕ, ◌+◌, ◌<◌, ◌≤◌, Bool, true, false, List, ◌∷◌, ◌++◌}
+use Rattle.std.specs.Prelude.{length, ◌≢◌, drop, take, Option, Some, None, slice_get}
+use Rattle.trac_language.specs.declared.mode.Mode.{Mode}
+use Rattle.trac_language.specs.declared.mode.Mode.TheVariants.{Active, Neutral}
+use Rattle.trac_language.specs.declared.function.Function.{Function}
+use Rattle.trac_language.specs.declared.fate.Fate.{Fate}
+use Rattle.trac_language.specs.declared.fate.Fate.TheVariants.{Workspace, Steps, InputFailed}
+use Rattle.trac_language.specs.declared.fate.Fate.TheVariants.{OutputFailed}
+use Rattle.trac_language.specs.Text.{Text}
+use Rattle.trac_language.specs.Function.{function_named}
+use Rattle.trac_language.specs.State.{Input, State, argument}
+use Rattle.trac_language.specs.Step.{Next, step, need}
+use Rattle.trac_laws.specs.LastRead.{reads_to_end}
 use Rattle.trac_space.specs.declared.cell.Cell.{Cell}
 use Rattle.trac_space.specs.declared.cell.Cell.TheVariants.{Byte}
-use Rattle.trac_space.specs.declared.cell.Mode.{Mode}
-use Rattle.trac_space.specs.declared.cell.Mode.TheVariants.{Active, Neutral}
 use Rattle.trac_space.specs.Cells.{NoCall}
 use Rattle.trac_space.specs.Calls.{IsLastCall}
-use Rattle.trac_forms.specs.Text.{Text}
-use Rattle.trac_forms.specs.FlatForms.{flat_text, text_of_cells}
+use Rattle.trac_space.specs.Texts.{flat_text, text_of_cells}
 use Rattle.trac_forms.specs.Contents.{Contents, used, IsSound}
-use Rattle.trac_core.specs.declared.function.Function.{Function}
-use Rattle.trac_core.specs.declared.machine.Fate.{Fate}
-use Rattle.trac_core.specs.declared.machine.Fate.TheVariants.{Workspace, Steps, InputFailed}
-use Rattle.trac_core.specs.declared.machine.Fate.TheVariants.{OutputFailed}
-use Rattle.trac_core.specs.Devices.{Stream}
-use Rattle.trac_core.specs.Function.{function_named}
-use Rattle.trac_core.specs.State.{Input, State, argument}
-use Rattle.trac_core.specs.Step.{Next, step, need, reads_to_end}
-use Rattle.trac_core.specs.Flat.{memory_of, mode_at, arguments_at}
+use Rattle.trac_devices.specs.Devices.{Stream}
+use Rattle.trac_functions.specs.Flat.{memory_of, mode_at, arguments_at}
 use Rattle.trac_core.specs.Machine.{MachineState, moment, state_with, Answers, counted}
 
 -- the contents of a workspace, a meta character, a source and what a sink holds
@@ -71,7 +72,7 @@ ClosesNone w = slice_get (text_of_cells w.active) 0 ≡ Some 41 → NoCall w.neu
 
 -- the innermost call, whose mark stands at the place, is performed by the right parenthesis that
 -- active begins with; w has that parenthesis no more
-pub record Performs (old w : Contents) (place : ℕ) : Type 0 where
+pub record ClosesCall (old w : Contents) (place : ℕ) : Type 0 where
   pub same : old ≡ record w { active = Byte 41 ∷ w.active }
   pub innermost : IsLastCall w.neutral place
 
@@ -84,7 +85,7 @@ pub record IsCall (w : Contents) (place : ℕ) (function : Option Function) : Ty
 -- for each machine that is to perform this call, the answer is right
 abbrev pub TriedCall : ℕ → Scene → Option Fate → ℕ → Scene → Type 0
 TriedCall place w answer needed new =
-    (old : Contents) → Performs old w.contents place →
+    (old : Contents) → ClosesCall old w.contents place →
     Tried (record w { contents = old }) answer needed new
 
 -- the same for whatever meta character, source and sink, which stay as they are

@@ -1,10 +1,10 @@
 -- What contracts say of the display of a form.
 use Rattle.std.specs.Prelude.{ℕ, [], Option, Some, None}
-use Rattle.trac_forms.specs.Text.{Text}
-use Rattle.trac_forms.specs.Form.{Form}
-use Rattle.trac_forms.specs.Store.{form_named}
+use Rattle.trac_language.specs.Text.{Text}
+use Rattle.trac_language.specs.Form.{Form}
+use Rattle.trac_language.specs.Store.{form_named}
+use Rattle.trac_language.specs.Meaning.{show_form}
 use Rattle.trac_forms.specs.Contents.{Contents, part_text}
-use Rattle.trac_core.specs.Meaning.{show_form}
 
 -- the display of a form, if there is one
 abbrev pub display : Option Form → Text

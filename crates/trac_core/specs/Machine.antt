@@ -1,15 +1,16 @@
 -- What contracts see of a machine, what a step of it answers, and what a run of it reports.
-use Rattle.std.specs.Prelude.{◌≡◌, ◌≢◌, ℕ, ◌+◌, ◌<◌, ◌≤◌, max, Bool, true, false, [], ◌++◌, length}
-use Rattle.std.specs.Prelude.{Option, Some, None}
-use Rattle.trac_forms.specs.Text.{Text}
-use Rattle.trac_core.specs.declared.machine.Fate.{Fate}
-use Rattle.trac_core.specs.declared.machine.Fate.TheVariants.{Halted, InputEnded, Workspace, Steps}
-use Rattle.trac_core.specs.declared.machine.Fate.TheVariants.{InputFailed, OutputFailed}
+use Rattle.std.specs.Prelude.{◌≡◌, ◌≢◌, ℕ, ◌+◌, ◌<◌, ◌≤◌, max, Bool, true, false, []}
+use Rattle.std.specs.Prelude.{◌++◌, length, Option, Some, None}
+use Rattle.trac_language.specs.declared.fate.Fate.{Fate}
+use Rattle.trac_language.specs.declared.fate.Fate.TheVariants.{Halted, InputEnded, Workspace, Steps}
+use Rattle.trac_language.specs.declared.fate.Fate.TheVariants.{InputFailed, OutputFailed}
+use Rattle.trac_language.specs.Text.{Text}
+use Rattle.trac_language.specs.State.{Memory, Input, State, empty, first, size}
+use Rattle.trac_language.specs.Step.{Next, Over, step, need}
+use Rattle.trac_language.specs.Run.{Run, run}
+use Rattle.trac_laws.specs.LastRead.{reads_to_end}
+use Rattle.trac_devices.specs.Devices.{Stream}
 use Rattle.trac_core.specs.declared.machine.Report.{Report}
-use Rattle.trac_core.specs.Devices.{Stream}
-use Rattle.trac_core.specs.State.{Memory, Input, State, empty, first, size}
-use Rattle.trac_core.specs.Step.{Next, Over, step, need, reads_to_end}
-use Rattle.trac_core.specs.Run.{Run, run}
 
 -- what a contract sees of a machine
 pub record MachineState : Type 0 where

@@ -1,12 +1,13 @@
 -- The function that the next step performs.
 use Rattle.std.specs.Prelude.{Bool, true, false, List, [], ◌∷◌, Option, Some, None}
-use Rattle.trac_core.specs.declared.function.Function.{Function}
-use Rattle.trac_core.specs.declared.function.Function.TheVariants.{ReadString, ReadCharacter}
-use Rattle.trac_core.specs.declared.function.Function.TheVariants.{PrintString, PrintForm}
-use Rattle.trac_core.specs.State.{OpenCall, Memory}
-use Rattle.trac_core.specs.Rule.{Rule, LoadIdling, DeleteLayout, AddProtected, ClearActive}
-use Rattle.trac_core.specs.Rule.{BeginArgument, BeginCall, EndCall, AddCharacter, rule}
-use Rattle.trac_core.specs.Step.{function_of}
+use Rattle.trac_language.specs.declared.function.Function.{Function}
+use Rattle.trac_language.specs.declared.function.Function.TheVariants.{ReadString, ReadCharacter}
+use Rattle.trac_language.specs.declared.function.Function.TheVariants.{ChangeMeta, Halt}
+use Rattle.trac_language.specs.declared.function.Function.TheVariants.{PrintString, PrintForm}
+use Rattle.trac_language.specs.State.{OpenCall, Memory}
+use Rattle.trac_language.specs.Rule.{Rule, LoadIdling, DeleteLayout, AddProtected, ClearActive}
+use Rattle.trac_language.specs.Rule.{BeginArgument, BeginCall, EndCall, AddCharacter, rule}
+use Rattle.trac_language.specs.Step.{function_of}
 
 -- the function of the innermost of these calls, if the rule performs it
 abbrev pub performed_by : Rule → List OpenCall → Option Function
@@ -37,3 +38,13 @@ prints_output None = false
 prints_output (Some PrintString) = true
 prints_output (Some PrintForm) = true
 prints_output (Some _) = false
+
+-- a function that neither reads nor prints, nor changes the meta character, nor ends the run
+abbrev pub is_plain : Function → Bool
+is_plain ReadString = false
+is_plain ReadCharacter = false
+is_plain ChangeMeta = false
+is_plain PrintString = false
+is_plain PrintForm = false
+is_plain Halt = false
+is_plain _ = true

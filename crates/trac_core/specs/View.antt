@@ -1,16 +1,16 @@
 -- What a machine shows of itself.
 use Rattle.std.specs.Prelude.{◌==◌, if◌then◌else◌}
-use Rattle.trac_space.specs.declared.cell.Mode.TheVariants.{Active, Neutral as NeutralMode}
+use Rattle.trac_language.specs.declared.mode.Mode.TheVariants.{Active, Neutral as NeutralMode}
+use Rattle.trac_language.specs.State.{Memory}
+use Rattle.trac_language.specs.Rule.{Rule, LoadIdling, DeleteLayout, AddProtected, ClearActive}
+use Rattle.trac_language.specs.Rule.{BeginArgument, BeginCall, EndCall, AddCharacter}
+use Rattle.trac_functions.specs.Flat.{Neutral}
 use Rattle.trac_core.specs.declared.machine.view.ScanningRule.{ScanningRule}
 use Rattle.trac_core.specs.declared.machine.view.ScanningRule.TheVariants.{Idling, Layout}
 use Rattle.trac_core.specs.declared.machine.view.ScanningRule.TheVariants.{Protection, Argument}
 use Rattle.trac_core.specs.declared.machine.view.ScanningRule.TheVariants.{ActiveCall, NeutralCall}
 use Rattle.trac_core.specs.declared.machine.view.ScanningRule.TheVariants.{NumberSign, EndOfCall}
 use Rattle.trac_core.specs.declared.machine.view.ScanningRule.TheVariants.{Character}
-use Rattle.trac_core.specs.State.{Memory}
-use Rattle.trac_core.specs.Flat.{Neutral}
-use Rattle.trac_core.specs.Rule.{Rule, LoadIdling, DeleteLayout, AddProtected, ClearActive}
-use Rattle.trac_core.specs.Rule.{BeginArgument, BeginCall, EndCall, AddCharacter}
 
 -- the neutral string of a memory
 abbrev pub neutral_in : Memory → Neutral

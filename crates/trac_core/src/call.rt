@@ -1,30 +1,30 @@
 //! Calls: one is performed when its right parenthesis is scanned.
-ghost use Rattle.std.specs.Prelude.{◌≡◌, ◌≢◌, ◌+◌, ◌-◌, ◌<◌, ◌≤◌, ◌^◌};
-ghost use Rattle.std.specs.Prelude.{length, drop, None};
-ghost use Rattle.std.specs.Prelude.{Some, slice_get, All, true, false, ◌||◌};
+ghost use Rattle.std.specs.Prelude.{◌≡◌, ◌≢◌, ◌+◌, ◌-◌, ◌<◌, ◌≤◌, ◌^◌, length, drop};
+ghost use Rattle.std.specs.Prelude.{None, Some, slice_get, true, false};
+ghost use Rattle.trac_language.specs.Text.{Text};
 ghost use Rattle.trac_space.specs.Calls.{IsLastCall};
-ghost use Rattle.trac_forms.specs.Text.{Text};
-ghost use Rattle.trac_forms.specs.FlatForms.{text_of_cells};
-ghost use Rattle.trac_forms.specs.Contents.{IsByte, IsSound, used};
-ghost use Rattle.trac_core.specs.Devices.{Sent};
-ghost use Rattle.trac_core.specs.Flat.{memory_of, mode_of, mode_at, is_active_mode, arguments_at};
-ghost use Rattle.trac_core.specs.Function.{is_plain};
-ghost use Rattle.trac_core.specs.Performed.{performs, reads_input, prints_output};
-ghost use Rattle.trac_core.specs.Calls.{AreArguments, texts, Performs};
+ghost use Rattle.trac_space.specs.Texts.{text_of_cells, IsByte};
+ghost use Rattle.trac_forms.specs.Contents.{IsSound, used};
+ghost use Rattle.trac_devices.specs.Devices.{Sent};
+ghost use Rattle.trac_functions.specs.Flat.{memory_of, mode_of, mode_at, is_active_mode};
+ghost use Rattle.trac_functions.specs.Flat.{arguments_at};
+ghost use Rattle.trac_functions.specs.Calls.{AreArguments, texts, Performs};
+ghost use Rattle.trac_core.specs.Performed.{is_plain, performs, reads_input, prints_output};
 ghost use Rattle.trac_core.specs.Machine.{input_failures, output_failures};
 ghost use Rattle.trac_core.specs.Attempts.{scene, Tried, TriedCall, IsCall, function_at, delivered};
 ghost use Rattle.trac_core.specs.Attempts.{TakesFrom, TakesAtMost, TriedOnContents, NoneFailed};
 ghost use Rattle.trac_core.specs.Attempts.{value_delivered};
 
-use crate::arguments::{Arguments, Made, text};
-use crate::device::{Sink, Source};
+use crate::delivery::deliver;
 use crate::display::print_form;
-use crate::function::{Function, function_named};
 use crate::input_output::{change_meta, halt, print_string, read_character, read_string};
-use crate::machine::Fate;
 use crate::scan::{Attempt, is_at, scan};
-use crate::{arithmetic, bit_strings, comparing, form_calls, form_parts};
-use trac_forms::{Cell, Mode, Work};
+use trac_devices::{Sink, Source};
+use trac_forms::Work;
+use trac_functions::arguments::{Arguments, Made, text};
+use trac_functions::function::function_named;
+use trac_functions::{arithmetic, bit_strings, comparing, form_calls, form_parts};
+use trac_language::{Fate, Function};
 
 /// One step, by the rule that fits the beginning of the active string.
 pub(crate) fn advance<I: Source, O: Sink>(
@@ -251,44 +251,5 @@ fn value_of(work: &mut Work, function: Function, arguments: Arguments) -> Made
         | Function::PrintForm
         | Function::ChangeMeta
         | Function::Halt => unreachable!(),
-    }
-}
-
-/// The call whose mark stands at the place leaves, and its value, which stands from another place
-/// on, goes before the active string or stays.
-#[inline]
-pub(crate) fn deliver(work: &mut Work, place: u32, from: u32, forced: bool)
-    requires order { place < from }
-    requires within { from ≤ length work.old.neutral }
-    requires value { All IsByte (drop from work.old.neutral) }
-    ensures delivered { work.new ≡ value_delivered place from forced work.old }
-    ensures sound { IsSound work.new }
-{
-    if is_scanned_again(work, place, forced) {
-        work.neutral_to_active(from);
-        work.cut_neutral(place);
-    } else {
-        work.drop_neutral(place, from);
-    }
-}
-
-/// Whether the value of the call whose mark stands at the place goes before the active string.
-fn is_scanned_again(work: &Work, place: u32, forced: bool) -> bool
-    ensures { result ≡ (forced || is_active_mode (mode_at work.now.neutral place)) }
-{
-    match work.neutral_at(place) {
-        Some(mark) => forced || is_active(mark),
-        None => true,
-    }
-}
-
-/// Whether the value of a call with this mark is scanned again.
-fn is_active(mark: Cell) -> bool
-    ensures { result ≡ is_active_mode (mode_of mark) }
-{
-    match mark {
-        Cell::Call(Mode::Active, _) => true,
-        Cell::Call(Mode::Neutral, _) => false,
-        _ => true,
     }
 }

@@ -1,25 +1,23 @@
 //! The function that displays a form: `pf`.
-ghost use Rattle.std.specs.Prelude.{◌≡◌, ◌≢◌, ◌+◌, ◌-◌, ◌<◌, ◌≤◌, ◌^◌, []};
-ghost use Rattle.std.specs.Prelude.{◌∷◌, ◌++◌};
-ghost use Rattle.std.specs.Prelude.{ℕ, drop};
-ghost use Rattle.std.specs.Prelude.{length, Some, slice_range, OnErr, OnOk, codes, decimal};
+ghost use Rattle.std.specs.Prelude.{◌≡◌, ◌≢◌, ◌+◌, ◌-◌, ◌<◌, ◌≤◌, ◌^◌, [], ◌∷◌};
+ghost use Rattle.std.specs.Prelude.{◌++◌, ℕ, drop, length, Some, slice_range, OnErr, OnOk, codes};
+ghost use Rattle.std.specs.Prelude.{decimal};
+ghost use Rattle.trac_language.specs.Meaning.{show, show_form};
 ghost use Rattle.trac_forms.specs.Contents.{form_at, body_at, IsTextPart, IsSound};
-ghost use Rattle.trac_core.specs.Devices.{Stream, failures_of, Prints, Sent};
-ghost use Rattle.trac_core.specs.Flat.{arguments_at};
-ghost use Rattle.trac_core.specs.Calls.{AreArguments, texts};
+ghost use Rattle.trac_devices.specs.Devices.{Stream, failures_of, Prints, Sent};
+ghost use Rattle.trac_functions.specs.Flat.{arguments_at};
+ghost use Rattle.trac_functions.specs.Calls.{AreArguments, texts};
 ghost use Rattle.trac_core.specs.Machine.{output_failures};
 ghost use Rattle.trac_core.specs.Attempts.{scene, TriedCall, IsCall};
-ghost use Rattle.trac_core.specs.Meaning.{show, show_form};
 ghost use Rattle.trac_core.specs.Display.{display_named};
 
-use crate::arguments::Arguments;
-use crate::device::{Sink, SinkFailed};
-use crate::function::Function;
-use crate::machine::Fate;
 use crate::scan::Attempt;
-use crate::transfer::print_bytes;
+use crate::text_io::print_bytes;
 use itoa::Buffer;
-use trac_forms::{FormId, Item, Work};
+use trac_devices::{Sink, SinkFailed};
+use trac_forms::{FormId, Work};
+use trac_functions::arguments::Arguments;
+use trac_language::{Fate, Function, Item};
 
 /// `pf,N`: the form N is displayed, and the sink flushed once: its characters as they are, each gap
 /// as its ordinal in angle brackets, and `<^>` at the pointer. A form that isn't defined prints

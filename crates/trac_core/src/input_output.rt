@@ -1,27 +1,25 @@
 //! The functions that read, print, change the meta
 //! character and stop: `rs`, `rc`, `ps`, `cm`, `hl`.
-ghost use Rattle.std.specs.Prelude.{◌≡◌, ◌≢◌, ◌+◌, ◌-◌, ◌<◌, ◌≤◌, ◌^◌};
-ghost use Rattle.std.specs.Prelude.{ℕ, None, Some, drop, length};
-ghost use Rattle.std.specs.Prelude.{All, false, slice_get};
-ghost use Rattle.trac_forms.specs.Text.{Text};
-ghost use Rattle.trac_forms.specs.FlatForms.{text_of_cells};
-ghost use Rattle.trac_forms.specs.Contents.{IsByte, IsSound, used};
-ghost use Rattle.trac_core.specs.Devices.{Stream, Sent};
-ghost use Rattle.trac_core.specs.Flat.{arguments_at};
-ghost use Rattle.trac_core.specs.Calls.{AreArguments, texts};
+ghost use Rattle.std.specs.Prelude.{◌≡◌, ◌≢◌, ◌+◌, ◌-◌, ◌<◌, ◌≤◌, ◌^◌, ℕ, None};
+ghost use Rattle.std.specs.Prelude.{Some, drop, length, All, false, slice_get};
+ghost use Rattle.trac_language.specs.Text.{Text};
+ghost use Rattle.trac_space.specs.Texts.{text_of_cells, IsByte};
+ghost use Rattle.trac_forms.specs.Contents.{IsSound, used};
+ghost use Rattle.trac_devices.specs.Devices.{Stream, Sent};
+ghost use Rattle.trac_functions.specs.Flat.{arguments_at};
+ghost use Rattle.trac_functions.specs.Calls.{AreArguments, texts};
 ghost use Rattle.trac_core.specs.Machine.{input_failures, output_failures};
 ghost use Rattle.trac_core.specs.Attempts.{scene, TriedCall, IsCall, delivered, TakesFrom};
 ghost use Rattle.trac_core.specs.Attempts.{TriedOnContents, value_delivered};
 
-use crate::arguments::{Arguments, text};
-use crate::call::deliver;
-use crate::device::{Next, Sink, Source};
-use crate::function::Function;
-use crate::machine::Fate;
+use crate::delivery::deliver;
 use crate::scan::Attempt;
-use crate::transfer::{ReadEnd, print_text, read_text};
-use crate::values::text::character_of;
-use trac_forms::{Cell, Work};
+use crate::text_io::{ReadEnd, print_text, read_text};
+use trac_devices::{Next, Sink, Source};
+use trac_forms::Work;
+use trac_functions::arguments::{Arguments, text};
+use trac_language::{Fate, Function};
+use trac_space::{Cell, character_of};
 
 /// `rs`: the input up to the meta character, which is consumed (Mooers 1966).
 /// A last string that no meta character follows is a value too, and the end

@@ -1,30 +1,23 @@
-//! The language: its calls, steps and runs.
+//! The machine: the scanner, the calls that read and print, steps and runs. All that stands below
+//! it and that a caller needs has its name here too.
 #![tactic(auto)]
 
-mod arguments;
-mod arithmetic;
-mod bit_strings;
 mod call;
-mod comparing;
-mod device;
+mod delivery;
 mod display;
-mod form_calls;
-mod form_parts;
-mod function;
 mod input_output;
-pub mod laws;
 mod machine;
 mod scan;
-mod transfer;
-pub mod values;
-mod writing;
+mod text_io;
 
-pub use device::{
-    Next, ReadSource, RetryingReader, RetryingWriter, Sink, SinkFailed, SliceSink, SliceSource,
-    Source, TRIES, WriteSink, write_characters,
+pub use machine::{Machine, Report, ScanningRule};
+pub use trac_devices::{
+    BufferedReader, BufferedWriter, Input, Next, Output, ReadSource, RetryingReader,
+    RetryingWriter, Sink, SinkFailed, SliceSink, SliceSource, Source, TRIES, WriteSink,
+    write_characters,
 };
-pub use machine::{Fate, Machine, Report, ScanningRule};
-pub use trac_forms::{Cell, Work};
-
-#[cfg(test)]
-mod tests;
+pub use trac_forms::Work;
+pub use trac_language::Fate;
+pub use trac_laws as laws;
+pub use trac_space::Cell;
+pub use trac_values as values;

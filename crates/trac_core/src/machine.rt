@@ -1,42 +1,26 @@
 //! The machine: one step, and a run to the end.
-ghost use Rattle.std.specs.Prelude.{◌≡◌, ◌≢◌, ◌+◌, ◌-◌, ◌^◌, ◌<◌, ◌≤◌};
-ghost use Rattle.std.specs.Prelude.{length, false, true, None};
-ghost use Rattle.std.specs.Prelude.{Some, IsSome};
-ghost use Rattle.trac_forms.specs.Text.{Text};
-ghost use Rattle.trac_core.specs.Devices.{Sent};
+ghost use Rattle.std.specs.Prelude.{◌≡◌, ◌≢◌, ◌+◌, ◌-◌, ◌^◌, ◌<◌, ◌≤◌, length, false};
+ghost use Rattle.std.specs.Prelude.{true, None, Some, IsSome};
+ghost use Rattle.trac_language.specs.Text.{Text};
+ghost use Rattle.trac_devices.specs.Devices.{Sent};
 ghost use Rattle.trac_core.specs.Performed.{performs, reads_input, prints_output};
 ghost use Rattle.trac_core.specs.Machine.{made, KeepsLimits, moment, Answers, Takes, StaysOver};
 ghost use Rattle.trac_core.specs.Machine.{input_failures, output_failures, reported_input_failures};
 ghost use Rattle.trac_core.specs.Machine.{reported_output_failures, Reports, course, counted};
 ghost use Rattle.trac_core.specs.Machine.{counts_as_step};
-ghost use Rattle.trac_core.specs.Together.{peak_after, PassesSome};
+ghost use Rattle.trac_core.specs.StepsInRow.{peak_after, PassesSome};
 
 use crate::call::advance;
-use crate::device::{Sink, Source};
 use crate::scan::{Attempt, scan_on};
 use std::marker::Model;
-use trac_forms::{Cell, Work};
+use trac_devices::{Sink, Source};
+use trac_forms::Work;
+use trac_language::Fate;
+use trac_space::Cell;
 
 pub(crate) mod view;
 
 pub use view::ScanningRule;
-
-/// How a run ended. The fates and their numbers are this processor's own choice.
-#[derive(Clone, Copy, Debug, PartialEq, Eq)]
-pub enum Fate {
-    /// A call of `hl` was performed.
-    Halted = 1,
-    /// The input was at its end when a call asked for more.
-    InputEnded = 2,
-    /// A step needed more cells than the room.
-    Workspace = 3,
-    /// The allowance of steps was used up.
-    Steps = 4,
-    /// The source failed.
-    InputFailed = 5,
-    /// The sink failed.
-    OutputFailed = 6,
-}
 
 /// What a run came to.
 #[derive(Clone, Copy, Debug, PartialEq, Eq)]
@@ -65,7 +49,7 @@ pub struct Machine<'a> {
 impl<'a> Model for Machine<'a> {
     ghost use Rattle.std.specs.Prelude.{◌≤◌};
     ghost use Rattle.trac_forms.specs.Contents.{IsSound};
-    ghost use Rattle.trac_core.specs.Flat.{memory_of};
+    ghost use Rattle.trac_functions.specs.Flat.{memory_of};
     ghost use Rattle.trac_core.specs.Machine.{MachineState};
 
     ghost Value = { MachineState };

@@ -1,25 +1,21 @@
 //! The scanner: the rules that perform no call.
-ghost use Rattle.std.specs.Prelude.{◌≡◌, ◌≢◌, ◌+◌, ◌<◌, ◌≤◌, [], ◌∷◌};
-ghost use Rattle.std.specs.Prelude.{ℕ, length, take, drop};
-ghost use Rattle.std.specs.Prelude.{slice_get, MatchOption, IsTrue, ◌↔◌, None, Some, true, false};
-ghost use Rattle.std.specs.Prelude.{◌++◌, All};
-ghost use Rattle.trac_forms.specs.FlatForms.{character_of, text_of_cells};
-ghost use Rattle.trac_forms.specs.Contents.{used, IsByte, IsSound};
-ghost use Rattle.trac_core.specs.Protected.{protected};
-ghost use Rattle.trac_core.specs.Rule.{is_layout};
+ghost use Rattle.std.specs.Prelude.{◌≡◌, ◌≢◌, ◌+◌, ◌<◌, ◌≤◌, [], ◌∷◌, ℕ, length};
+ghost use Rattle.std.specs.Prelude.{take, drop, slice_get, MatchOption, IsTrue, ◌↔◌, None, Some};
+ghost use Rattle.std.specs.Prelude.{true, false, ◌++◌, All};
+ghost use Rattle.trac_language.specs.Protected.{protected};
+ghost use Rattle.trac_language.specs.Rule.{is_layout};
+ghost use Rattle.trac_space.specs.Texts.{character_of, text_of_cells, IsByte};
+ghost use Rattle.trac_forms.specs.Contents.{used, IsSound};
 ghost use Rattle.trac_core.specs.Attempts.{Scans, Scanned, ClosesNone, NoneFailed};
-ghost use Rattle.trac_core.specs.Together.{is_special, IsOrdinary, IsLayout, Advances};
+ghost use Rattle.trac_core.specs.StepsInRow.{is_special, IsOrdinary, IsLayout, Advances};
 
-use crate::machine::Fate;
-use crate::values::text::character_of;
-use trac_forms::{Cell, Mode, Work};
+use trac_forms::Work;
+use trac_language::{Fate, Mode};
+use trac_space::{Cell, byte_in};
 
 /// The idling procedure, which reads and scans a string and
 /// prints what is left of it (Mooers 1966).
 const IDLING: &[u8; 11] = b"#(ps,#(rs))";
-
-/// What an arm reads that is never reached: nothing, so that the compiler makes no test for it.
-const NO_BYTE: [u8; 0] = [];
 
 /// What the try of a step came to, and the cells that it needed.
 #[derive(Clone, Copy, Debug, PartialEq, Eq)]
@@ -224,18 +220,6 @@ fn ordinary_characters(cells: &[Cell]) -> u32
         }
     }
     cells.len() as u32
-}
-
-/// The character of a cell that is one.
-#[inline]
-fn byte_in(cell: &Cell) -> u8
-    requires { IsByte cell.now }
-    ensures { result ≡ character_of cell.now }
-{
-    match cell {
-        Cell::Byte(byte) => *byte,
-        _ => NO_BYTE[0],
-    }
 }
 
 /// Whether a character has a rule of its own. An arm for each makes one test of a bit of them.

@@ -6,16 +6,16 @@ use Rattle.std.proofs.lemmas.Bool.{lt-ltb, le-ltb, ltb-true, ltb-false, lt-leb, 
 use Rattle.std.proofs.lemmas.List.{get_or-take, take-take, length-take-le, length-set}
 use Rattle.std.proofs.lemmas.List.Edits.{length-remove, get_or-remove_below, get_or-remove_above}
 use Rattle.std.proofs.lemmas.List.Sums.{sum_by-cons}
+use Rattle.trac_language.specs.Text.{Text}
+use Rattle.trac_language.specs.Form.{Form}
+use Rattle.trac_language.specs.Store.{form_cells, cells}
 use Rattle.trac_space.specs.declared.cell.Cell.{Cell}
 use Rattle.trac_space.specs.declared.cell.Cell.TheVariants.{Comma, Head}
-use Rattle.trac_forms.specs.Text.{Text}
-use Rattle.trac_forms.specs.Form.{Form}
-use Rattle.trac_forms.specs.Store.{form_cells, cells}
 use Rattle.trac_forms.specs.FlatForms.{flat_forms}
 use Rattle.trac_forms.specs.Contents.{name_at, form_at}
 use Rattle.trac_forms.specs.Stored.{start_of}
 use Rattle.trac_forms.specs.Index.{hash, quarter, slots, cell_at, home_place, is_open, number_of, home_in, start_in, buried, forward, earlier, started, IsReached, IsIndexBut, IsIndex, IsOpenFor, with_entry}
-use Rattle.trac_forms.proofs.Adding.{index-put, index-bury, index-begin, index-as, reached-within, head-same}
+use Rattle.trac_forms.proofs.TableChanges.{index-put, index-bury, index-begin, index-as, reached-within, head-same}
 use Rattle.trac_forms.proofs.FlatLemmas.{length-flat}
 
 pub if-below : {A : Type 0} (i g : ℕ) (a b : A) → i < g → (if nat_lt i g then a else b) ≡ a

@@ -4,18 +4,18 @@ use Rattle.std.specs.Prelude.{bit_and}
 use Rattle.std.proofs.lemmas.Nat.{and_le_r}
 use Rattle.std.proofs.lemmas.Bool.{false≢true, cases_lt}
 use Rattle.std.proofs.lemmas.List.{length-map, length-append, length-set, get_or-map}
+use Rattle.trac_language.specs.Text.{Text}
+use Rattle.trac_language.specs.Form.{Form}
+use Rattle.trac_language.specs.Store.{NoneNamed, without, is_named}
 use Rattle.trac_space.specs.declared.cell.Cell.{Cell}
 use Rattle.trac_space.specs.declared.cell.Cell.TheVariants.{Byte, Head}
 use Rattle.trac_space.specs.Cells.{seen}
 use Rattle.trac_space.specs.Lists.{Lists, used, with_way}
-use Rattle.trac_forms.specs.Text.{Text}
-use Rattle.trac_forms.specs.Form.{Form}
-use Rattle.trac_forms.specs.Store.{NoneNamed, without, is_named}
 use Rattle.trac_forms.specs.FlatForms.{flat_form, flat_forms}
 use Rattle.trac_forms.specs.Contents.{name_at, form_at}
 use Rattle.trac_forms.specs.Stored.{start_of}
 use Rattle.trac_forms.specs.Index.{IsIndexed, IsKept, hash, quarter, slots, slot, start_place, cell_at, is_blank, IsIndex}
-use Rattle.trac_forms.proofs.Adding.{index-as}
+use Rattle.trac_forms.proofs.TableChanges.{index-as}
 
 pub NoneNamed-from : (name : Text) (forms : List Form) → ((k : ℕ) → k < length forms → name_at forms k ≢ name) → NoneNamed name forms
 NoneNamed-from name [] h = tt

@@ -1,14 +1,14 @@
 -- The arguments of a call in neutral: what stands between comma marks.
-use Rattle.std.specs.Prelude.{slice_get, Some}
-use Rattle.std.specs.Prelude.{◌≡◌, ℕ, suc, ◌+◌, ◌-◌, ◌<◌, ◌≤◌, List, [], ◌∷◌, length, drop, map}
-use Rattle.std.specs.Prelude.{slice_range, slice_index_or, nat_le, if◌then◌else◌}
+use Rattle.std.specs.Prelude.{slice_get, Some, ◌≡◌, ℕ, suc, ◌+◌, ◌-◌, ◌<◌, ◌≤◌, List, []}
+use Rattle.std.specs.Prelude.{◌∷◌, length, drop, map, slice_range, slice_index_or, nat_le}
+use Rattle.std.specs.Prelude.{if◌then◌else◌}
+use Rattle.trac_language.specs.Text.{Text}
+use Rattle.trac_language.specs.Form.{fill}
 use Rattle.trac_space.specs.declared.cell.Cell.{Cell}
 use Rattle.trac_space.specs.declared.cell.Cell.TheVariants.{Head}
 use Rattle.trac_space.specs.Cells.{is_comma}
 use Rattle.trac_space.specs.Lists.{Lists}
 use Rattle.trac_forms.specs.declared.arguments.Arguments.{Arguments}
-use Rattle.trac_forms.specs.Text.{Text}
-use Rattle.trac_forms.specs.Form.{fill}
 use Rattle.trac_forms.specs.Contents.{Contents, body_at, pointer_at, AreTextParts, part_texts}
 use Rattle.trac_forms.specs.Stored.{head_at, item_of}
 

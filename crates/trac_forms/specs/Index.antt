@@ -1,11 +1,11 @@
 -- A table of forms in the spare list, by which a form is found from its name.
-use Rattle.std.specs.Prelude.{◌≡◌, ◌≢◌, ℕ, ◌+◌, ◌-◌, ◌*◌, ◌/◌, ◌%◌, ◌^◌, ◌<◌, ◌≤◌, Bool, true}
-use Rattle.std.specs.Prelude.{false, List, [], ◌∷◌, length, take, slice_index_or, set, bit_and}
-use Rattle.std.specs.Prelude.{nat_le, nat_lt, if◌then◌else◌, ◌⊎◌}
+use Rattle.std.specs.Prelude.{◌≡◌, ◌≢◌, ℕ, ◌+◌, ◌-◌, ◌*◌, ◌/◌, ◌%◌, ◌^◌, ◌<◌}
+use Rattle.std.specs.Prelude.{◌≤◌, Bool, true, false, List, [], ◌∷◌, length, take, slice_index_or}
+use Rattle.std.specs.Prelude.{set, bit_and, nat_le, nat_lt, if◌then◌else◌, ◌⊎◌}
+use Rattle.trac_language.specs.Text.{Text}
+use Rattle.trac_language.specs.Form.{Form}
 use Rattle.trac_space.specs.declared.cell.Cell.{Cell}
 use Rattle.trac_space.specs.declared.cell.Cell.TheVariants.{Byte, Call, Comma, Gap, Head}
-use Rattle.trac_forms.specs.Text.{Text}
-use Rattle.trac_forms.specs.Form.{Form}
 use Rattle.trac_forms.specs.Contents.{name_at}
 use Rattle.trac_forms.specs.FlatForms.{flat_forms}
 

@@ -2,9 +2,8 @@
 //! marks.
 ghost use Rattle.std.specs.Prelude.{◌≡◌, ◌+◌, ◌-◌, ◌<◌, ◌≤◌, length, drop};
 ghost use Rattle.trac_space.specs.Lists.{HasWay};
-ghost use Rattle.trac_forms.specs.Arguments.{before_comma, parts_between, numbered_part};
-ghost use Rattle.trac_forms.specs.Arguments.{IsHeadAt, IsListed};
-ghost use Rattle.trac_forms.specs.Arguments.{HasList};
+ghost use Rattle.trac_forms.specs.Arguments.{before_comma, parts_between, numbered_part, IsHeadAt};
+ghost use Rattle.trac_forms.specs.Arguments.{IsListed, HasList};
 ghost use Rattle.trac_forms.specs.Stored.{head_at};
 
 use crate::store::number_in_head;

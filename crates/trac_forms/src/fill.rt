@@ -1,12 +1,10 @@
 //! Whole forms, their gaps filled, put at the end of neutral (Mooers 1966).
-ghost use Rattle.std.specs.Prelude.{◌≡◌, ◌+◌, ◌≤◌, ◌<◌, ◌↔◌, ◌++◌, []};
-ghost use Rattle.std.specs.Prelude.{true, false, length, Some};
-ghost use Rattle.std.specs.Prelude.{take};
-ghost use Rattle.std.specs.Prelude.{IsTrue, All};
+ghost use Rattle.std.specs.Prelude.{◌≡◌, ◌+◌, ◌≤◌, ◌<◌, ◌↔◌, ◌++◌, [], true, false};
+ghost use Rattle.std.specs.Prelude.{length, take, IsTrue, All, Some};
 ghost use Rattle.std.specs.Bool.{OnTrue, OnFalse};
+ghost use Rattle.trac_language.specs.Text.{Text};
 ghost use Rattle.trac_space.specs.Lists.{used as cells_used, HasWay};
-ghost use Rattle.trac_forms.specs.Text.{Text};
-ghost use Rattle.trac_forms.specs.FlatForms.{flat_text};
+ghost use Rattle.trac_space.specs.Texts.{flat_text};
 ghost use Rattle.trac_forms.specs.Contents.{used, IsSound};
 ghost use Rattle.trac_forms.specs.Arguments.{AreParted, HasList, filled_body, filled_cells};
 ghost use Rattle.trac_forms.specs.Gaps.{is_byte_cell, byte_cell_at, gap_number, gap_ordinal};

@@ -3,16 +3,16 @@
 //! Half of it are slots, in which a form's number stands where its name sends the search, or behind
 //! that. The third quarter says where each form begins, the last one which slot it has.
 ghost use Rattle.std.specs.Prelude.{◌≡◌, ◌≢◌, [], ◌<◌, ◌≤◌, ◌^◌, ◌+◌, ◌-◌, ◌*◌};
-ghost use Rattle.std.specs.Prelude.{ℕ, length, map};
-ghost use Rattle.std.specs.Prelude.{not, take, slice_range, remove, All, MatchOption, IfSome};
-ghost use Rattle.std.specs.Prelude.{Decides};
+ghost use Rattle.std.specs.Prelude.{ℕ, length, map, not, take, slice_range, remove, All};
+ghost use Rattle.std.specs.Prelude.{MatchOption, IfSome, Decides};
 ghost use Rattle.std.specs.Bool.{OnTrue, OnFalse};
+ghost use Rattle.trac_language.specs.Text.{Text};
+ghost use Rattle.trac_language.specs.Store.{NoneNamed};
 ghost use Rattle.trac_space.specs.Cells.{seen};
 ghost use Rattle.trac_space.specs.Lists as lists;
-ghost use Rattle.trac_forms.specs.Text.{Text};
-ghost use Rattle.trac_forms.specs.Store.{NoneNamed};
-ghost use Rattle.trac_forms.specs.FlatForms.{flat_forms, text_of_cells, character_of};
-ghost use Rattle.trac_forms.specs.Contents.{IsByte, IsSound, name_at};
+ghost use Rattle.trac_space.specs.Texts.{text_of_cells, character_of, IsByte};
+ghost use Rattle.trac_forms.specs.FlatForms.{flat_forms};
+ghost use Rattle.trac_forms.specs.Contents.{IsSound, name_at};
 ghost use Rattle.trac_forms.specs.Stored.{forms_in, start_of, IsFoundAt};
 ghost use Rattle.trac_forms.specs.Index.{hash, quarter, slots, IsIndex, IsIndexBut, IsIndexed};
 ghost use Rattle.trac_forms.specs.Index.{IsOpenFor, is_open, with_entry, start_in, home_in, buried};

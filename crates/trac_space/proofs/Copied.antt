@@ -4,7 +4,7 @@ use Rattle.std.proofs.Math.Seq.{take-add}
 use Rattle.std.proofs.lemmas.List.{drop-drop, drop-take, length-drop}
 use Rattle.std.proofs.lemmas.List.Edits.{take-paste}
 use lib.Seq.{paste}
-use Rattle.trac_space.proofs.Parts.{take-paste_below, drop-paste_above, drop-paste_at}
+use Rattle.trac_space.proofs.BlockChanges.{take-paste_below, drop-paste_above, drop-paste_at}
 
 module _ {X : Type 0} (was now : List X) (start to : ℕ) where
   -- to a place before: the first k cells are there, and n more follow

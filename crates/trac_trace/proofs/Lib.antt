@@ -1,5 +1,2 @@
 pub mod Texts
 pub mod Failures
-pub mod OptionReads
-pub mod TraceReads
-pub mod DefaultRows

@@ -1,6 +1,5 @@
 -- The texts of more cells, and of more bytes.
-use Rattle.std.proofs.Common.{◌≡◌, ◌∙◌, ◌<◌, ℕ, List, [], ◌∷◌, ◌++◌, length, take, ◌+◌, ap, refl, sym, append_assoc, append-nil, get_or}
-use Rattle.std.proofs.Common.{Result, Ok, Err}
+use Rattle.std.proofs.Common.{◌≡◌, ◌∙◌, ◌<◌, ℕ, List, [], ◌∷◌, ◌++◌, length, take, ◌+◌, ap, refl, sym, append_assoc, append-nil, get_or, Result, Ok, Err}
 use Rattle.std.specs.Result.{OnOk}
 use Rattle.std.proofs.lemmas.List.{take_more}
 use Rattle.trac_space.specs.declared.cell.Cell.{Cell}

@@ -1,14 +1,12 @@
 -- The lines of a trace.
-use Rattle.std.specs.Prelude.{◌++◌, ◌==◌, ◌/◌, ◌%◌, ◌||◌, ℕ, List, [], ◌∷◌, codes, decimal, drop}
-use Rattle.std.specs.Prelude.{length, min, nat_lt, get_or, if◌then◌else◌, Bool, true, false}
-use Rattle.clap.specs.declared.error.kind.ErrorKind.{ErrorKind}
-use Rattle.clap.specs.declared.error.kind.ErrorKind.TheVariants.{DisplayHelp, OutOfMemory}
+use Rattle.std.specs.Prelude.{◌++◌, ◌==◌, ◌/◌, ◌%◌, ◌||◌, ℕ, List, [], ◌∷◌, codes, decimal}
+use Rattle.std.specs.Prelude.{drop, length, min, nat_lt, get_or, if◌then◌else◌}
+use Rattle.trac_language.specs.declared.mode.Mode.TheVariants.{Active, Neutral}
+use Rattle.trac_language.specs.declared.fate.Fate.{Fate}
+use Rattle.trac_language.specs.declared.fate.Fate.TheVariants.{Halted, InputEnded, Workspace, Steps}
+use Rattle.trac_language.specs.declared.fate.Fate.TheVariants.{InputFailed, OutputFailed}
 use Rattle.trac_space.specs.declared.cell.Cell.{Cell}
 use Rattle.trac_space.specs.declared.cell.Cell.TheVariants.{Byte, Call, Comma, Gap, Head}
-use Rattle.trac_space.specs.declared.cell.Mode.TheVariants.{Active, Neutral}
-use Rattle.trac_core.specs.declared.machine.Fate.{Fate}
-use Rattle.trac_core.specs.declared.machine.Fate.TheVariants.{Halted, InputEnded, Workspace, Steps}
-use Rattle.trac_core.specs.declared.machine.Fate.TheVariants.{InputFailed, OutputFailed}
 use Rattle.trac_core.specs.declared.machine.view.ScanningRule.{ScanningRule}
 use Rattle.trac_core.specs.declared.machine.view.ScanningRule.TheVariants as row
 
@@ -104,11 +102,3 @@ status_of Workspace = 1
 status_of Steps = 3
 status_of InputFailed = 4
 status_of OutputFailed = 6
-
--- the exit status where the words gave this error in place
--- of settings, and it was shown or could not be
-abbrev pub shown_status : ErrorKind → Bool → ℕ
-shown_status DisplayHelp true = 0
-shown_status DisplayHelp false = 5
-shown_status OutOfMemory shown = 6
-shown_status _ shown = 2

@@ -1,6 +1,5 @@
 //! What no clause says: what the words give, and a trace over devices in memory.
 use crate::printed::Printed;
-use crate::settings::Settings;
 use crate::trace::{TraceError, trace};
 use crate::words::settings_from;
 use clap::error::ErrorKind;
@@ -8,6 +7,7 @@ use std::alloc::Global;
 use std::process::Abort;
 use std::test::Fail;
 use trac_core::{Fate, Sink, SliceSource};
+use trac_words::Settings;
 
 fn words(alloc: Global, texts: &[&str]) -> Result<Vec<String>, Fail> {
     let mut words = Vec::new(alloc);
@@ -96,15 +96,8 @@ fn what_was_printed(rt: HostRuntime) -> Result<(), Fail> {
 fn a_whole_trace(rt: HostRuntime) -> Result<(), Fail> {
     let mut source = SliceSource::new(b"#(hl)'", None);
     let mut shown = Vec::new(rt.alloc());
-    let fate = trace(
-        rt.alloc(),
-        &Settings {
-            cells: 20,
-            steps: 5,
-        },
-        &mut source,
-        &mut shown,
-    );
+    let settings = Settings::new(20, 5, false).ok_or("settings")?;
+    let fate = trace(rt.alloc(), &settings, &mut source, &mut shown);
     assert!(rt; matches!(fate, Ok(Fate::Steps)));
     let lines = b"  step  rule           size  need  neutral string|active string
      1  idling            0    11  |#(ps,#(rs))
@@ -119,30 +112,16 @@ allowance used up: 5 steps, peak 11 cells
 }
 
 #[test]
-fn devices_that_fail(rt: HostRuntime) {
+fn devices_that_fail(rt: HostRuntime) -> Result<(), Fail> {
+    let settings = Settings::new(20, 50, false).ok_or("settings")?;
     let mut source = SliceSource::new(b"", Some(0));
     let mut shown = Vec::new(rt.alloc());
-    let fate = trace(
-        rt.alloc(),
-        &Settings {
-            cells: 20,
-            steps: 50,
-        },
-        &mut source,
-        &mut shown,
-    );
+    let fate = trace(rt.alloc(), &settings, &mut source, &mut shown);
     assert!(rt; matches!(fate, Ok(Fate::InputFailed)));
     let mut room = [0; 100];
     let mut source = SliceSource::new(b"", None);
     let mut output: &mut [u8] = &mut room;
-    let fate = trace(
-        rt.alloc(),
-        &Settings {
-            cells: 20,
-            steps: 50,
-        },
-        &mut source,
-        &mut output,
-    );
+    let fate = trace(rt.alloc(), &settings, &mut source, &mut output);
     assert!(rt; matches!(fate, Err(TraceError::NotWritten)));
+    Ok(())
 }

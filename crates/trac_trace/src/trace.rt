@@ -5,12 +5,12 @@ ghost use Rattle.trac_trace.specs.Lines.{output_text};
 
 use crate::lines::{HEAD, Step, push_end, push_printed, push_step};
 use crate::printed::Printed;
-use crate::settings::Settings;
 use std::alloc::{AllocError, Global};
 use std::io::Write;
 use thiserror::Error;
 use trac_core::{Fate, Machine, Report, Source};
 use trac_space::make_block;
+use trac_words::Settings;
 
 /// Why a trace broke off.
 #[derive(Debug, Drop, Error)]

@@ -1,14 +1,13 @@
-//! The program's words, read by clap.
+//! The program's words.
 ghost use Rattle.std.specs.Prelude.{◌≡◌, IfOk, IfErr, map, string_bytes, true, false};
-ghost use Rattle.clap.specs.Words.{FailsBy, app_of, fault_of, kind_of, matches_of, rule_of, takes};
-ghost use Rattle.trac_trace.specs.CommandLine.{AreValuesOf, HasDefaults, number_option};
+ghost use Rattle.clap.specs.Words.{FailsBy, fault_of, kind_of, matches_of, takes};
+ghost use Rattle.trac_words.specs.CommandLine.{AreValuesOf, HasDefaults};
 ghost use Rattle.trac_trace.specs.CommandLine.{trace_command};
 
-use crate::settings::{MOST_CELLS, MOST_STEPS, Settings};
-use clap::builder::ValueParser;
+use clap::Error;
 use clap::error::ErrorKind;
-use clap::{Arg, ArgAction, Command, Error, value_parser};
-use std::alloc::{AllocError, Global};
+use std::alloc::Global;
+use trac_words::Settings;
 
 /// Reads the settings from the program's words, its name first: `trac_trace [--cells
 /// N] [--steps N]`, with 65536 cells and 1000 steps where the words don't say. The
@@ -16,50 +15,13 @@ use std::alloc::{AllocError, Global};
 /// help, or for want of memory. The command is this processor's own choice.
 pub fn settings_from(alloc: Global, words: Vec<String>) -> Result<Settings, Error>
     ensures taken { let texts = map string_bytes words.items in
-        IfOk result (AreValuesOf (matches_of trace_command texts)) }
-    ensures defaults { IfOk result (HasDefaults (map string_bytes words.items)) }
+        IfOk result (AreValuesOf false (matches_of trace_command texts)) }
+    ensures defaults { let texts = map string_bytes words.items in
+        IfOk result (HasDefaults trace_command 1000 texts) }
     ensures passes { let texts = map string_bytes words.items in
         IfErr result (λ e. takes trace_command texts ≡ true → kind_of e ≡ ErrorKind.OutOfMemory) }
     ensures kinds { FailsBy (fault_of trace_command (map string_bytes words.items)) result }
 {
-    let matches = command(alloc)?.try_get_matches_from(words.as_slice())?;
-    let cells = matches.get_one::<u32>("cells").unwrap();
-    let steps = matches.get_one::<u64>("steps").unwrap();
-    Ok(Settings { cells, steps })
-}
-
-// The command `trac_trace [--cells N] [--steps N]`.
-fn command<'a>(alloc: Global) -> Result<Command<'a>, AllocError>
-    ensures { IfOk result (λ c. app_of c ≡ trace_command) }
-{
-    let cells = number(
-        alloc,
-        "cells",
-        value_parser!(u32).range(1..=MOST_CELLS as i64),
-        "65536",
-    );
-    let steps = number(
-        alloc,
-        "steps",
-        value_parser!(u64).range(1..=MOST_STEPS as i64),
-        "1000",
-    );
-    Command::new(alloc, "trac_trace")
-        .bin_name("trac_trace")?
-        .about("Shows each step of a TRAC T-64 script from standard input")
-        .arg(cells.help("Cells of the workspace"))?
-        .arg(steps.help("Steps that the script may take"))
-}
-
-// The option `--name N`.
-fn number<'a>(alloc: Global, name: &'a str, numbers: ValueParser<'a>, default: &'a str) -> Arg<'a>
-    ensures rule { rule_of result ≡ number_option name.entry.now numbers.entry default.entry.now }
-    ensures own { result.global ≡ false }
-{
-    Arg::new(alloc, name)
-        .long(name)
-        .value_name("N")
-        .action(ArgAction::Set)
-        .value_parser(numbers)
-        .default_value(default)
+    let about = "Shows each step of a TRAC T-64 script from standard input";
+    trac_words::settings_from(alloc, "trac_trace", about, "1000", false, words)
 }

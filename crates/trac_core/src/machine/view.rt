@@ -1,9 +1,9 @@
 //! What a caller who drives a machine step by step may look at.
 ghost use Rattle.std.specs.Prelude.{◌≡◌, slice_get, Some};
-ghost use Rattle.trac_forms.specs.FlatForms.{text_of_cells};
-ghost use Rattle.trac_core.specs.State.{size};
-ghost use Rattle.trac_core.specs.Flat.{neutral_of};
-ghost use Rattle.trac_core.specs.Rule.{rule};
+ghost use Rattle.trac_language.specs.State.{size};
+ghost use Rattle.trac_language.specs.Rule.{rule};
+ghost use Rattle.trac_space.specs.Texts.{text_of_cells};
+ghost use Rattle.trac_functions.specs.Flat.{neutral_of};
 ghost use Rattle.trac_core.specs.View.{neutral_in, row_of};
 
 use super::Machine;

@@ -1,7 +1,7 @@
 use Rattle.std.proofs.Common.{◌+◌, true, false, ap, arith}
-use Rattle.trac_core.specs.State.{argument}
-use Rattle.trac_core.specs.Flat.{arguments_at}
-use Rattle.trac_core.specs.Calls.{texts}
+use Rattle.trac_language.specs.State.{argument}
+use Rattle.trac_functions.specs.Flat.{arguments_at}
+use Rattle.trac_functions.specs.Calls.{texts}
 use Rattle.trac_core.proofs.Performing.{tried-value, tried-defined, tried-too-much, value-within, value-bytes, defined-within}
 use Rattle.trac_core.proofs.call.evaluate.Goals as goal
 

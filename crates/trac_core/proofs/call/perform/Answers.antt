@@ -1,7 +1,7 @@
 use Rattle.std.proofs.Common.{◌+◌, drop, sym, ap, ◌∙◌}
-use Rattle.trac_core.specs.State.{argument}
-use Rattle.trac_core.specs.Function.{function_named}
-use Rattle.trac_core.specs.Calls.{texts_from}
+use Rattle.trac_language.specs.State.{argument}
+use Rattle.trac_language.specs.Function.{function_named}
+use Rattle.trac_functions.specs.Calls.{texts_from}
 use Rattle.trac_core.proofs.Performing.{texts-all, plain-rest}
 use Rattle.trac_core.proofs.call.perform.Goals as goal
 

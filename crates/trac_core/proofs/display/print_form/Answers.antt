@@ -1,8 +1,8 @@
 use Rattle.std.proofs.Common.{sym, ap, ◌∙◌}
-use Rattle.trac_forms.specs.Store.{form_named}
+use Rattle.trac_language.specs.Store.{form_named}
 use Rattle.trac_forms.specs.Contents.{Contents, part_text}
-use Rattle.trac_core.specs.Flat.{arguments_at}
-use Rattle.trac_core.specs.Calls.{texts}
+use Rattle.trac_functions.specs.Flat.{arguments_at}
+use Rattle.trac_functions.specs.Calls.{texts}
 use Rattle.trac_core.specs.Display.{display}
 use Rattle.trac_core.proofs.Performing.{closed}
 use Rattle.trac_core.proofs.Printing.{argument-one}

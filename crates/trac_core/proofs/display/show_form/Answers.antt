@@ -1,8 +1,9 @@
 use Rattle.std.proofs.Common.{◌++◌, ◌∙◌, slice_range, length, refl}
 use Rattle.std.specs.Prelude.{codes}
+use Rattle.trac_language.specs.Meaning.{show}
 use Rattle.trac_forms.specs.Contents.{form_at}
-use Rattle.trac_core.specs.Meaning.{show}
-use Rattle.trac_core.proofs.Displaying.{breaks-off, breaks-then, prints-err, prints-then, prints-nothing, display-parts}
+use Rattle.trac_devices.proofs.PutCells.{prints-err}
+use Rattle.trac_core.proofs.Displaying.{breaks-off, breaks-then, prints-then, prints-nothing, display-parts}
 use Rattle.trac_core.proofs.display.show_form.Goals as goal
 
 pub returns-in_err-show_items-clause-prints : goal.returns-in_err-show_items-clause-prints

@@ -1,6 +1,7 @@
 use Rattle.std.proofs.Common.{arith}
 use Rattle.trac_forms.specs.Contents.{body_at}
-use Rattle.trac_core.proofs.Displaying.{displays-more, displays-broken, prints-err}
+use Rattle.trac_devices.proofs.PutCells.{prints-err}
+use Rattle.trac_core.proofs.Displaying.{displays-more, displays-broken}
 use Rattle.trac_core.proofs.display.show_items.Goals as goal
 
 pub returns-in_err-show_item-clause-prints : goal.returns-in_err-show_item-clause-prints

@@ -1,6 +1,6 @@
 use Rattle.std.proofs.Common.{◌≡◌, ◌≤◌, ◌++◌, slice_range}
+use Rattle.trac_language.specs.Meaning.{show}
 use Rattle.trac_forms.specs.Contents.{body_at}
-use Rattle.trac_core.specs.Meaning.{show}
 use Rattle.trac_core.proofs.display.show_items.Given as goal
 
 -- the items up to a place were displayed

@@ -1,6 +1,6 @@
 use Rattle.std.proofs.Common.{ap, sym, ◌∙◌, slice_get}
-use Rattle.trac_core.specs.Flat.{arguments_at}
-use Rattle.trac_core.specs.Calls.{texts}
+use Rattle.trac_functions.specs.Flat.{arguments_at}
+use Rattle.trac_functions.specs.Calls.{texts}
 use Rattle.trac_core.proofs.Printing.{tried-meta, argument-one, some-same}
 use Rattle.trac_core.proofs.input_output.change_meta.Goals as goal
 use Rattle.trac_core.proofs.input_output.change_meta.Goals.{in-Some, in_default}

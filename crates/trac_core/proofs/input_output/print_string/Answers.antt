@@ -1,6 +1,6 @@
 use Rattle.std.proofs.Common.{sym, ◌∙◌}
-use Rattle.trac_core.specs.Flat.{arguments_at}
-use Rattle.trac_core.specs.Calls.{texts}
+use Rattle.trac_functions.specs.Flat.{arguments_at}
+use Rattle.trac_functions.specs.Calls.{texts}
 use Rattle.trac_core.proofs.Printing.{tried-print, tried-print-broken, argument-one}
 use Rattle.trac_core.proofs.input_output.print_string.Goals as goal
 

@@ -1,4 +1,4 @@
-use Rattle.trac_core.proofs.Together.{passes-scans, passes-once}
+use Rattle.trac_core.proofs.StepsInRow.{passes-scans, passes-once}
 use Rattle.trac_core.proofs.scan.close_none.Goals as goal
 
 pub returns-in-None-clause-passes : goal.returns-in-None-clause-passes

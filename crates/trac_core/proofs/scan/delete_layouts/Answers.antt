@@ -1,9 +1,9 @@
 use Rattle.std.proofs.Common.{◌≡◌, ◌≤◌, length, take, All, sym, ap, ◌∙◌, subst, arith}
 use Rattle.std.proofs.lemmas.List.{take-take}
-use Rattle.trac_forms.specs.FlatForms.{text_of_cells}
-use Rattle.trac_core.specs.Flat.{memory_of}
-use Rattle.trac_core.specs.Together.{IsLayout, PassesTimes}
-use Rattle.trac_core.proofs.Together.{layouts-pass}
+use Rattle.trac_space.specs.Texts.{text_of_cells}
+use Rattle.trac_functions.specs.Flat.{memory_of}
+use Rattle.trac_core.specs.StepsInRow.{IsLayout, PassesTimes}
+use Rattle.trac_core.proofs.StepsInRow.{layouts-pass}
 use Rattle.trac_core.proofs.scan.delete_layouts.Goals as goal
 
 pub returns-clause-passes : goal.returns-clause-passes

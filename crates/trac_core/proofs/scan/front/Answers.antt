@@ -1,9 +1,8 @@
 use Rattle.std.proofs.Common.{◌≡◌, ◌-◌, length, take, drop, All, sym, ap, ◌∙◌, subst, arith}
 use Rattle.std.proofs.lemmas.List.{length-take, length-map}
 use Rattle.std.proofs.lemmas.List.Elements.{All-take, All-drop}
-use Rattle.trac_forms.specs.Contents.{IsByte}
-use Rattle.trac_forms.specs.FlatForms.{text_of_cells, character_of}
-use Rattle.trac_core.proofs.ArgumentLemmas.{text_of_cells-seen, bytes-seen}
+use Rattle.trac_space.specs.Texts.{IsByte, text_of_cells, character_of}
+use Rattle.trac_functions.proofs.ArgumentLemmas.{text_of_cells-seen, bytes-seen}
 use Rattle.trac_core.proofs.Scanning.{take-text}
 use Rattle.trac_core.proofs.scan.front.Goals as goal
 

@@ -1,6 +1,6 @@
 use Rattle.std.proofs.Common.{take, All}
-use Rattle.trac_forms.specs.FlatForms.{text_of_cells}
-use Rattle.trac_core.specs.Together.{IsLayout}
+use Rattle.trac_space.specs.Texts.{text_of_cells}
+use Rattle.trac_core.specs.StepsInRow.{IsLayout}
 use Rattle.trac_core.proofs.scan.layout_characters.Given as goal
 
 -- the characters so far are layout

@@ -1,7 +1,7 @@
 use Rattle.std.proofs.Common.{◌≡◌, ◌<◌, length, get_or, sym, ◌∙◌, arith}
 use Rattle.std.proofs.lemmas.List.{length-map, get_or-map}
 use Rattle.trac_space.specs.declared.cell.Cell.TheVariants.{Byte}
-use Rattle.trac_forms.specs.FlatForms.{text_of_cells, character_of}
+use Rattle.trac_space.specs.Texts.{text_of_cells, character_of}
 use Rattle.trac_core.proofs.Matching.{matched, passes-left, passes-right, passes-other, unmatched}
 use Rattle.trac_core.proofs.scan.matching.Goals as goal
 use Rattle.trac_core.proofs.scan.matching.Goals.{then-character-eq40, else-character-eq40+else-depth-eq0, then-character-lt40-via-then-character-lt40, then-character-lt40-via-else-character-lt40+then-character-gt41}

@@ -1,5 +1,5 @@
 use Rattle.std.proofs.Common.{◌≡◌, ◌≢◌, Some, slice_get}
-use Rattle.trac_forms.specs.FlatForms.{text_of_cells}
+use Rattle.trac_space.specs.Texts.{text_of_cells}
 use Rattle.trac_core.proofs.Scanning.{scans-active, scans-neutral, scans-sign}
 use Rattle.trac_core.proofs.scan.number_sign.Goals as goal
 use Rattle.trac_core.proofs.scan.number_sign.Goals.{else-is_at-2-via-then-is_at-2+else-is_at-3, else-is_at-2-via-else-is_at-2}

@@ -2,8 +2,8 @@ use Rattle.std.proofs.Common.{◌≡◌, take, get_or, length, All, sym, ◌∙�
 use Rattle.std.proofs.lemmas.List.{take_more, length-map, get_or-map}
 use Rattle.std.proofs.lemmas.List.Elements.{All-push}
 use Rattle.trac_space.specs.declared.cell.Cell.TheVariants.{Byte}
-use Rattle.trac_forms.specs.FlatForms.{text_of_cells, character_of}
-use Rattle.trac_core.specs.Together.{IsOrdinary}
+use Rattle.trac_space.specs.Texts.{text_of_cells, character_of}
+use Rattle.trac_core.specs.StepsInRow.{IsOrdinary}
 use Rattle.trac_core.proofs.scan.ordinary_characters.Goals as goal
 
 pub loop-i-preserved : goal.loop-i-preserved

@@ -1,4 +1,4 @@
-use Rattle.trac_core.proofs.Together.{passes-scans, passes-once}
+use Rattle.trac_core.proofs.StepsInRow.{passes-scans, passes-once}
 use Rattle.trac_core.proofs.scan.pass.Goals as goal
 
 pub returns-in-Some-eq40-clause-passes : goal.returns-in-Some-eq40-clause-passes

@@ -1,7 +1,7 @@
 use Rattle.std.proofs.Common.{◌≡◌, ◌+◌, ◌∙◌, subst, arith}
-use Rattle.trac_core.specs.Together.{PassesTimes}
-use Rattle.trac_core.specs.Flat.{memory_of}
-use Rattle.trac_core.proofs.Together.{passes-then}
+use Rattle.trac_functions.specs.Flat.{memory_of}
+use Rattle.trac_core.specs.StepsInRow.{PassesTimes}
+use Rattle.trac_core.proofs.StepsInRow.{passes-then}
 use Rattle.trac_core.proofs.scan.scan_on.Goals as goal
 
 pub loop-most-preserved : goal.loop-most-preserved

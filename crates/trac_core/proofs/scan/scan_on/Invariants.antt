@@ -1,7 +1,7 @@
 use Rattle.std.proofs.Common.{◌≡◌, ℕ, ◌≤◌, length}
 use Rattle.trac_forms.specs.Contents.{IsSound}
-use Rattle.trac_core.specs.Flat.{memory_of}
-use Rattle.trac_core.specs.Together.{PassesTimes}
+use Rattle.trac_functions.specs.Flat.{memory_of}
+use Rattle.trac_core.specs.StepsInRow.{PassesTimes}
 use Rattle.trac_core.proofs.scan.scan_on.Given as goal
 
 -- the steps so far

@@ -1,6 +1,6 @@
 use Rattle.std.proofs.Common.{◌≡◌, ◌+◌, ◌/◌, ◌<◌, length, take, slice_range, sym, ap, ◌∙◌, subst, arith}
 use Rattle.trac_space.specs.Lists.{Lists}
-use Rattle.trac_forms.specs.FlatForms.{text_of_cells}
+use Rattle.trac_space.specs.Texts.{text_of_cells}
 use Rattle.trac_forms.specs.Contents.{form_at}
 use Rattle.trac_forms.specs.Stored.{forms_in}
 use Rattle.trac_forms.specs.Index.{hash, IsIndex, IsOpenFor}

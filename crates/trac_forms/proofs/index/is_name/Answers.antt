@@ -2,7 +2,7 @@ use Rattle.std.proofs.Common.{◌+◌, length, slice_range, sym, ap, ◌∙◌, 
 use Rattle.std.proofs.lemmas.Bool.{false≢true}
 use Rattle.std.proofs.lemmas.List.{length-map}
 use Rattle.trac_space.specs.Cells.{seen}
-use Rattle.trac_forms.specs.FlatForms.{text_of_cells, flat_text}
+use Rattle.trac_space.specs.Texts.{text_of_cells, flat_text}
 use Rattle.trac_forms.proofs.Finding.{bytes-of-seen, seen-text, part-length}
 use Rattle.trac_forms.proofs.Gaps.{bytes-seen}
 use Rattle.trac_forms.proofs.index.is_name.Goals as goal

@@ -4,11 +4,11 @@ use Rattle.std.proofs.lemmas.Bool.{cases_lt}
 use Rattle.trac_space.specs.declared.cell.Cell.{Cell}
 use Rattle.trac_space.specs.declared.cell.Cell.TheVariants.{Byte, Head}
 use Rattle.trac_space.specs.Cells.{seen}
+use Rattle.trac_space.specs.Texts.{text_of_cells}
 use Rattle.trac_forms.specs.Contents.{name_at}
-use Rattle.trac_forms.specs.FlatForms.{text_of_cells}
 use Rattle.trac_forms.specs.Stored.{forms_in}
 use Rattle.trac_forms.specs.Index.{hash, slot, cell_at, is_blank}
-use Rattle.trac_forms.proofs.Adding.{slot-within}
+use Rattle.trac_forms.proofs.TableChanges.{slot-within}
 use Rattle.trac_forms.proofs.Finding.{head-seen}
 use Rattle.trac_forms.proofs.Gaps.{bytes-seen}
 use Rattle.trac_forms.proofs.Indexed.{none-at_blank, none-at_end, slots_len, cell-seen, held-at}

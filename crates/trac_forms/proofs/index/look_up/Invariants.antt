@@ -1,7 +1,7 @@
 use Rattle.std.proofs.Common.{◌≡◌, ◌≢◌, ℕ, ◌<◌, length, map}
 use Rattle.trac_space.specs.declared.cell.Cell.TheVariants.{Head}
 use Rattle.trac_space.specs.Cells.{seen}
-use Rattle.trac_forms.specs.FlatForms.{text_of_cells}
+use Rattle.trac_space.specs.Texts.{text_of_cells}
 use Rattle.trac_forms.specs.Contents.{name_at}
 use Rattle.trac_forms.specs.Stored.{forms_in}
 use Rattle.trac_forms.specs.Index.{cell_at, slot, hash}

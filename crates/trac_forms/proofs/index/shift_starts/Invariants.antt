@@ -1,5 +1,5 @@
 use Rattle.std.proofs.Common.{◌≡◌, ℕ, length}
-use Rattle.trac_forms.specs.Text.{Text}
+use Rattle.trac_language.specs.Text.{Text}
 use Rattle.trac_forms.specs.Index.{IsIndexBut, started}
 use Rattle.trac_forms.proofs.index.shift_starts.Given as goal
 

@@ -4,14 +4,14 @@ use Rattle.std.proofs.lemmas.List.{length-map, get_or-map}
 use Rattle.trac_space.specs.declared.cell.Cell.{Cell}
 use Rattle.trac_space.specs.declared.cell.Cell.TheVariants.{Byte, Head}
 use Rattle.trac_space.specs.Cells.{seen}
-use Rattle.trac_forms.specs.Contents.{IsByte, name_at}
-use Rattle.trac_forms.specs.FlatForms.{flat_forms, flat_text, text_of_cells}
+use Rattle.trac_space.specs.Texts.{IsByte, flat_text, text_of_cells}
+use Rattle.trac_forms.specs.Contents.{name_at}
+use Rattle.trac_forms.specs.FlatForms.{flat_forms}
 use Rattle.trac_forms.specs.Stored.{forms_in, start_of, head_number}
 use Rattle.trac_forms.specs.Index.{cell_at, IsIndex}
 use Rattle.trac_forms.proofs.Finding.{begins_at, number_is, bytes-flat}
-use Rattle.trac_forms.proofs.Heads.{is_head}
+use Rattle.trac_forms.proofs.Heads.{is_head, number-seen}
 use Rattle.trac_forms.proofs.FlatLemmas.{Byte-character_of, character_of-Byte}
-use Rattle.trac_forms.proofs.Heads.{number-seen}
 use Rattle.trac_forms.proofs.Indexed.{slots_len}
 use Rattle.trac_forms.proofs.index.start_if_named.Goals as goal
 

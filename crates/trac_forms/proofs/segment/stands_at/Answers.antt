@@ -2,7 +2,7 @@ use Rattle.std.proofs.Common.{◌<◌, length, map, ap, sym, ◌∙◌, arith}
 use Rattle.std.proofs.lemmas.List.{length-map}
 use Rattle.std.proofs.lemmas.List.Edits.{length-between}
 use Rattle.trac_space.specs.Cells.{seen}
-use Rattle.trac_forms.specs.FlatForms.{character_of}
+use Rattle.trac_space.specs.Texts.{character_of}
 use Rattle.trac_forms.specs.Gaps.{begins_cells}
 use Rattle.trac_forms.proofs.Gaps.{begins-seen, begins-other}
 use Rattle.trac_forms.proofs.segment.stands_at.Goals as goal

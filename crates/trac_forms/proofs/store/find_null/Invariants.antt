@@ -1,6 +1,6 @@
 use Rattle.std.proofs.Common.{◌≡◌, [], map, take}
+use Rattle.trac_language.specs.Store.{NoneNamed}
 use Rattle.trac_space.specs.Cells.{seen}
-use Rattle.trac_forms.specs.Store.{NoneNamed}
 use Rattle.trac_forms.specs.Stored.{forms_in, start_of}
 use Rattle.trac_forms.proofs.store.find_null.Given as goal
 

@@ -1,6 +1,6 @@
 use Rattle.std.proofs.Common.{map}
 use Rattle.trac_space.specs.Cells.{seen}
-use Rattle.trac_forms.specs.FlatForms.{text_of_cells}
+use Rattle.trac_space.specs.Texts.{text_of_cells}
 use Rattle.trac_forms.specs.Stored.{forms_in}
 use Rattle.trac_forms.proofs.Stores.{found-round}
 use Rattle.trac_forms.proofs.store.find_round.Goals as goal

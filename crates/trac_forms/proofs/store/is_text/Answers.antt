@@ -3,7 +3,7 @@ use Rattle.std.proofs.lemmas.Bool.{false≢true}
 use Rattle.std.proofs.lemmas.List.{length-map, get_or-map, take_all, take_more_same}
 use Rattle.trac_space.specs.declared.cell.Cell.{Cell}
 use Rattle.trac_space.specs.declared.cell.Cell.TheVariants.{Byte}
-use Rattle.trac_forms.specs.FlatForms.{character_of, text_of_cells}
+use Rattle.trac_space.specs.Texts.{character_of, text_of_cells}
 use Rattle.trac_forms.proofs.store.is_text.Goals as goal
 
 -- the character at a place

@@ -1,5 +1,5 @@
 use Rattle.std.proofs.Common.{◌≡◌, take}
-use Rattle.trac_forms.specs.FlatForms.{text_of_cells}
+use Rattle.trac_space.specs.Texts.{text_of_cells}
 use Rattle.trac_forms.proofs.store.is_text.Given as goal
 
 -- the characters so far are the same

@@ -4,8 +4,7 @@ use Rattle.std.proofs.lemmas.List.{length-map, get_or-map}
 use Rattle.trac_space.specs.declared.cell.Cell.{Cell}
 use Rattle.trac_space.specs.declared.cell.Cell.TheVariants.{Byte}
 use Rattle.trac_space.specs.Cells.{seen}
-use Rattle.trac_forms.specs.FlatForms.{character_of, text_of_cells, flat_text}
-use Rattle.trac_forms.specs.Contents.{IsByte}
+use Rattle.trac_space.specs.Texts.{character_of, text_of_cells, flat_text, IsByte}
 use Rattle.trac_forms.proofs.Finding.{byte-seen, bytes-of-seen, seen-text, part-last, part-length}
 use Rattle.trac_forms.proofs.Gaps.{bytes-seen, character_of-seen}
 use Rattle.trac_forms.proofs.store.is_text_at.Goals as goal

@@ -1,11 +1,11 @@
 use Rattle.std.proofs.Common.{◌≡◌, ◌+◌, ◌-◌, ◌<◌, length, map, All, slice_range, get_or, sym, ap, ◌∙◌, subst, arith}
 use Rattle.std.proofs.lemmas.Bool.{both_ways}
+use Rattle.trac_language.specs.Store.{NoneNamed}
 use Rattle.trac_space.specs.declared.cell.Cell.TheVariants.{Byte, Head}
 use Rattle.trac_space.specs.Cells.{seen}
-use Rattle.trac_forms.specs.Store.{NoneNamed}
+use Rattle.trac_space.specs.Texts.{flat_text, text_of_cells, IsByte}
 use Rattle.trac_forms.specs.Stored.{forms_in, start_of}
-use Rattle.trac_forms.specs.FlatForms.{flat_text, text_of_cells}
-use Rattle.trac_forms.specs.Contents.{form_at, IsByte}
+use Rattle.trac_forms.specs.Contents.{form_at}
 use Rattle.trac_forms.proofs.Finding.{begins_at, number_is, bytes-flat}
 use Rattle.trac_forms.proofs.Heads.{is_head}
 use Rattle.trac_forms.proofs.FlatLemmas.{Byte-character_of, character_of-Byte}

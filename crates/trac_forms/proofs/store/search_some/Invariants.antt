@@ -1,7 +1,7 @@
 use Rattle.std.proofs.Common.{◌≡◌, ◌+◌, ◌-◌, ◌≤◌, map, slice_range}
+use Rattle.trac_language.specs.Store.{NoneNamed}
 use Rattle.trac_space.specs.Cells.{seen}
-use Rattle.trac_forms.specs.FlatForms.{text_of_cells}
-use Rattle.trac_forms.specs.Store.{NoneNamed}
+use Rattle.trac_space.specs.Texts.{text_of_cells}
 use Rattle.trac_forms.specs.Stored.{forms_in, start_of}
 use Rattle.trac_forms.proofs.store.search_some.Given as goal
 

@@ -1,5 +1,5 @@
 use Rattle.std.proofs.Common.{arith, rules}
-use Rattle.trac_core.proofs.FlatLemmas.{size-used}
+use Rattle.trac_functions.proofs.FlatLemmas.{size-used}
 use Rattle.trac_core.proofs.machine.Machine.count.Goals as goal
 use Rattle.trac_core.proofs.machine.Machine.count.Goals.{in-Some-InputFailed, in-Some-Workspace, in-None}
 

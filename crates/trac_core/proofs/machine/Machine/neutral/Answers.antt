@@ -1,7 +1,7 @@
 use Rattle.std.proofs.Common.{◌∙◌, sym, ap}
 use Rattle.std.specs.Prelude.{slice_range}
-use Rattle.trac_core.specs.Flat.{neutral_of}
-use Rattle.trac_core.proofs.Rows.{neutral_of-seen, whole-range}
+use Rattle.trac_functions.specs.Flat.{neutral_of}
+use Rattle.trac_core.proofs.RuleRows.{neutral_of-seen, whole-range}
 use Rattle.trac_core.proofs.machine.Machine.neutral.Goals as goal
 
 pub returns : goal.returns

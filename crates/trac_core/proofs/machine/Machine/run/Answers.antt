@@ -1,6 +1,6 @@
 use Rattle.std.proofs.Common.{◌≡◌, None, ◌∙◌, arith, sym, ap, subst, refl, inl}
 use Rattle.trac_core.specs.Machine.{MachineState, KeepsLimits, moment}
-use Rattle.trac_core.proofs.Along.{SomeAlong, along-none, along-more, along-passes}
+use Rattle.trac_core.proofs.Moments.{SomeAlong, along-none, along-more, along-passes}
 use Rattle.trac_core.proofs.Reported.{reported}
 use Rattle.trac_core.proofs.Sending.{sent-more}
 use Rattle.trac_core.proofs.machine.Machine.run.Goals as goal

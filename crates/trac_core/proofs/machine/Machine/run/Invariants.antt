@@ -1,7 +1,7 @@
 use Rattle.std.proofs.Common.{◌≡◌, ◌-◌, None}
-use Rattle.trac_core.specs.Devices.{Sent}
+use Rattle.trac_devices.specs.Devices.{Sent}
 use Rattle.trac_core.specs.Machine.{KeepsLimits, moment}
-use Rattle.trac_core.proofs.Along.{SomeAlong}
+use Rattle.trac_core.proofs.Moments.{SomeAlong}
 use Rattle.trac_core.proofs.machine.Machine.run.Given as goal
 
 -- the run is not over, no device has failed yet, and the run so far is that of the definition

@@ -1,10 +1,10 @@
 use Rattle.std.proofs.Common.{◌≡◌, ℕ, ◌+◌, refl, sym, ap, ◌∙◌, arith}
-use Rattle.trac_core.specs.State.{size}
-use Rattle.trac_core.specs.Flat.{memory_of}
+use Rattle.trac_language.specs.State.{size}
+use Rattle.trac_functions.specs.Flat.{memory_of}
+use Rattle.trac_functions.proofs.FlatLemmas.{size-used}
 use Rattle.trac_core.specs.Machine.{MachineState}
-use Rattle.trac_core.specs.Together.{peak_after}
-use Rattle.trac_core.proofs.FlatLemmas.{size-used}
-use Rattle.trac_core.proofs.Together.{peak_after-le}
+use Rattle.trac_core.specs.StepsInRow.{peak_after}
+use Rattle.trac_core.proofs.StepsInRow.{peak_after-le}
 use Rattle.trac_core.proofs.machine.Machine.scan_on.Goals as goal
 
 pub returns-clause-passes : goal.returns-clause-passes

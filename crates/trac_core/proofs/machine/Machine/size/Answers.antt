@@ -1,5 +1,5 @@
 use Rattle.std.proofs.Common.{◌∙◌, sym}
-use Rattle.trac_core.proofs.FlatLemmas.{size-used}
+use Rattle.trac_functions.proofs.FlatLemmas.{size-used}
 use Rattle.trac_core.proofs.machine.Machine.size.Goals as goal
 
 pub returns : goal.returns

@@ -1,7 +1,7 @@
 use Rattle.std.proofs.Common.{◌<◌, [], refl, arith, sym, ◌∙◌}
-use Rattle.trac_core.specs.Flat.{memory_of}
+use Rattle.trac_functions.specs.Flat.{memory_of}
+use Rattle.trac_functions.proofs.FlatLemmas.{size-used}
 use Rattle.trac_core.specs.Machine.{MachineState}
-use Rattle.trac_core.proofs.FlatLemmas.{size-used}
 use Rattle.trac_core.proofs.machine.Machine.step.Goals as goal
 
 pub returns-then-is_some-clause-takes : goal.returns-then-is_some-clause-takes

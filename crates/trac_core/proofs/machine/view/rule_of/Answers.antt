@@ -1,6 +1,6 @@
 use Rattle.std.proofs.Common.{◌∙◌, ap, sym, Some, arith}
-use Rattle.trac_forms.specs.FlatForms.{text_of_cells}
-use Rattle.trac_core.proofs.Rows.{row-nothing, row-layout, row-return, row-protection, row-end, row-comma, row-other}
+use Rattle.trac_space.specs.Texts.{text_of_cells}
+use Rattle.trac_core.proofs.RuleRows.{row-nothing, row-layout, row-return, row-protection, row-end, row-comma, row-other}
 use Rattle.trac_core.proofs.machine.view.rule_of.Goals as goal
 
 pub returns-in-None : goal.returns-in-None

@@ -1,20 +1,20 @@
 use Rattle.std.proofs.Common.{ℕ, ◌+◌, ◌≤◌, ◌++◌, List, ◌∙◌, [], ◌≡◌, ◌∷◌, take, sym, subst, length, refl, ap, arith}
 use Rattle.std.proofs.lemmas.Bool.{false≢true}
+use Rattle.std.proofs.lemmas.List.{length_push, take_at, take_all}
+use Rattle.std.proofs.lemmas.List.Sums.{sum_by_push}
+use Rattle.trac_language.specs.Store.{without, defined, form_cells}
+use Rattle.trac_space.specs.declared.cell.Cell.{Cell}
 use Rattle.trac_space.specs.Lists as lists
 use Rattle.trac_space.specs.Lists.{Lists}
-use Rattle.trac_forms.specs.Store.{without, defined, form_cells}
 use Rattle.trac_forms.specs.Contents.{part_text, new_form}
 use Rattle.trac_forms.specs.Stored.{forms_in, start_of}
 use Rattle.trac_forms.specs.FlatForms.{flat_form, flat_forms}
 use Rattle.trac_forms.specs.Index.{IsIndexed}
 use Rattle.trac_forms.proofs.Indexed.{index-kept}
-use Rattle.std.proofs.lemmas.List.{length_push, take_at, take_all}
-use Rattle.std.proofs.lemmas.List.Sums.{sum_by_push}
-use Rattle.trac_space.specs.declared.cell.Cell.{Cell}
 use Rattle.trac_forms.proofs.FlatLemmas.{forms_in-flat, used-stored, count-le, length-flat, length-new_form}
 use Rattle.trac_forms.proofs.Stores.{cells-without}
 use Rattle.trac_forms.proofs.Strings.{shown-restored, redefined}
-use Rattle.trac_forms.proofs.Changes.{defined-stored}
+use Rattle.trac_forms.proofs.StoreChanges.{defined-stored}
 use Rattle.trac_forms.proofs.work.Work.define_form.Goals as goal
 
 pub overflow_add-need : goal.overflow_add-need

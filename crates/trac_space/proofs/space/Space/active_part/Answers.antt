@@ -1,9 +1,9 @@
-use Rattle.trac_space.specs.Block.{right_of}
-use Rattle.trac_space.proofs.Laid.{fits-of, behind-of, begin-of}
 use Rattle.std.proofs.Common.{◌≡◌, take, drop, slice_range, arith, ◌-◌, length, map, ap, ◌∙◌}
 use Rattle.std.proofs.lemmas.List.{take-map, drop-map}
+use Rattle.trac_space.specs.Block.{right_of}
 use Rattle.trac_space.specs.Cells.{seen}
-use Rattle.trac_space.proofs.Parts.{active-part, store-part}
+use Rattle.trac_space.proofs.Laid.{fits-of, behind-of, begin-of}
+use Rattle.trac_space.proofs.BlockChanges.{active-part, store-part}
 use Rattle.trac_space.proofs.Seen.{active_len}
 use Rattle.trac_space.proofs.space.Space.active_part.Goals as goal
 

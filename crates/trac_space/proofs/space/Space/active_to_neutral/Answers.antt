@@ -1,12 +1,12 @@
-use Rattle.trac_space.specs.Block.{right_of}
-use Rattle.trac_space.proofs.Laid.{fits-of, behind-of, begin-of, laid}
 use Rattle.std.proofs.Common.{refl, ◌++◌, sym, ◌≡◌, ◌-◌, length, take, drop, map, ap, ◌∙◌, arith, subst, ◌+◌}
 use Rattle.std.proofs.lemmas.List.{map-append, take-map, take-take}
+use Rattle.trac_space.specs.Block.{right_of}
+use Rattle.trac_space.proofs.Laid.{fits-of, behind-of, begin-of, laid}
 use lib.Seq.{paste}
 use Rattle.trac_space.specs.Cells.{seen, NoCall}
 use Rattle.trac_space.specs.Block.{parts, seen_lists}
 use Rattle.trac_space.proofs.Spare.{seen-drop_active}
-use Rattle.trac_space.proofs.Parts.{parts-to_neutral}
+use Rattle.trac_space.proofs.BlockChanges.{parts-to_neutral}
 use Rattle.trac_space.proofs.Seen.{active_len}
 use Rattle.trac_space.proofs.Calls.{calls-append, linked-append}
 use Rattle.trac_space.proofs.space.Space.active_to_neutral.Goals as goal

@@ -1,11 +1,11 @@
-use Rattle.trac_space.specs.Block.{right_of}
-use Rattle.trac_space.proofs.Laid.{fits-of, behind-of, laid}
 use Rattle.std.proofs.Common.{◌≡◌, ◌-◌, length, drop, replicate, refl, ap, ◌∙◌, arith}
 use Rattle.std.proofs.lemmas.List.{length-take, length-drop, length-replicate}
+use Rattle.trac_space.specs.Block.{right_of}
+use Rattle.trac_space.proofs.Laid.{fits-of, behind-of, laid}
 use borrow.Rule.Slice.PartMut.{put_mid}
 use Rattle.trac_space.specs.declared.cell.Cell.TheVariants.{Byte}
 use Rattle.trac_space.specs.Block.{parts, seen_lists}
-use Rattle.trac_space.proofs.Parts.{parts-put_last}
+use Rattle.trac_space.proofs.BlockChanges.{parts-put_last}
 use Rattle.trac_space.proofs.Seen.{spare_len}
 use Rattle.trac_space.proofs.Spare.{seen-other_spare, seen-blank}
 use Rattle.trac_space.proofs.space.Space.blank_spare.Goals as goal

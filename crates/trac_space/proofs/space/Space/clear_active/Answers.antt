@@ -1,8 +1,7 @@
-use Rattle.trac_space.specs.Block.{right_of}
-use Rattle.trac_space.proofs.Laid.{fits-of, laid}
 use Rattle.std.proofs.Common.{refl, zero, ◌∙◌, arith}
-use Rattle.trac_space.specs.Block.{parts}
-use Rattle.trac_space.proofs.Parts.{parts-drop_active}
+use Rattle.trac_space.specs.Block.{right_of, parts}
+use Rattle.trac_space.proofs.Laid.{fits-of, laid}
+use Rattle.trac_space.proofs.BlockChanges.{parts-drop_active}
 use Rattle.trac_space.proofs.Spare.{seen-no_active}
 use Rattle.trac_space.proofs.space.Space.clear_active.Goals as goal
 

@@ -1,9 +1,8 @@
-use Rattle.trac_space.specs.Block.{right_of}
-use Rattle.trac_space.proofs.Laid.{fits-of, behind-of, laid}
 use Rattle.std.proofs.Common.{refl, ◌-◌, ◌∙◌, arith}
-use Rattle.trac_space.specs.Block.{parts}
+use Rattle.trac_space.specs.Block.{right_of, parts}
+use Rattle.trac_space.proofs.Laid.{fits-of, behind-of, laid}
 use Rattle.trac_space.proofs.Spare.{seen-drop_active}
-use Rattle.trac_space.proofs.Parts.{parts-drop_active}
+use Rattle.trac_space.proofs.BlockChanges.{parts-drop_active}
 use Rattle.trac_space.proofs.Seen.{active_len}
 use Rattle.trac_space.proofs.space.Space.drop_active.Goals as goal
 

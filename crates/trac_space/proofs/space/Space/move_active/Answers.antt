@@ -1,10 +1,10 @@
-use Rattle.trac_space.specs.Block.{right_of}
-use Rattle.trac_space.proofs.Laid.{fits-of, behind-of, begin-of, laid}
 use Rattle.std.proofs.Common.{◌≡◌, ◌+◌, ◌-◌, length, drop, refl, sym, ap, ◌∙◌, arith}
 use Rattle.std.proofs.lemmas.List.{length-drop}
+use Rattle.trac_space.specs.Block.{right_of}
+use Rattle.trac_space.proofs.Laid.{fits-of, behind-of, begin-of, laid}
 use lib.Seq.{paste}
 use Rattle.trac_space.specs.Block.{parts, seen_lists}
-use Rattle.trac_space.proofs.Parts.{parts-move_right}
+use Rattle.trac_space.proofs.BlockChanges.{parts-move_right}
 use Rattle.trac_space.proofs.Seen.{used-seen_lists, spare_len}
 use Rattle.trac_space.proofs.Spare.{seen-other_spare}
 use Rattle.trac_space.proofs.space.Space.move_active.Goals as goal

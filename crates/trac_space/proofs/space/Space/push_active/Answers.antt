@@ -1,7 +1,7 @@
 use Rattle.std.proofs.Common.{refl, ◌≡◌, ◌+◌, ◌-◌, ◌∷◌, [], length, set, ap, ◌∙◌, arith}
 use Rattle.trac_space.specs.Block.{right_of, parts}
 use Rattle.trac_space.proofs.Laid.{fits-of, behind-of, laid}
-use Rattle.trac_space.proofs.Parts.{parts-push_right}
+use Rattle.trac_space.proofs.BlockChanges.{parts-push_right}
 use Rattle.trac_space.proofs.Seen.{used-seen_lists}
 use Rattle.trac_space.proofs.Spare.{seen-more_active}
 use Rattle.trac_space.proofs.space.Space.push_active.Goals as goal

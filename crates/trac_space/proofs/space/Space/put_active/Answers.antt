@@ -1,12 +1,12 @@
-use Rattle.trac_space.specs.Block.{right_of}
-use Rattle.trac_space.proofs.Laid.{fits-of, behind-of, laid}
 use Rattle.std.proofs.Common.{refl, ◌≡◌, ◌+◌, ◌-◌, ◌++◌, length, map, take, ap, ◌∙◌, arith}
 use Rattle.std.proofs.lemmas.List.{length-map, append-nil}
+use Rattle.trac_space.specs.Block.{right_of}
+use Rattle.trac_space.proofs.Laid.{fits-of, behind-of, laid}
 use borrow.Rule.Slice.PartMut.{put_mid}
 use Rattle.trac_space.specs.declared.cell.Cell.TheVariants.{Byte}
 use Rattle.trac_space.specs.Cells.{seen, bytes}
 use Rattle.trac_space.specs.Block.{parts, seen_lists}
-use Rattle.trac_space.proofs.Parts.{parts-load}
+use Rattle.trac_space.proofs.BlockChanges.{parts-load}
 use Rattle.trac_space.proofs.Seen.{used-seen_lists, active_len, seen-bytes}
 use Rattle.trac_space.proofs.Spare.{seen-more_active}
 use Rattle.trac_space.proofs.space.Space.put_active.Goals as goal

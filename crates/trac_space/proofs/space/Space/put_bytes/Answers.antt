@@ -1,11 +1,11 @@
-use Rattle.trac_space.specs.Block.{right_of}
-use Rattle.trac_space.proofs.Laid.{fits-of, behind-of, laid}
 use Rattle.std.proofs.Common.{refl, ◌≡◌, ◌+◌, ◌-◌, length, take, drop, sym, ap, ◌∙◌, arith, subst}
 use Rattle.std.proofs.lemmas.List.{length-map, map-append}
+use Rattle.trac_space.specs.Block.{right_of}
+use Rattle.trac_space.proofs.Laid.{fits-of, behind-of, laid}
 use borrow.Rule.Slice.PartMut.{put_mid}
 use Rattle.trac_space.specs.declared.cell.Cell.TheVariants.{Byte}
 use Rattle.trac_space.specs.Cells.{bytes, NoCall}
-use Rattle.trac_space.proofs.Parts.{parts-append}
+use Rattle.trac_space.proofs.BlockChanges.{parts-append}
 use Rattle.trac_space.proofs.Seen.{used-seen_lists, seen-bytes, no_call-bytes}
 use Rattle.trac_space.proofs.Calls.{calls-append, linked-append}
 use Rattle.trac_space.proofs.space.Space.put_bytes.Goals as goal

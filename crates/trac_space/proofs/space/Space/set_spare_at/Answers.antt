@@ -1,8 +1,7 @@
-use Rattle.trac_space.specs.Block.{right_of}
-use Rattle.trac_space.proofs.Laid.{fits-of, behind-of, laid}
 use Rattle.std.proofs.Common.{refl, ◌≡◌, ◌+◌, ◌-◌, length, set, ap, ◌∙◌, arith}
-use Rattle.trac_space.specs.Block.{parts}
-use Rattle.trac_space.proofs.Parts.{parts-write_right}
+use Rattle.trac_space.specs.Block.{right_of, parts}
+use Rattle.trac_space.proofs.Laid.{fits-of, behind-of, laid}
+use Rattle.trac_space.proofs.BlockChanges.{parts-write_right}
 use Rattle.trac_space.proofs.Seen.{spare_len}
 use Rattle.trac_space.proofs.Spare.{seen-write_spare}
 use Rattle.trac_space.proofs.space.Space.set_spare_at.Goals as goal

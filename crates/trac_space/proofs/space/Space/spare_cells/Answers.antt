@@ -1,6 +1,6 @@
-use Rattle.trac_space.specs.Block.{right_of}
 use Rattle.std.proofs.Common.{◌≡◌, ◌+◌, ◌-◌, length, map, drop, sym, ap, ◌∙◌, arith}
 use Rattle.std.proofs.lemmas.List.{drop-map, drop-drop, take_all, length-drop}
+use Rattle.trac_space.specs.Block.{right_of}
 use Rattle.trac_space.specs.Cells.{seen}
 use Rattle.trac_space.proofs.space.Space.spare_cells.Goals as goal
 

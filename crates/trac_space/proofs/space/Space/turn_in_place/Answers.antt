@@ -1,12 +1,12 @@
-use Rattle.trac_space.specs.Block.{right_of}
-use Rattle.trac_space.proofs.Laid.{fits-of, behind-of, laid}
 use Rattle.std.proofs.Common.{refl, ◌≡◌, ◌+◌, ◌-◌, length, take, drop, sym, ap, ◌∙◌, arith}
 use Rattle.std.proofs.lemmas.List.{map-append, take-map, drop-map}
+use Rattle.trac_space.specs.Block.{right_of}
+use Rattle.trac_space.proofs.Laid.{fits-of, behind-of, laid}
 use borrow.Rule.Slice.PartMut.{put_mid}
-use Rattle.trac_space.proofs.Parts.{parts-to_store}
-use Rattle.trac_space.proofs.Seen.{neutral_len}
 use Rattle.std.proofs.lemmas.List.{length-map}
 use Rattle.trac_space.specs.Cells.{seen}
+use Rattle.trac_space.proofs.BlockChanges.{parts-to_store}
+use Rattle.trac_space.proofs.Seen.{neutral_len}
 use Rattle.trac_space.proofs.Calls.{no_call_from, calls-front, linked-front}
 use Rattle.trac_space.proofs.space.Space.turn_in_place.Goals as goal
 

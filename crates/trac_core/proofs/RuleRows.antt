@@ -1,0 +1,88 @@
+-- The row of the table of scanning rules, by the first characters, as a scanner tells them.
+use Rattle.std.proofs.Common.{◌≡◌, ◌≢◌, ℕ, ◌-◌, ◌<◌, ◌≤◌, ⊎_elim, List, [], ◌∷◌, length, take, drop, map, Option, Some, None, refl, sym, ap, ◌∙◌, arith, slice_get}
+use Rattle.std.specs.Prelude.{slice_range}
+use Rattle.std.proofs.lemmas.Bool.{cases_eq, ne_eqb}
+use Rattle.std.proofs.Math.Seq.{take-length}
+use Rattle.trac_language.specs.Text.{Text}
+use Rattle.trac_language.specs.Protected.{protected}
+use Rattle.trac_language.specs.Rule.{AddCharacter, parenthesis_rule, rule}
+use Rattle.trac_laws.proofs.Rules.{rule_tab, rule_line_feed, rule_return, rule_comma, rule_end, rule_active, rule_neutral, rule_other}
+use Rattle.trac_space.specs.declared.cell.Cell.{Cell}
+use Rattle.trac_space.specs.declared.cell.Cell.TheVariants.{Byte, Call, Comma, Gap, Head}
+use Rattle.trac_space.specs.Cells.{seen}
+use Rattle.trac_functions.specs.Flat.{Neutral, no_neutral, with_cell, with_cells, neutral_of}
+use Rattle.trac_core.specs.declared.machine.view.ScanningRule.TheVariants as row
+use Rattle.trac_core.specs.View.{row_of}
+use Rattle.trac_core.proofs.Scanning.{first-rest, second-rest, third-rest, sign-rule, rule-parenthesis, rule-nothing}
+
+pub row-nothing : (text : Text) → slice_get text 0 ≡ None → row.Idling ≡ row_of (rule text)
+row-nothing [] e = ap row_of (sym rule-nothing)
+row-nothing (c ∷ text) e = absurd cc
+
+-- where the rule is this one for each text that begins with c
+row-first : (text : Text) (c : ℕ) → slice_get text 0 ≡ Some c → rule text ≡ rule (c ∷ drop 1 text)
+row-first text c first = ap rule (first-rest text c first)
+
+pub row-return : (text : Text) → slice_get text 0 ≡ Some 13 → row.Layout ≡ row_of (rule text)
+row-return text first = ap row_of (sym (row-first text 13 first ∙ rule_return (drop 1 text)))
+
+-- a tab or a line feed
+pub row-layout : (text : Text) (c : ℕ) → slice_get text 0 ≡ Some c → 9 ≤ c → c < 11 → row.Layout ≡ row_of (rule text)
+row-layout text c first low high =
+    ⊎_elim
+    (λ tab. ap row_of (sym (row-first text 9 (first ∙ ap Some tab) ∙ rule_tab (drop 1 text))))
+    (λ other.
+    let feed : c ≡ 10 = omega arith in
+    ap row_of (sym (row-first text 10 (first ∙ ap Some feed) ∙ rule_line_feed (drop 1 text))))
+    (cases_eq c 9)
+
+parenthesis-row : (o : Option (Text × Text)) → row.Protection ≡ row_of (parenthesis_rule o)
+parenthesis-row None = refl
+parenthesis-row (Some parts) = refl
+
+pub row-protection : (text : Text) → slice_get text 0 ≡ Some 40 → row.Protection ≡ row_of (rule text)
+row-protection text first =
+    let o = protected (drop 1 text) in
+    parenthesis-row o ∙ ap row_of (sym (row-first text 40 first ∙ rule-parenthesis (drop 1 text) o refl))
+
+pub row-end : (text : Text) → slice_get text 0 ≡ Some 41 → row.EndOfCall ≡ row_of (rule text)
+row-end text first = ap row_of (sym (row-first text 41 first ∙ rule_end (drop 1 text)))
+
+pub row-comma : (text : Text) → slice_get text 0 ≡ Some 44 → row.Argument ≡ row_of (rule text)
+row-comma text first = ap row_of (sym (row-first text 44 first ∙ rule_comma (drop 1 text)))
+
+pub row-other : (text : Text) (c : ℕ) → slice_get text 0 ≡ Some c → c ≢ 9 → c ≢ 10 → c ≢ 13 → c ≢ 40 → c ≢ 44 → c ≢ 35 → c ≢ 41 → row.Character ≡ row_of (rule text)
+row-other text c first tab feed back opens comma sign close =
+    let row : row.Character ≡ row_of (AddCharacter c (drop 1 text)) = simp (ne_eqb c 35 sign) in
+    row ∙ ap row_of (sym (row-first text c first ∙ rule_other c (drop 1 text) tab feed back opens comma sign close))
+
+pub row-active : (text : Text) → slice_get text 0 ≡ Some 35 → slice_get text 1 ≡ Some 40 → row.ActiveCall ≡ row_of (rule text)
+row-active text first second = ap row_of (sym (ap rule (second-rest text 35 40 first second) ∙ rule_active (drop 2 text)))
+
+pub row-neutral : (text : Text) → slice_get text 0 ≡ Some 35 → slice_get text 1 ≡ Some 35 → slice_get text 2 ≡ Some 40 → row.NeutralCall ≡ row_of (rule text)
+row-neutral text first second third = ap row_of (sym (ap rule (third-rest text 35 35 40 first second third) ∙ rule_neutral (drop 3 text)))
+
+pub row-sign : (text : Text) → slice_get text 0 ≡ Some 35 → slice_get text 1 ≢ Some 40 → (slice_get text 1 ≡ Some 35 → slice_get text 2 ≢ Some 40) → row.NumberSign ≡ row_of (rule text)
+row-sign text first second third = ap row_of (sym (sign-rule text first second third))
+
+-- the number in a call mark makes no difference to the neutral string
+with_cell-seen : (n : Neutral) (cell : Cell) → with_cell n (seen cell) ≡ with_cell n cell
+with_cell-seen n (Byte c) = refl
+with_cell-seen n (Call mode k) = refl
+with_cell-seen n Comma = refl
+with_cell-seen n (Gap k) = refl
+with_cell-seen n (Head k) = refl
+
+with_cells-seen : (n : Neutral) (cells : List Cell) → with_cells n (map seen cells) ≡ with_cells n cells
+with_cells-seen n [] = refl
+with_cells-seen n (cell ∷ cells) =
+    ap (λ (m : Neutral). with_cells m (map seen cells)) (with_cell-seen n cell) ∙ with_cells-seen (with_cell n cell) cells
+
+pub neutral_of-seen : (cells : List Cell) → neutral_of (map seen cells) ≡ neutral_of cells
+neutral_of-seen cells = with_cells-seen no_neutral cells
+
+-- the part from the first cell up to the last is all of them
+pub whole-range : (cells : List Cell) → slice_range cells 0 (length cells) ≡ cells
+whole-range cells =
+    let all : length cells - 0 ≡ length cells = omega arith in
+    ap (λ n. take n cells) all ∙ take-length cells

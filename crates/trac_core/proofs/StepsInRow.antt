@@ -1,0 +1,120 @@
+-- Steps in a row: ordinary characters are added one by one, layout characters deleted, and the steps of any rule that
+-- performs no call follow one another.
+use Rattle.std.proofs.Common.{◌≡◌, ◌≢◌, ℕ, zero, suc, ◌≤◌, ◌+◌, Bool, true, false, ◌||◌, max, List, [], ◌∷◌, ◌++◌, length, take, drop, All, Some, slice_get, refl, sym, ap, ◌∙◌, subst, arith, append_assoc, append-nil, length-append}
+use Rattle.std.specs.Prelude.{◌==◌}
+use Rattle.std.proofs.lemmas.List.{length-drop}
+use Rattle.std.proofs.lemmas.List.Elements.{All-head, All-tail}
+use Rattle.trac_language.specs.State.{Memory}
+use Rattle.trac_language.specs.Rule.{is_layout}
+use Rattle.trac_space.specs.declared.cell.Cell.{Cell}
+use Rattle.trac_space.specs.declared.cell.Cell.TheVariants.{Byte, Call, Comma, Gap, Head}
+use Rattle.trac_space.specs.Texts.{text_of_cells, IsByte}
+use Rattle.trac_forms.specs.Contents.{Contents, used}
+use Rattle.trac_functions.specs.Flat.{memory_of}
+use Rattle.trac_functions.proofs.FlatLemmas.{size-used}
+use Rattle.trac_core.specs.Attempts.{Scans}
+use Rattle.trac_core.specs.StepsInRow.{is_special, IsOrdinary, IsLayout, Passes, PassesTimes, peak_after}
+use Rattle.trac_core.proofs.Scanning.{scans-other, scans-layout}
+
+-- no rule of its own
+ordinary-layout : (c : ℕ) → IsOrdinary c → is_layout c ≡ false
+ordinary-layout c h = go (is_layout c) (c == 35) (c == 40) (c == 41) (c == 44) h
+  where
+    go : (a b d e f : Bool) → (a || b || d || e || f) ≡ false → a ≡ false
+    go false b d e f h = refl
+    go true b d e f h = absurd cc
+
+ordinary-not : (c b : ℕ) → IsOrdinary c → is_special b ≡ true → c ≢ b
+ordinary-not c b h special e = let f : is_special b ≡ false = subst IsOrdinary e h in cc
+
+-- a step over the contents of a workspace, as one over the memory that they stand for
+pub passes-scans : (meta : ℕ) (old new : Contents) → Scans old new (used old) → used new ≤ used old → Passes (memory_of meta old) (memory_of meta new)
+passes-scans meta old new scans same =
+    record {
+      goes = scans.goes meta;
+      needs = λ input output. scans.needs meta input output ∙ sym (size-used meta old);
+      reads = scans.reads meta;
+      no_larger = omega (arith, same, size-used meta new, size-used meta old);
+    }
+
+-- the contents with the first n cells of active at the end of neutral
+abbrev pub moved : ℕ → Contents → Contents
+moved n w = record w { active = drop n w.active; neutral = w.neutral ++ take n w.active }
+
+pub characters-pass : (meta n : ℕ) (w : Contents) → All IsByte w.active → n ≤ length w.active → All IsOrdinary (take n (text_of_cells w.active)) → PassesTimes n (memory_of meta w) (memory_of meta (moved n w))
+characters-pass meta zero w bytes within ordinary = ap (λ cells. memory_of meta (record w { neutral = cells })) (sym (append-nil w.neutral))
+characters-pass meta (suc n) w bytes within ordinary = go w.active refl (characters-pass meta n) bytes within ordinary
+  where
+    go : (active : List Cell) → w.active ≡ active → ((w : Contents) → All IsByte w.active → n ≤ length w.active → All IsOrdinary (take n (text_of_cells w.active)) → PassesTimes n (memory_of meta w) (memory_of meta (moved n w))) → All IsByte active → suc n ≤ length active → All IsOrdinary (take (suc n) (text_of_cells active)) → PassesTimes (suc n) (memory_of meta w) (memory_of meta (moved (suc n) w))
+    go [] is later bytes within ordinary = absurd (omega arith)
+    go (Byte c ∷ rest) is later bytes within ordinary =
+        let special = All-head IsOrdinary c (take n (text_of_cells rest)) ordinary in
+        let first : slice_get (text_of_cells w.active) 0 ≡ Some c = ap (λ cells. slice_get (text_of_cells cells) 0) is in
+        let next : Contents = record w { active = drop 1 w.active; neutral = w.neutral ++ Byte c ∷ [] } in
+        let scans = scans-other w c first (ordinary-layout c special) (ordinary-not c 40 special refl) (ordinary-not c 41 special refl) (ordinary-not c 44 special refl) (ordinary-not c 35 special refl) in
+        let long : length w.active ≡ suc (length rest) = ap length is in
+        let more = length-drop 1 w.active in
+        let pushed = length-append w.neutral (Byte c ∷ []) in
+        let same : used next ≤ used w = omega arith in
+        let after : drop 1 w.active ≡ rest = ap (drop 1) is in
+        let others : PassesTimes n (memory_of meta next) (memory_of meta (moved n next)) =
+        later next (subst (All IsByte) (sym after) (All-tail IsByte (Byte c) rest bytes)) (omega arith)
+        (subst (λ cells. All IsOrdinary (take n (text_of_cells cells))) (sym after) (All-tail IsOrdinary c (take n (text_of_cells rest)) ordinary)) in
+        let end : moved n next ≡ moved (suc n) w =
+        ap (λ cells. record w { active = drop n cells; neutral = (w.neutral ++ Byte c ∷ []) ++ take n cells }) after
+        ∙ ap (λ cells. record w { active = drop n rest; neutral = cells }) (append_assoc w.neutral (Byte c ∷ []) (take n rest))
+        ∙ ap (λ cells. record w { active = drop (suc n) cells; neutral = w.neutral ++ take (suc n) cells }) (sym is) in
+        (memory_of meta next, (passes-scans meta w next scans same, subst (λ v. PassesTimes n (memory_of meta next) (memory_of meta v)) end others))
+    go (Call mode k ∷ rest) is later bytes within ordinary = absurd (All-head IsByte (Call mode k) rest bytes)
+    go (Comma ∷ rest) is later bytes within ordinary = absurd (All-head IsByte Comma rest bytes)
+    go (Gap k ∷ rest) is later bytes within ordinary = absurd (All-head IsByte (Gap k) rest bytes)
+    go (Head k ∷ rest) is later bytes within ordinary = absurd (All-head IsByte (Head k) rest bytes)
+
+-- the contents without the first n cells of active
+abbrev pub dropped : ℕ → Contents → Contents
+dropped n w = record w { active = drop n w.active }
+
+pub layouts-pass : (meta n : ℕ) (w : Contents) → All IsByte w.active → n ≤ length w.active → All IsLayout (take n (text_of_cells w.active)) → PassesTimes n (memory_of meta w) (memory_of meta (dropped n w))
+layouts-pass meta zero w bytes within layout = refl
+layouts-pass meta (suc n) w bytes within layout = go w.active refl (layouts-pass meta n) bytes within layout
+  where
+    go : (active : List Cell) → w.active ≡ active → ((w : Contents) → All IsByte w.active → n ≤ length w.active → All IsLayout (take n (text_of_cells w.active)) → PassesTimes n (memory_of meta w) (memory_of meta (dropped n w))) → All IsByte active → suc n ≤ length active → All IsLayout (take (suc n) (text_of_cells active)) → PassesTimes (suc n) (memory_of meta w) (memory_of meta (dropped (suc n) w))
+    go [] is later bytes within layout = absurd (omega arith)
+    go (Byte c ∷ rest) is later bytes within layout =
+        let first : slice_get (text_of_cells w.active) 0 ≡ Some c = ap (λ cells. slice_get (text_of_cells cells) 0) is in
+        let next : Contents = dropped 1 w in
+        let scans = scans-layout w c first (All-head IsLayout c (take n (text_of_cells rest)) layout) in
+        let long : length w.active ≡ suc (length rest) = ap length is in
+        let more = length-drop 1 w.active in
+        let fewer : used next ≤ used w = omega arith in
+        let after : drop 1 w.active ≡ rest = ap (drop 1) is in
+        let others : PassesTimes n (memory_of meta next) (memory_of meta (dropped n next)) =
+        later next (subst (All IsByte) (sym after) (All-tail IsByte (Byte c) rest bytes)) (omega arith)
+        (subst (λ cells. All IsLayout (take n (text_of_cells cells))) (sym after) (All-tail IsLayout c (take n (text_of_cells rest)) layout)) in
+        let end : dropped n next ≡ dropped (suc n) w =
+        ap (λ cells. record w { active = drop n cells }) after ∙ ap (λ cells. record w { active = drop (suc n) cells }) (sym is) in
+        (memory_of meta next, (passes-scans meta w next scans fewer, subst (λ v. PassesTimes n (memory_of meta next) (memory_of meta v)) end others))
+    go (Call mode k ∷ rest) is later bytes within layout = absurd (All-head IsByte (Call mode k) rest bytes)
+    go (Comma ∷ rest) is later bytes within layout = absurd (All-head IsByte Comma rest bytes)
+    go (Gap k ∷ rest) is later bytes within layout = absurd (All-head IsByte (Gap k) rest bytes)
+    go (Head k ∷ rest) is later bytes within layout = absurd (All-head IsByte (Head k) rest bytes)
+
+-- one step, and some and then others
+pub passes-once : (old new : Memory) → Passes old new → PassesTimes 1 old new
+passes-once old new pass = (new, (pass, refl))
+
+pub passes-then : (n k : ℕ) (old middle new : Memory) → PassesTimes n old middle → PassesTimes k middle new → PassesTimes (n + k) old new
+passes-then zero k old middle new first second =
+    let none : 0 + k ≡ k = omega arith in
+    subst (λ i. PassesTimes i old new) (sym none) (subst (λ m. PassesTimes k m new) (sym first) second)
+passes-then (suc n) k old middle new first second =
+    let more : suc n + k ≡ suc (n + k) = omega arith in
+    subst (λ i. PassesTimes i old new) (sym more) (first.0, (first.1.0, passes-then n k first.0 middle new first.1.1 second))
+
+pub peak_after-some : (n needed peak : ℕ) → n ≢ 0 → max peak needed ≡ peak_after n needed peak
+peak_after-some zero needed peak some = absurd (some refl)
+peak_after-some (suc n) needed peak some = refl
+
+pub peak_after-le : (n needed peak room : ℕ) → peak ≤ room → needed ≤ room → peak_after n needed peak ≤ room
+peak_after-le zero needed peak room a b = a
+peak_after-le (suc n) needed peak room a b = omega arith

@@ -1,7 +1,0 @@
-use Rattle.trac_forms.specs.Contents.{body_at}
-use Rattle.trac_forms.specs.Search.{gap_at, NonePasses}
-use Rattle.trac_core.proofs.form_parts.gap_or.Given as goal
-
--- no gap was passed
-abbrev pub invariant-loop-place : goal.invariant-loop-place
-invariant-loop-place l = NonePasses (gap_at (body_at l.work.forms l.form.0)) l.from l.place

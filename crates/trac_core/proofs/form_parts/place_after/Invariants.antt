@@ -1,7 +1,0 @@
-use Rattle.trac_forms.specs.Contents.{body_at}
-use Rattle.trac_core.proofs.Taken.{Forward}
-use Rattle.trac_core.proofs.form_parts.place_after.Given as goal
-
--- so many characters were taken
-abbrev pub invariant-loop-taken : goal.invariant-loop-taken
-invariant-loop-taken l = Forward (body_at l.work.forms l.form.0) l.from l._taken l.place

@@ -1,9 +1,0 @@
-use Rattle.trac_core.proofs.Fitting.{rule-fits}
-use Rattle.trac_core.proofs.Stepping.{step-fits}
-use Rattle.trac_core.proofs.laws.one_rule_fits.Goals as goal
-
-pub returns-clause-rule : goal.returns-clause-rule
-returns-clause-rule c = rule-fits
-
-pub returns-clause-step : goal.returns-clause-step
-returns-clause-step c = step-fits

@@ -1,0 +1,11 @@
+use Rattle.std.proofs.Common.{◌≡◌, ◌++◌, take}
+use Rattle.trac_core.proofs.text_io.print_bytes.Given as goal
+
+-- the bytes so far were written
+abbrev pub invariant-loop-byte : goal.invariant-loop-byte
+invariant-loop-byte g l =
+    record {
+      counts : g.O.Sink.failure_count l.sink ≡ g.O.Sink.failure_count l.initial.sink;
+      told : g.O.Sink.tells l.initial.sink → g.O.Sink.tells l.sink;
+      writes : g.O.Sink.tells l.initial.sink → g.O.Sink.written l.sink ≡ g.O.Sink.written l.initial.sink ++ take l.byte-index l.bytes;
+    }

@@ -1,0 +1,21 @@
+-- What is said of a text that is read into the neutral string.
+use Rattle.std.specs.Prelude.{◌≡◌, ℕ, true, false, [], ◌∷◌, ◌++◌}
+use Rattle.trac_language.specs.Text.{Text}
+use Rattle.trac_devices.specs.Devices.{Stream, has_byte}
+use Rattle.trac_core.specs.declared.text_io.ReadEnd.{ReadEnd}
+use Rattle.trac_core.specs.declared.text_io.ReadEnd.TheVariants.{Meta, Ended, Failed, Full}
+
+-- the failures that the end of a text counts for
+abbrev pub failures_of_read : ReadEnd → ℕ
+failures_of_read Failed = 1
+failures_of_read Meta = 0
+failures_of_read Ended = 0
+failures_of_read Full = 0
+
+-- the source gave the text, and what followed it
+abbrev pub StreamsTo : ReadEnd → ℕ → Stream → Text → Stream → Type 0
+StreamsTo Meta meta old text new = (old.bytes ≡ text ++ meta ∷ new.bytes) × (old.ended ≡ false)
+StreamsTo Ended meta old text new = (old.bytes ≡ text) × (new.bytes ≡ []) × (new.ended ≡ true)
+StreamsTo Failed meta old text new = (old.bytes ≡ text ++ new.bytes) × (old.ended ≡ false)
+StreamsTo Full meta old text new =
+    (next : ℕ) × ((old.bytes ≡ text ++ next ∷ new.bytes) × (has_byte meta (next ∷ []) ≡ false))

@@ -1,0 +1,55 @@
+-- Steps that perform no call in a row, which are done at once.
+use Rattle.std.specs.Prelude.{◌≡◌, ℕ, zero, suc, max, Bool, true, false, ◌||◌, ◌==◌, ◌+◌, ◌≤◌}
+use Rattle.trac_language.specs.Text.{Text}
+use Rattle.trac_language.specs.State.{Input, Memory, size}
+use Rattle.trac_language.specs.Rule.{is_layout}
+use Rattle.trac_language.specs.Step.{Next, step, need}
+use Rattle.trac_laws.specs.LastRead.{reads_to_end}
+use Rattle.trac_forms.specs.Contents.{Contents}
+use Rattle.trac_functions.specs.Flat.{memory_of}
+use Rattle.trac_core.specs.Machine.{MachineState, state_with}
+
+-- a character that has a rule of its own
+abbrev pub is_special : ℕ → Bool
+is_special c = is_layout c || (c == 35) || (c == 40) || (c == 41) || (c == 44)
+
+-- a character that has none
+abbrev pub IsOrdinary : ℕ → Type 0
+IsOrdinary c = is_special c ≡ false
+
+-- a character that is deleted
+abbrev pub IsLayout : ℕ → Type 0
+IsLayout c = is_layout c ≡ true
+
+-- a step that reads and prints nothing leads from one memory to another that isn't larger, and
+-- needs the cells of the first
+pub record Passes (old new : Memory) : Type 0 where
+  pub goes : (input : Input) (output : Text) →
+      step (state_with old input output) ≡ Next (state_with new input output)
+  pub needs : (input : Input) (output : Text) → need (state_with old input output) ≡ size old
+  pub reads : (input : Input) (output : Text) → reads_to_end (state_with old input output) ≡ false
+  pub no_larger : size new ≤ size old
+
+-- so many of them, one after the other
+abbrev pub PassesTimes : ℕ → Memory → Memory → Type 0
+PassesTimes zero old new = old ≡ new
+PassesTimes (suc n) old new = (middle : Memory) × (Passes old middle × PassesTimes n middle new)
+
+-- so many of them lead from contents to contents, whatever the meta character
+abbrev pub Advances : ℕ → Contents → Contents → Type 0
+Advances n old new = (meta : ℕ) → PassesTimes n (memory_of meta old) (memory_of meta new)
+
+-- the peak after so many steps, of which the first needs this many cells and none needs more
+abbrev pub peak_after : ℕ → ℕ → ℕ → ℕ
+peak_after zero needed peak = peak
+peak_after (suc n) needed peak = max peak needed
+
+-- a machine after so many steps that lead to this memory
+abbrev pub passed : ℕ → Memory → MachineState → MachineState
+passed n memory m =
+    record m { memory = memory; steps = m.steps + n; peak = peak_after n (size m.memory) m.peak }
+
+-- a machine did some steps that perform no call
+abbrev pub PassesSome : MachineState → MachineState → Type 0
+PassesSome old new =
+    (n : ℕ) × ((memory : Memory) × PassesTimes n old.memory memory × (new ≡ passed n memory old))

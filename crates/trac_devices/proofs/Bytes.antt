@@ -1,0 +1,97 @@
+-- Known bytes in front of a reader and behind a writer.
+use Rattle.std.proofs.Common.{Bool, IsSome, unwrap_or, ◌≡◌, ◌∙◌, ◌+◌, ◌-◌, ◌≤◌, ◌<◌, ◌++◌, ◌∷◌, ap, ap₂, refl, ℕ, List, [], get_or, length, take, drop, Option, Some, None, sym, arith, append_assoc, length-take}
+use Rattle.std.specs.Prelude.{slice_range}
+use lib.Seq.{take-add}
+use Rattle.std.proofs.lemmas.List.{drop-append-le, drop-drop, drop-take, take-append-drop}
+use Rattle.std.proofs.Math.ListN.{set}
+use Rattle.std.proofs.Math.Seq.{drop-cons}
+use Rattle.std.proofs.lemmas.Slice.{between_is, take-put_mid}
+use borrow.Rule.Slice.PartMut.{put_mid}
+use Rattle.std.specs.Io.KnownBytes.{Appends, Consumes, IsAtEnd, Keeps, append_known, prepend_known}
+use Rattle.trac_devices.specs.Slices.{IfTells}
+
+-- a part is its front and the rest
+pub part_split : (xs : List ℕ) (a n b : ℕ) → a + n ≤ b → slice_range xs a b ≡ slice_range xs a (a + n) ++ slice_range xs (a + n) b
+part_split xs a n b low =
+    let m = b - (a + n) in
+    let whole : b - a ≡ n + m = omega arith in
+    let front : n ≡ a + n - a = omega arith in
+    ap (λ k. take k (drop a xs)) whole ∙ take-add n m (drop a xs)
+    ∙ ap₂ (λ (ys zs : List ℕ). ys ++ zs) (ap (λ k. take k (drop a xs)) front) (ap (take m) (drop-drop n a xs))
+
+-- a part that ends where more was written
+pub part_appended : (xs ys more : List ℕ) (a b n k : ℕ) → ys ≡ more → length more ≡ n → k ≡ n → a ≤ b → b ≤ length xs
+    → slice_range (put_mid b k xs ys) a (b + n) ≡ slice_range xs a b ++ more
+part_appended xs ys more a b n k same size exact low high =
+    let long : b + n ≡ b + length ys = omega (arith, ap length same) in
+    let inside : a ≤ length (take b xs) = omega (arith, length-take b xs) in
+    between_is (put_mid b k xs ys) a (b + n) ∙ ap (drop a) (take-put_mid b k xs ys (b + n) long high)
+    ∙ drop-append-le a (take b xs) ys inside ∙ ap₂ (λ (us vs : List ℕ). us ++ vs) (sym (between_is xs a b)) same
+
+pub consumes_kept : (a b d : Option (List ℕ)) (xs : List ℕ) → Keeps a b → Consumes b d xs → Consumes a d xs
+consumes_kept None b d xs kept took = tt
+consumes_kept (Some ys) None d xs kept took = absurd kept
+consumes_kept (Some ys) (Some zs) None xs kept took = absurd took
+consumes_kept (Some ys) (Some zs) (Some ws) xs kept took = sym kept ∙ took
+
+pub consumes_front : (rest : Option (List ℕ)) (whole front back : List ℕ) → whole ≡ front ++ back
+    → Consumes (prepend_known whole rest) (prepend_known back rest) front
+consumes_front None whole front back e = tt
+consumes_front (Some xs) whole front back e = ap (λ ys. ys ++ xs) e ∙ append_assoc front back xs
+
+pub keeps_moved : (old new : Option (List ℕ)) (whole front back : List ℕ) → whole ≡ front ++ back → Appends old new front
+    → Keeps (append_known old whole) (append_known new back)
+keeps_moved None new whole front back e h = tt
+keeps_moved (Some xs) None whole front back e h = absurd h
+keeps_moved (Some xs) (Some ys) whole front back e h = ap (λ zs. zs ++ back) h ∙ append_assoc xs front back ∙ ap (λ zs. xs ++ zs) (sym e)
+
+pub appends_kept : (a b d : Option (List ℕ)) (xs : List ℕ) → Keeps a b → Appends b d xs → Appends a d xs
+appends_kept None b d xs kept took = tt
+appends_kept (Some ys) None d xs kept took = absurd kept
+appends_kept (Some ys) (Some zs) None xs kept took = absurd took
+appends_kept (Some ys) (Some zs) (Some ws) xs kept took = took ∙ ap (λ vs. vs ++ xs) kept
+
+pub appends_behind : (old : Option (List ℕ)) (before after more : List ℕ) → after ≡ before ++ more
+    → Appends (append_known old before) (append_known old after) more
+appends_behind None before after more e = tt
+appends_behind (Some xs) before after more e = ap (λ ys. xs ++ ys) e ∙ sym (append_assoc xs before more)
+
+pub at_end : (rest : Option (List ℕ)) (waiting : List ℕ) → waiting ≡ [] → IsAtEnd rest → IsAtEnd (prepend_known waiting rest)
+at_end None waiting none ended = tt
+at_end (Some xs) waiting none ended = ap₂ (λ (ys zs : List ℕ). ys ++ zs) none ended
+
+-- what stands behind a writer that keeps what was appended
+pub appended_known : (old mid new : Option (List ℕ)) (xs : List ℕ) → Appends old mid xs → Keeps mid new → IsSome old
+    → unwrap_or new [] ≡ unwrap_or old [] ++ xs
+appended_known None mid new xs took kept some = absurd cc
+appended_known (Some ys) None new xs took kept some = absurd took
+appended_known (Some ys) (Some zs) None xs took kept some = absurd kept
+appended_known (Some ys) (Some zs) (Some ws) xs took kept some = kept ∙ took
+
+-- one byte written into a place for one
+pub one_given : (buf : List ℕ) (v : ℕ) → length buf ≡ 1 → take 1 (set buf 0 v) ≡ v ∷ []
+one_given [] v one = absurd (omega arith)
+one_given (x ∷ []) v one = refl
+one_given (x ∷ y ∷ ys) v one = absurd (omega arith)
+
+-- a part is its first byte and the rest
+pub part_first : (xs : List ℕ) (a b : ℕ) → a < b → b ≤ length xs → slice_range xs a b ≡ (get_or xs a 0 ∷ []) ++ slice_range xs (a + 1) b
+part_first xs a b some inside =
+    let split = part_split xs a 1 b (omega arith) in
+    let size : a + 1 - a ≡ 1 = omega arith in
+    let here : a < length xs = omega arith in
+    let one : slice_range xs a (a + 1) ≡ get_or xs a 0 ∷ [] = ap (λ k. take k (drop a xs)) size ∙ ap (take 1) (drop-cons xs a 0 here) in
+    split ∙ ap (λ (ys : List ℕ). ys ++ slice_range xs (a + 1) b) one
+
+-- what is read ahead is what is taken of it, and then the rest
+pub taken_known : (bytes : List ℕ) (start count end : ℕ) (rest : Option (List ℕ)) (has_ended : Bool) → start + count ≤ end
+    → IfTells (prepend_known (slice_range bytes start end) rest) has_ended
+    → unwrap_or (prepend_known (slice_range bytes start end) rest) [] ≡ take count (slice_range bytes start end) ++ unwrap_or (prepend_known (slice_range bytes (start + count) end) rest) []
+taken_known bytes start count end None has_ended within tells = absurd tells
+taken_known bytes start count end (Some more) has_ended within tells =
+    let whole = slice_range bytes start end in
+    let m = end - (start + count) in
+    let size : end - start ≡ count + m = omega arith in
+    let back : drop count whole ≡ slice_range bytes (start + count) end = ap (λ k. drop count (take k (drop start bytes))) size ∙ drop-take count m (drop start bytes) ∙ ap (take m) (drop-drop count start bytes) in
+    let split : whole ≡ take count whole ++ slice_range bytes (start + count) end = sym (take-append-drop count whole) ∙ ap (λ (xs : List ℕ). take count whole ++ xs) back in
+    ap (λ (xs : List ℕ). xs ++ more) split ∙ append_assoc (take count whole) (slice_range bytes (start + count) end) more

@@ -1,0 +1,2 @@
+pub mod PutCells
+pub mod Bytes

@@ -1,0 +1,12 @@
+use Rattle.std.proofs.Common.{◌≡◌, ◌++◌, take}
+use Rattle.trac_space.specs.Texts.{text_of_cells}
+use Rattle.trac_devices.proofs.device.Sink.put_all.Given as goal
+
+-- the characters so far were written
+abbrev pub invariant-loop-cell : goal.invariant-loop-cell
+invariant-loop-cell g l =
+    record {
+      counts : g.Self.Sink.failure_count l.self ≡ g.Self.Sink.failure_count l.initial.self;
+      told : g.Self.Sink.tells l.initial.self → g.Self.Sink.tells l.self;
+      writes : g.Self.Sink.tells l.initial.self → g.Self.Sink.written l.self ≡ g.Self.Sink.written l.initial.self ++ text_of_cells (take l.cell-index l.text);
+    }

@@ -1,0 +1,20 @@
+use Rattle.std.proofs.Common.{◌≡◌, ◌≤◌, ◌-◌, take, length}
+use Rattle.std.specs.Io.KnownBytes.{Appends}
+use Rattle.trac_space.specs.Texts.{text_of_cells}
+use Rattle.trac_devices.specs.Buffered.{behind}
+use Rattle.trac_devices.proofs.output.OutputSink.put_all.Given as goal
+
+-- the characters so far were taken
+abbrev pub invariant-loop-taken : goal.invariant-loop-taken
+invariant-loop-taken g l =
+    let first = l.initial.self.writer in
+    let now = l.self.writer in
+    record {
+      within : l.taken ≤ length l.text;
+      counts : l.self.failures ≡ l.initial.self.failures;
+      appends : Appends (behind first.bytes first.start first.end (g.W.Write.contents first.device.writer.writer)) (behind now.bytes now.start now.end (g.W.Write.contents now.device.writer.writer)) (take l.taken (text_of_cells l.text));
+    }
+
+-- the cells that are left
+abbrev pub decreases-loop-taken : goal.decreases-loop-taken
+decreases-loop-taken g l = length l.text - l.taken

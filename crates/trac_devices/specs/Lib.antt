@@ -1,0 +1,5 @@
+pub mod Buffered
+pub mod Counted
+pub mod Devices
+pub mod HeldBytes
+pub mod Slices

@@ -1,0 +1,285 @@
+//! Buffers of fixed size in front of a reader and behind a writer.
+ghost use Rattle.std.specs.Prelude.{◌≡◌, ◌+◌, ◌≤◌, ◌<◌, length, take, slice_range, true, false};
+ghost use Rattle.std.specs.Prelude.{IfErr, IfOk, OnErr, OnOk};
+ghost use Rattle.std.specs.IoError.{error_kind};
+ghost use Rattle.std.specs.Io.{ReadsAtMost, WritesAtMost};
+ghost use Rattle.std.specs.Io.KnownBytes.{Appends, IsAtEnd, Keeps, ReadConsumes, WriteAppends};
+ghost use Rattle.trac_space.specs.Texts.{text_of_cells};
+ghost use Rattle.trac_devices.specs.Counted.{Counts};
+
+use crate::characters::write_characters;
+use crate::counted::{InputDevice, OutputDevice};
+use std::io;
+use std::io::{Read, Write};
+use trac_space::Cell;
+
+const CAPACITY: usize = 8192;
+
+/// A reader that reads up to 8192 bytes ahead: `bytes[start..end]` is read and not yet given.
+#[derive(Drop)]
+pub struct BufferedReader<R> {
+    device: InputDevice<R>,
+    bytes: [u8; CAPACITY],
+    start: usize,
+    end: usize,
+    ghost ordered: { start ≤ end },
+    ghost in_bounds: { end ≤ 8192 },
+}
+
+impl<R: Read> BufferedReader<R> {
+    ghost use Rattle.trac_devices.specs.Buffered.{unread};
+
+    /// The reader, with nothing read ahead.
+    pub fn new(reader: R) -> BufferedReader<R>
+        ensures nothing { (result.start ≡ 0) × (result.end ≡ 0) }
+        ensures reader { result.device.reader ≡ reader }
+        ensures fresh { (result.device.failures ≡ 0) × (result.device.has_ended ≡ false) }
+    {
+        BufferedReader {
+            device: InputDevice::new(reader),
+            bytes: [0; CAPACITY],
+            start: 0,
+            end: 0,
+        }
+    }
+
+    /// The bytes that are read and not yet given.
+    #[inline]
+    pub fn held(&self) -> &[u8]
+        ensures { result.now ≡ slice_range self.now.bytes self.now.start self.now.end }
+    {
+        &self.bytes[self.start..self.end]
+    }
+
+    /// Gives up the first `count` of those bytes.
+    #[inline]
+    pub fn skip(&mut self, count: usize)
+        requires { self.old.start + count ≤ self.old.end }
+        ensures start { self.new.start ≡ self.old.start + count }
+        ensures held { (self.new.bytes ≡ self.old.bytes) × (self.new.end ≡ self.old.end) }
+        ensures device { self.new.device ≡ self.old.device }
+    {
+        self.start += count;
+    }
+
+    // Reads once where nothing is held.
+    fn fill(&mut self) -> io::Result<()>
+        ensures bytes { Keeps (unread R.remaining self.old) (unread R.remaining self.new) }
+        ensures failures { Counts self.old.device.failures self.new.device.failures result }
+        ensures kind { IfErr result (λ e. self.new.device.last_failure ≡ Some (error_kind e)) }
+        ensures held { self.old.start < self.old.end →
+            (self.new.device ≡ self.old.device) × (self.new.start < self.new.end) }
+        ensures end { OnOk result (self.new.start ≡ self.new.end →
+            IsAtEnd (R.remaining self.new.device.reader) × (self.new.device.has_ended ≡ true)) }
+        ensures err { OnErr result (self.new.start ≡ self.new.end) }
+    {
+        if self.start < self.end {
+            return Ok(());
+        }
+        self.start = 0;
+        self.end = 0;
+        let n = self.device.read(&mut self.bytes)?;
+        self.end = n;
+        Ok(())
+    }
+
+    // Gives some of what is held, after a read where nothing is.
+    #[cold]
+    #[inline(never)]
+    fn read_part(&mut self, buf: &mut [u8]) -> io::Result<usize>
+        ensures bound { ReadsAtMost result buf.new }
+        ensures bytes { ReadConsumes (unread R.remaining self.old) (unread R.remaining self.new)
+            result buf.new }
+        ensures failures { Counts self.old.device.failures self.new.device.failures result }
+        ensures kind { IfErr result (λ e. self.new.device.last_failure ≡ Some (error_kind e)) }
+        ensures held { self.old.start < self.old.end → self.new.device ≡ self.old.device }
+        ensures end { IfOk result (λ n.
+            n ≡ 0 → 0 < length buf.new → self.new.device.has_ended ≡ true) }
+    {
+        self.fill()?;
+        let n = (self.end - self.start).min(buf.len());
+        buf[..n].copy_from_slice(&self.bytes[self.start..self.start + n]);
+        self.start += n;
+        Ok(n)
+    }
+}
+
+impl<R: Read> Read for BufferedReader<R> {
+    ghost use Rattle.trac_devices.specs.Buffered.{unread};
+
+    ghost remaining = { λ r. unread R.remaining r };
+
+    #[inline]
+    fn read(&mut self, buf: &mut [u8]) -> io::Result<usize>
+        ensures bound { ReadsAtMost result buf.new }
+        ensures bytes { ReadConsumes (unread R.remaining self.old) (unread R.remaining self.new)
+            result buf.new }
+        ensures failures { Counts self.old.device.failures self.new.device.failures result }
+        ensures kind { IfErr result (λ e. self.new.device.last_failure ≡ Some (error_kind e)) }
+        ensures held { self.old.start < self.old.end → self.new.device ≡ self.old.device }
+        ensures end { IfOk result (λ n.
+            n ≡ 0 → 0 < length buf.new → self.new.device.has_ended ≡ true) }
+    {
+        if buf.len() == 1 && self.start < self.end {
+            buf[0] = self.bytes[self.start];
+            self.start += 1;
+            return Ok(1);
+        }
+        self.read_part(buf)
+    }
+}
+
+/// A writer that holds up to 8192 bytes back: `bytes[start..end]` is given and not yet written.
+/// `flush` writes it.
+#[derive(Drop)]
+pub struct BufferedWriter<W> {
+    device: OutputDevice<W>,
+    bytes: [u8; CAPACITY],
+    start: usize,
+    end: usize,
+    ghost ordered: { start ≤ end },
+    ghost in_bounds: { end ≤ 8192 },
+}
+
+impl<W: Write> BufferedWriter<W> {
+    ghost use Rattle.trac_devices.specs.Buffered.{accepted, WaitsOn};
+
+    /// The writer, with nothing held back.
+    pub fn new(writer: W) -> BufferedWriter<W>
+        ensures nothing { (result.start ≡ 0) × (result.end ≡ 0) }
+        ensures writer { result.device.writer ≡ writer }
+        ensures fresh { (result.device.failures ≡ 0) × (result.device.is_flushed ≡ false) }
+    {
+        BufferedWriter {
+            device: OutputDevice::new(writer),
+            bytes: [0; CAPACITY],
+            start: 0,
+            end: 0,
+        }
+    }
+
+    // Writes all that waits. After a failure the rest waits on.
+    fn write_out(&mut self) -> io::Result<()>
+        ensures bytes { Keeps (accepted W.contents self.old) (accepted W.contents self.new) }
+        ensures failures { Counts self.old.device.failures self.new.device.failures result }
+        ensures kind { IfErr result (λ e. self.new.device.last_failure ≡ Some (error_kind e)) }
+        ensures empty { OnOk result ((self.new.start ≡ 0) × (self.new.end ≡ 0)) }
+        ensures rest { OnErr result (WaitsOn self.old self.new) }
+    {
+        let all = &self.bytes[..];
+        let (written, result) = write_until_failure(&all[self.start..self.end], &mut self.device);
+        self.start += written;
+        result?;
+        self.start = 0;
+        self.end = 0;
+        Ok(())
+    }
+
+    // Writes all that waits, where no byte more can wait.
+    fn make_room(&mut self) -> io::Result<()>
+        ensures bytes { Keeps (accepted W.contents self.old) (accepted W.contents self.new) }
+        ensures failures { Counts self.old.device.failures self.new.device.failures result }
+        ensures kind { IfErr result (λ e. self.new.device.last_failure ≡ Some (error_kind e)) }
+        ensures same { self.old.end < 8192 → self.new ≡ self.old }
+        ensures room { OnOk result (self.new.end < 8192) }
+        ensures rest { OnErr result (WaitsOn self.old self.new) }
+    {
+        if self.end < CAPACITY {
+            return Ok(());
+        }
+        self.write_out()
+    }
+
+    // Takes some bytes, once there is room.
+    #[inline(never)]
+    fn write_part(&mut self, buf: &[u8]) -> io::Result<usize>
+        ensures bound { WritesAtMost result buf.now }
+        ensures bytes { WriteAppends (accepted W.contents self.old) (accepted W.contents self.new)
+            result buf.now }
+        ensures failures { Counts self.old.device.failures self.new.device.failures result }
+        ensures kind { IfErr result (λ e. self.new.device.last_failure ≡ Some (error_kind e)) }
+        ensures some { IfOk result (λ n. 0 < length buf.now → 0 < n) }
+        ensures room { self.old.end < 8192 → self.new.device ≡ self.old.device }
+        ensures rest { OnErr result (WaitsOn self.old self.new) }
+    {
+        self.make_room()?;
+        let n = (CAPACITY - self.end).min(buf.len());
+        self.bytes[self.end..self.end + n].copy_from_slice(&buf[..n]);
+        self.end += n;
+        Ok(n)
+    }
+
+    /// Takes the characters of some cells, once there is room.
+    pub fn write_cells(&mut self, text: &[Cell]) -> io::Result<usize>
+        ensures bound { WritesAtMost result (text_of_cells text.now) }
+        ensures bytes { WriteAppends (accepted W.contents self.old) (accepted W.contents self.new)
+            result (text_of_cells text.now) }
+        ensures failures { Counts self.old.device.failures self.new.device.failures result }
+        ensures kind { IfErr result (λ e. self.new.device.last_failure ≡ Some (error_kind e)) }
+        ensures some { IfOk result (λ n. 0 < length text.now → 0 < n) }
+        ensures room { self.old.end < 8192 → self.new.device ≡ self.old.device }
+        ensures rest { OnErr result (WaitsOn self.old self.new) }
+    {
+        self.make_room()?;
+        let n = (CAPACITY - self.end).min(text.len());
+        write_characters(&text[..n], &mut self.bytes[self.end..self.end + n]);
+        self.end += n;
+        Ok(n)
+    }
+}
+
+// Writes until all is written or a write fails, and returns how many bytes were written.
+fn write_until_failure<W: Write>(bytes: &[u8], to: &mut OutputDevice<W>) -> (usize, io::Result<()>)
+    ensures bound { result.0 ≤ length bytes.now }
+    ensures all { OnOk result.1 (result.0 ≡ length bytes.now) }
+    ensures rest { OnErr result.1 (result.0 < length bytes.now) }
+    ensures bytes { Appends (W.contents to.old.writer) (W.contents to.new.writer)
+        (take result.0 bytes.now) }
+    ensures failures { Counts to.old.failures to.new.failures result.1 }
+    ensures kind { IfErr result.1 (λ e. to.new.last_failure ≡ Some (error_kind e)) }
+{
+    let mut written = 0;
+    while written < bytes.len() {
+        match to.write(&bytes[written..]) {
+            Ok(n) => written += n,
+            Err(error) => return (written, Err(error)),
+        }
+    }
+    (written, Ok(()))
+}
+
+impl<W: Write> Write for BufferedWriter<W> {
+    ghost use Rattle.trac_devices.specs.Buffered.{accepted, WaitsOn};
+
+    ghost contents = { λ w. accepted W.contents w };
+
+    #[inline]
+    fn write(&mut self, buf: &[u8]) -> io::Result<usize>
+        ensures bound { WritesAtMost result buf.now }
+        ensures bytes { WriteAppends (accepted W.contents self.old) (accepted W.contents self.new)
+            result buf.now }
+        ensures failures { Counts self.old.device.failures self.new.device.failures result }
+        ensures kind { IfErr result (λ e. self.new.device.last_failure ≡ Some (error_kind e)) }
+        ensures some { IfOk result (λ n. 0 < length buf.now → 0 < n) }
+        ensures room { self.old.end < 8192 → self.new.device ≡ self.old.device }
+        ensures rest { OnErr result (WaitsOn self.old self.new) }
+    {
+        if buf.len() == 1 && self.end < CAPACITY {
+            self.bytes[self.end] = buf[0];
+            self.end += 1;
+            return Ok(1);
+        }
+        self.write_part(buf)
+    }
+
+    fn flush(&mut self) -> io::Result<()>
+        ensures bytes { Keeps (accepted W.contents self.old) (accepted W.contents self.new) }
+        ensures failures { Counts self.old.device.failures self.new.device.failures result }
+        ensures kind { IfErr result (λ e. self.new.device.last_failure ≡ Some (error_kind e)) }
+        ensures empty { OnOk result ((self.new.start ≡ 0) × (self.new.end ≡ 0)) }
+        ensures flushed { OnOk result (self.new.device.is_flushed ≡ true) }
+    {
+        self.write_out()?;
+        self.device.flush()
+    }
+}

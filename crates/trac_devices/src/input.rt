@@ -1,0 +1,82 @@
+//! A source over a reader behind a buffer.
+ghost use Rattle.std.specs.Prelude.{◌≡◌, ◌+◌, ◌-◌, ◌^◌, ◌<◌, false, true, IsSome};
+ghost use Rattle.trac_devices.specs.Devices.{Gives, failures_of_next, told_stream};
+ghost use Rattle.trac_devices.specs.Slices.{IfTells};
+ghost use Rattle.trac_devices.specs.Buffered.{unread};
+
+use crate::buffered::BufferedReader;
+use crate::device::{Next, Source};
+use crate::retrying::RetryingReader;
+use std::io::Read;
+use trac_forms::Work;
+
+/// A source over a reader behind a buffer, which gives what the buffer holds at once. A read that
+/// was interrupted is tried again, each other error is a failure; after a read of no byte it has
+/// ended, and reads no more. This processor's own choice.
+#[derive(Drop)]
+pub struct Input<R> {
+    reader: BufferedReader<RetryingReader<R>>,
+    ended: bool,
+    failures: u64,
+}
+
+impl<R: Read> Input<R> {
+    /// A source that gives what the reader gives.
+    pub fn new(reader: R) -> Input<R>
+        ensures tells { IsSome (R.remaining reader) → ⟦<Input<R> as Source>⟧.tells result }
+        ensures stream { ⟦<Input<R> as Source>⟧.stream result ≡
+            told_stream (R.remaining reader) false }
+        ensures none { ⟦<Input<R> as Source>⟧.failure_count result ≡ 0 }
+    {
+        Input {
+            reader: BufferedReader::new(RetryingReader::new(reader)),
+            ended: false,
+            failures: 0,
+        }
+    }
+}
+
+impl<R: Read> Source for Input<R> {
+    ghost tells = { λ s. IfTells (unread (λ r. R.remaining r.reader) s.reader) s.ended };
+
+    ghost stream = { λ s. told_stream (unread (λ r. R.remaining r.reader) s.reader) s.ended };
+
+    ghost failure_count = { λ s. s.failures };
+
+    fn take_held(&mut self, stop: u8, work: &mut Work) {
+        let count = work.push_before(stop, self.reader.held());
+        self.reader.skip(count);
+    }
+
+    fn next(&mut self) -> Next
+        requires { self.old.failures < 2 ^ 64 - 1 }
+        ensures ended { self.old.ended ≡ true → (result ≡ Next.End) × (self.new ≡ self.old) }
+        ensures gives { IfTells (unread (λ r. R.remaining r.reader) self.old.reader) self.old.ended →
+            Gives (told_stream (unread (λ r. R.remaining r.reader) self.old.reader) self.old.ended)
+            result
+            (told_stream (unread (λ r. R.remaining r.reader) self.new.reader) self.new.ended) }
+        ensures told { IfTells (unread (λ r. R.remaining r.reader) self.old.reader) self.old.ended →
+            IfTells (unread (λ r. R.remaining r.reader) self.new.reader) self.new.ended }
+        ensures counts { self.new.failures ≡ self.old.failures + failures_of_next result }
+    {
+        if self.ended {
+            return Next::End;
+        }
+        let mut byte = [0];
+        match self.reader.read(&mut byte) {
+            Ok(0) => {
+                self.ended = true;
+                Next::End
+            }
+            Ok(_) => Next::Byte(byte[0]),
+            Err(_) => {
+                self.failures += 1;
+                Next::Failed
+            }
+        }
+    }
+
+    fn failures(&self) -> u64 {
+        self.failures
+    }
+}

@@ -1,0 +1,82 @@
+//! A sink over a writer behind a buffer.
+ghost use Rattle.std.specs.Prelude.{◌≡◌, ◌+◌, ◌-◌, ◌<◌, [], true, IsSome, unwrap_or};
+ghost use Rattle.trac_devices.specs.Buffered.{accepted};
+
+use crate::buffered::BufferedWriter;
+use crate::device::{Sink, SinkFailed};
+use crate::retrying::RetryingWriter;
+use std::io::Write;
+use trac_space::Cell;
+
+/// A sink over a writer behind a buffer, by writes of one byte or of many. It
+/// is flushed where nothing waits in the buffer and the writer was flushed
+/// after its last write. A call that was interrupted is tried again; another
+/// error, or a write of no byte, is a failure. This processor's own choice.
+#[derive(Drop)]
+pub struct Output<W> {
+    writer: BufferedWriter<RetryingWriter<W>>,
+    failures: u64,
+}
+
+impl<W: Write> Output<W> {
+    /// A sink that writes to the writer.
+    pub fn new(writer: W) -> Output<W>
+        ensures tells { IsSome (W.contents writer) → ⟦<Output<W> as Sink>⟧.tells result }
+        ensures written { ⟦<Output<W> as Sink>⟧.written result ≡ unwrap_or (W.contents writer) [] }
+        ensures none { ⟦<Output<W> as Sink>⟧.failure_count result ≡ 0 }
+    {
+        Output {
+            writer: BufferedWriter::new(RetryingWriter::new(writer)),
+            failures: 0,
+        }
+    }
+}
+
+impl<W: Write> Sink for Output<W> {
+    ghost tells = { λ s. IsSome (accepted (λ w. W.contents w.writer) s.writer) };
+
+    ghost written = { λ s. unwrap_or (accepted (λ w. W.contents w.writer) s.writer) [] };
+
+    ghost flushed = { λ s. (s.writer.start ≡ s.writer.end) × (s.writer.device.is_flushed ≡ true) };
+
+    ghost failure_count = { λ s. s.failures };
+
+    #[inline]
+    fn put(&mut self, byte: u8) -> Result<(), SinkFailed> {
+        match self.writer.write(&[byte]) {
+            Ok(1) => Ok(()),
+            _ => {
+                self.failures += 1;
+                Err(SinkFailed)
+            }
+        }
+    }
+
+    fn put_all(&mut self, text: &[Cell]) -> Result<(), SinkFailed> {
+        let mut taken = 0;
+        while taken < text.len() {
+            match self.writer.write_cells(&text[taken..]) {
+                Ok(count) => taken += count,
+                Err(_) => {
+                    self.failures += 1;
+                    return Err(SinkFailed);
+                }
+            }
+        }
+        Ok(())
+    }
+
+    fn flush(&mut self) -> Result<(), SinkFailed> {
+        match self.writer.flush() {
+            Ok(()) => Ok(()),
+            Err(_) => {
+                self.failures += 1;
+                Err(SinkFailed)
+            }
+        }
+    }
+
+    fn failures(&self) -> u64 {
+        self.failures
+    }
+}

@@ -1,0 +1,69 @@
+//! A sink over a writer.
+ghost use Rattle.std.specs.Prelude.{◌≡◌, ◌+◌, ◌-◌, ◌<◌, [], IsSome, unwrap_or, true, false};
+
+use crate::device::{Sink, SinkFailed};
+use std::io::Write;
+
+/// A sink over a writer, by writes of one byte. An error, or a
+/// write of no byte, is a failure. This processor's own choice.
+#[derive(Drop)]
+pub struct WriteSink<W> {
+    writer: W,
+    failures: u64,
+    is_flushed: bool,
+}
+
+impl<W: Write> WriteSink<W> {
+    /// A sink that writes to the writer.
+    pub fn new(writer: W) -> WriteSink<W>
+        ensures tells { IsSome (W.contents writer) → ⟦<WriteSink<W> as Sink>⟧.tells result }
+        ensures written { ⟦<WriteSink<W> as Sink>⟧.written result ≡
+            unwrap_or (W.contents writer) [] }
+        ensures flushed { ⟦<WriteSink<W> as Sink>⟧.flushed result }
+        ensures none { ⟦<WriteSink<W> as Sink>⟧.failure_count result ≡ 0 }
+    {
+        WriteSink {
+            writer,
+            failures: 0,
+            is_flushed: true,
+        }
+    }
+}
+
+impl<W: Write> Sink for WriteSink<W> {
+    ghost tells = { λ s. IsSome (W.contents s.writer) };
+
+    ghost written = { λ s. unwrap_or (W.contents s.writer) [] };
+
+    ghost flushed = { λ s. s.is_flushed ≡ true };
+
+    ghost failure_count = { λ s. s.failures };
+
+    fn put(&mut self, byte: u8) -> Result<(), SinkFailed> {
+        self.is_flushed = false;
+        match self.writer.write(&[byte]) {
+            Ok(1) => Ok(()),
+            _ => {
+                self.failures += 1;
+                Err(SinkFailed)
+            }
+        }
+    }
+
+    fn flush(&mut self) -> Result<(), SinkFailed> {
+        match self.writer.flush() {
+            Ok(()) => {
+                self.is_flushed = true;
+                Ok(())
+            }
+            Err(_) => {
+                self.failures += 1;
+                Err(SinkFailed)
+            }
+        }
+    }
+
+    fn failures(&self) -> u64 {
+        self.failures
+    }
+}

@@ -1,0 +1,152 @@
+-- Results of bits: how many digits they have, and that they stay when cells are put behind the neutral string.
+use Rattle.std.proofs.Common.{◌≡◌, ℕ, ◌+◌, ◌-◌, ◌*◌, ◌≤◌, max, min, Bool, false, ◌||◌, ◌&&◌, not, List, [], ◌++◌, ◌∷◌, length, slice_range, map, replicate, pos, ℤ, refl, sym, ap, ◌∙◌, subst, arith}
+use Rattle.std.specs.Prelude.{flat_map, ◌+ℤ◌}
+use Rattle.std.specs.Int.{int_rem_euclid}
+use Rattle.std.proofs.lemmas.List.{length-append, length-replicate, length-drop, length-map}
+use Rattle.std.proofs.lemmas.List.FromFn.{length-map-range_with_len}
+use Rattle.trac_language.specs.Text.{Text}
+use Rattle.trac_language.specs.BitString.{Bits, is_octal, bits_of_digit, bit_at, octal, padded, cut, union, intersection, complement, shifted, rotated}
+use Rattle.trac_language.specs.Meaning.{World, valued, bits_result}
+use Rattle.trac_space.specs.declared.cell.Cell.{Cell}
+use Rattle.trac_space.specs.Cells.{seen}
+use Rattle.trac_space.specs.Texts.{text_of_cells, flat_text}
+use Rattle.trac_values.specs.Digits.{IsOctal, EachIs, bits_of_cells, signed}
+use Rattle.trac_values.proofs.Texts.{length-text}
+use Rattle.trac_values.proofs.OctalDigits.{length-octal, length-bits_of}
+use Rattle.trac_values.proofs.DigitBits.{length-bitwise}
+use Rattle.trac_values.proofs.Shifts.{rotation_same}
+use Rattle.trac_forms.specs.Contents.{Contents, used}
+use Rattle.trac_functions.specs.declared.bit_strings.BitResult.{BitResult}
+use Rattle.trac_functions.specs.declared.bit_strings.BitResult.TheVariants.{Union, Intersection, Complement, Shift, Rotation}
+use Rattle.trac_functions.specs.BitResults.{AreDigits, AreFor, bits_at, bits_made}
+use Rattle.trac_functions.proofs.PutCharacters.{with_text, used-with, with-both}
+use Rattle.trac_functions.proofs.ArgumentLemmas.{text_of_cells-seen}
+use Rattle.trac_functions.proofs.DigitParts.{length-part, part-append}
+
+-- ---- how many digits there are
+
+pub length-at : (neutral : List Cell) (part : ℕ × ℕ) → AreDigits neutral part → length (bits_at neutral part) ≡ 3 * (part.1 - part.0)
+length-at neutral part are =
+    let cells = slice_range neutral part.0 part.1 in
+    omega (arith, length-bits_of (text_of_cells cells), length-text cells, length-part neutral part.0 part.1 are.order are.within)
+
+length-padded : (n : ℕ) (l : Bits) → length (padded n l) ≡ max n (length l)
+length-padded n l = omega (arith, length-append (replicate (n - length l) false) l, length-replicate {A = Bool} (n - length l) false)
+
+length-cut : (n : ℕ) (l : Bits) → length (cut n l) ≡ min n (length l)
+length-cut n l = omega (arith, length-drop (length l - n) l)
+
+length-union : (l m : Bits) → length (union l m) ≡ max (length l) (length m)
+length-union l m =
+    let left = length-padded (length m) l in
+    let right = length-padded (length l) m in
+    length-bitwise ◌||◌ (padded (length m) l) (padded (length l) m) (omega arith) ∙ omega arith
+
+length-intersection : (l m : Bits) → length (intersection l m) ≡ min (length l) (length m)
+length-intersection l m =
+    let left = length-cut (length m) l in
+    let right = length-cut (length l) m in
+    length-bitwise ◌&&◌ (cut (length m) l) (cut (length l) m) (omega arith) ∙ omega arith
+
+module _ (neutral : List Cell) (a : ℕ × ℕ) (are : AreDigits neutral a) where
+  pub complement-digits : a.1 - a.0 ≡ length (octal (complement (bits_at neutral a)))
+  complement-digits =
+      let l = bits_at neutral a in
+      omega (arith, length-octal (complement l), length-map l not, length-at neutral a are)
+
+  pub shift-digits : (d : ℤ) → a.1 - a.0 ≡ length (octal (shifted d (bits_at neutral a)))
+  shift-digits d =
+      let l = bits_at neutral a in
+      omega (arith, length-octal (shifted d l), length-map-range_with_len (λ i. bit_at l (pos i +ℤ d)) 0 (length l), length-at neutral a are)
+
+  pub rotation-digits : (d : ℤ) → a.1 - a.0 ≡ length (octal (rotated d (bits_at neutral a)))
+  rotation-digits d =
+      let l = bits_at neutral a in
+      omega (arith, length-octal (rotated d l), length-map-range_with_len (λ i. bit_at l (int_rem_euclid (pos i +ℤ d) (pos (length l)))) 0 (length l), length-at neutral a are)
+
+  module _ (b : ℕ × ℕ) (others : AreDigits neutral b) where
+    pub union-digits : max (a.1 - a.0) (b.1 - b.0) ≡ length (octal (union (bits_at neutral a) (bits_at neutral b)))
+    union-digits =
+        omega (arith, length-octal (union (bits_at neutral a) (bits_at neutral b)), length-union (bits_at neutral a) (bits_at neutral b), length-at neutral a are, length-at neutral b others)
+
+    pub intersection-digits : min (a.1 - a.0) (b.1 - b.0) ≡ length (octal (intersection (bits_at neutral a) (bits_at neutral b)))
+    intersection-digits =
+        omega (arith, length-octal (intersection (bits_at neutral a) (bits_at neutral b)), length-intersection (bits_at neutral a) (bits_at neutral b), length-at neutral a are, length-at neutral b others)
+
+-- ---- digits as cells that were read
+
+pub seen-octal : (cells part : List Cell) → map seen cells ≡ part → IsOctal part → IsOctal cells
+seen-octal cells part e octal = subst (EachIs is_octal) (sym (ap text_of_cells e) ∙ text_of_cells-seen cells) octal
+
+pub seen-bits : (cells part : List Cell) → map seen cells ≡ part → bits_of_cells cells ≡ bits_of_cells part
+seen-bits cells part e = ap (flat_map bits_of_digit) (sym (text_of_cells-seen cells) ∙ ap text_of_cells e)
+
+-- ---- cells put behind the neutral string
+
+module _ (neutral behind : List Cell) where
+  grown-at : (part : ℕ × ℕ) → AreDigits neutral part → bits_at (neutral ++ behind) part ≡ bits_at neutral part
+  grown-at part are = ap (λ cells. bits_of_cells cells) (part-append neutral behind part.0 part.1 are.order are.within)
+
+  grown-digits : (part : ℕ × ℕ) → AreDigits neutral part → AreDigits (neutral ++ behind) part
+  grown-digits part are =
+      let within = are.within in
+      record {
+        order = are.order;
+        within = omega (arith, length-append neutral behind);
+        octal = subst IsOctal (sym (part-append neutral behind part.0 part.1 are.order are.within)) are.octal;
+      }
+
+  pub grown-for : (bits : BitResult) → AreFor neutral bits → AreFor (neutral ++ behind) bits
+  grown-for (Union a b) are = (grown-digits a are.0, grown-digits b are.1)
+  grown-for (Intersection a b) are = (grown-digits a are.0, grown-digits b are.1)
+  grown-for (Complement a) are = grown-digits a are
+  grown-for (Shift by a) are = grown-digits a are
+  grown-for (Rotation by a) are = (grown-digits a are.0, are.1)
+
+  pub grown-made : (bits : BitResult) → AreFor neutral bits → bits_made (neutral ++ behind) bits ≡ bits_made neutral bits
+  grown-made (Union a b) are = ap (λ l. union l (bits_at (neutral ++ behind) b)) (grown-at a are.0) ∙ ap (union (bits_at neutral a)) (grown-at b are.1)
+  grown-made (Intersection a b) are = ap (λ l. intersection l (bits_at (neutral ++ behind) b)) (grown-at a are.0) ∙ ap (intersection (bits_at neutral a)) (grown-at b are.1)
+  grown-made (Complement a) are = ap (λ l. complement l) (grown-at a are)
+  grown-made (Shift by a) are = ap (λ l. shifted (signed by.negative by.size) l) (grown-at a are)
+  grown-made (Rotation by a) are = ap (λ l. rotated (pos by) l) (grown-at a are.0)
+
+-- ---- a result has no more digits than there are cells in the neutral string
+
+part-within : (neutral : List Cell) (part : ℕ × ℕ) → AreDigits neutral part → part.1 - part.0 ≤ length neutral
+part-within neutral part are = let within = are.within in omega arith
+
+pub made-within : (neutral : List Cell) (bits : BitResult) → AreFor neutral bits → length (octal (bits_made neutral bits)) ≤ length neutral
+made-within neutral (Union a b) are = omega (arith, union-digits neutral a are.0 b are.1, part-within neutral a are.0, part-within neutral b are.1)
+made-within neutral (Intersection a b) are = omega (arith, intersection-digits neutral a are.0 b are.1, part-within neutral a are.0)
+made-within neutral (Complement a) are = omega (arith, complement-digits neutral a are, part-within neutral a are)
+made-within neutral (Shift by a) are = omega (arith, shift-digits neutral a are (signed by.negative by.size), part-within neutral a are)
+made-within neutral (Rotation by a) are = omega (arith, rotation-digits neutral a are.0 (pos by), part-within neutral a are.0)
+
+-- ---- a result that is put behind a text
+
+module _ (old now : Contents) (text : Text) (bits : BitResult) (are : AreFor old.neutral bits) (e : now ≡ with_text old text) where
+  pub behind-parts : AreFor now.neutral bits
+  behind-parts = subst (λ (w : Contents). AreFor w.neutral bits) (sym e) (grown-for old.neutral (flat_text text) bits are)
+
+  pub behind-made : octal (bits_made now.neutral bits) ≡ octal (bits_made old.neutral bits)
+  behind-made = ap (λ (w : Contents). octal (bits_made w.neutral bits)) e ∙ ap octal (grown-made old.neutral (flat_text text) bits are)
+
+  pub behind-fits : used old + length text + length (octal (bits_made old.neutral bits)) ≤ old.room → used now + length (octal (bits_made now.neutral bits)) ≤ now.room
+  behind-fits fits =
+      let same = ap length behind-made in
+      let cells = ap (λ (w : Contents). used w) e ∙ used-with old text in
+      let room = ap (λ (w : Contents). w.room) e in
+      omega (arith, same, cells, room)
+
+  pub behind-all : (new : Contents) → new ≡ with_text now (octal (bits_made now.neutral bits)) → new ≡ with_text old (text ++ octal (bits_made old.neutral bits))
+  behind-all new put = put ∙ ap (λ t. with_text now t) behind-made ∙ ap (λ w. with_text w (octal (bits_made old.neutral bits))) e ∙ with-both old text (octal (bits_made old.neutral bits))
+
+-- ---- the values of calls
+
+pub bits-means : (before prefix : Text) (made bits : Bits) (w : World) → before ≡ prefix → made ≡ bits → bits_result prefix bits w ≡ valued (before ++ octal made) w
+bits-means before prefix made bits w same_prefix same_bits = ap (λ t. bits_result t bits w) (sym same_prefix) ∙ ap (λ l. bits_result before l w) (sym same_bits)
+
+-- a rotation of no bits, too
+pub rotation-any : (d : ℤ) (r n : ℕ) (l : Bits) → n ≡ max (length l) 1 → int_rem_euclid d (pos n) ≡ pos r → rotated (pos r) l ≡ rotated d l
+rotation-any d r n [] long is = refl
+rotation-any d r n (b ∷ l) long is = let e : length (b ∷ l) ≡ n = omega arith in rotation_same d r (b ∷ l) (ap (λ n. int_rem_euclid d (pos n)) e ∙ is)

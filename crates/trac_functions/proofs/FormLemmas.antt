@@ -1,0 +1,199 @@
+-- Lists of forms, and what the functions that change them make of a call.
+use Rattle.std.proofs.Common.{◌≡◌, ℕ, zero, suc, ◌+◌, ◌<◌, ◌≤◌, Bool, true, false, List, [], ◌∷◌, ◌++◌, length, drop, set, slice_range, subst, ◌-◌, refl, sym, ap, ◌∙◌, arith, Some, nat_le, ⊎_elim}
+use Rattle.std.specs.Prelude.{if◌then◌else◌, flat_map, filter, bytes_eq, not, ◌||◌}
+use Rattle.std.specs.List.{list_any}
+use Rattle.std.proofs.lemmas.Bool.{cases_lt}
+use Rattle.std.proofs.lemmas.List.{append-nil, length-map, drop_more, drop_all, get_or-set_same, set-set, set-get_or}
+use Rattle.std.proofs.lemmas.Slice.Eq.{bytes_eq-Decides}
+use Rattle.std.proofs.lemmas.List.Edits.{length-between}
+use Rattle.std.proofs.lemmas.List.Elements.{All-nil, All-cons}
+use Rattle.trac_language.specs.declared.function.Function.{Function}
+use Rattle.trac_language.specs.Text.{Text}
+use Rattle.trac_language.specs.Form.{Form}
+use Rattle.trac_language.specs.Segment.{segment_by}
+use Rattle.trac_language.specs.Store.{IsStore, NoneNamed, is_named, without}
+use Rattle.trac_language.specs.Meaning.{World, meaning_of, built, value_length}
+use Rattle.trac_language.specs.State.{argument}
+use Rattle.trac_space.specs.declared.cell.Cell.{Cell}
+use Rattle.trac_space.specs.declared.cell.Cell.TheVariants.{Byte, Call, Comma, Gap, Head}
+use Rattle.trac_space.specs.Texts.{character_of}
+use Rattle.trac_forms.specs.Contents.{Contents, IsSound, form_at, name_at, body_at, pointer_at, IsTextPart, part_text, AreTextParts, part_texts}
+use Rattle.trac_forms.specs.Arguments.{before_comma, parts_between, texts_between, AreParted}
+use Rattle.trac_forms.proofs.Stores.{without-none}
+use Rattle.trac_forms.proofs.Parted.{parts-first, parts-none}
+use Rattle.trac_functions.specs.declared.arguments.Arguments.{Arguments}
+use Rattle.trac_functions.specs.Flat.{texts_of, in_first, with_first}
+use Rattle.trac_functions.specs.Calls.{Means, IsValue, AreArguments, texts, texts_from}
+use Rattle.trac_functions.proofs.ArgumentLemmas.{none-left, taken-part, taken-text, taken-rest, taken-left}
+use Rattle.trac_functions.proofs.MadeValues.{valued-of}
+
+-- a null value, of which nothing stands at the end of neutral
+pub null-value : (f : Function) (args : List Text) (old new : Contents) → IsSound old → Means f args old.forms [] false new.forms → ((w : World) → built (Some f) args w ≡ value_length (meaning_of f args w)) → new ≡ record old { forms = new.forms } → IsValue f args old new false []
+null-value f args old new sound means built_is same =
+    record {
+      valued = valued-of f args old.forms new.forms [] false means built_is;
+      fits = let fits = sound.fits in omega arith;
+      stands = same ∙ ap (λ cells. record old { forms = new.forms; neutral = cells }) (sym (append-nil old.neutral));
+    }
+
+pub unchanged : (f : Function) (args : List Text) (old new : Contents) → IsSound old → Means f args old.forms [] false old.forms → ((w : World) → built (Some f) args w ≡ value_length (meaning_of f args w)) → new ≡ old → IsValue f args old new false []
+unchanged f args old new sound means built_is same = rw same (null-value f args old old sound means built_is refl)
+
+-- how many characters a part of neutral has
+pub length-part : (neutral : List Cell) (a b : ℕ) → IsTextPart neutral a b → length (part_text neutral a b) ≡ b - a
+length-part neutral a b part = length-map (slice_range neutral a b) character_of ∙ length-between neutral a b part.within
+
+-- each form's name behind a text
+abbrev pub names : Text → List Form → Text
+names before forms = flat_map (λ form. before ++ form.name) forms
+
+-- the names of the forms from one on begin with its name
+pub names-more : (before : Text) (forms : List Form) (k : ℕ) → k < length forms → names before (drop k forms) ≡ (before ++ name_at forms k) ++ names before (drop (k + 1) forms)
+names-more before forms k within = ap (names before) (drop_more forms k (record { name = []; body = []; pointer = 0 }) within)
+
+pub names-none : (before : Text) (forms : List Form) (k : ℕ) → length forms ≤ k → names before (drop k forms) ≡ []
+names-none before forms k past = ap (names before) (drop_all k forms past)
+
+-- ---- arguments that are left
+
+pub arguments-kept : (w v : Contents) (a : Arguments) → AreArguments w a → IsSound v → v.neutral ≡ w.neutral → AreArguments v a
+arguments-kept w v a are sound same =
+    record { sound = sound; order = are.order; within = rw same are.within; no_call = rw same are.no_call }
+
+texts_from-some : (neutral : List Cell) (from end : ℕ) → from ≤ end → texts_from neutral from end ≡ texts_of (slice_range neutral from end)
+texts_from-some neutral from end le = let yes : nat_le from end ≡ true = grind arith in rw yes refl
+
+texts_of-some : (cells : List Cell) → 0 < length (texts_of cells)
+texts_of-some [] = omega arith
+texts_of-some (cell ∷ cells) = go cell (texts_of cells)
+  where
+    in_first-some : (c : ℕ) (texts : List Text) → 0 < length (in_first c texts)
+    in_first-some c [] = omega arith
+    in_first-some c (text ∷ texts) = omega arith
+
+    go : (cell : Cell) (texts : List Text) → 0 < length (with_first cell texts)
+    go (Byte c) texts = in_first-some c texts
+    go (Call mode k) texts = in_first-some 0 texts
+    go Comma texts = omega arith
+    go (Gap k) texts = in_first-some 0 texts
+    go (Head k) texts = in_first-some 0 texts
+
+first_of_some : (texts : List Text) → 0 < length texts → texts ≡ argument texts 0 ∷ drop 1 texts
+first_of_some [] some = absurd (omega arith)
+first_of_some (text ∷ texts) some = refl
+
+some-left : (w : Contents) (a : Arguments) → a.from ≤ a.end → texts w a ≡ argument (texts w a) 0 ∷ drop 1 (texts w a)
+some-left w a le = first_of_some (texts w a) (rw (texts_from-some w.neutral a.from a.end le) (texts_of-some (slice_range w.neutral a.from a.end)))
+
+-- the arguments that are left are the next and those after it
+pub next-left : (w : Contents) (a b : Arguments) → a.from ≤ a.end → texts w b ≡ drop 1 (texts w a) → texts w a ≡ argument (texts w a) 0 ∷ texts w b
+next-left w a b le rest = some-left w a le ∙ ap (λ ts. argument (texts w a) 0 ∷ ts) (sym rest)
+
+-- the parts between comma marks are the arguments that are left
+abbrev AreLeft : Contents → Arguments → Type 0
+AreLeft w a = AreTextParts w.neutral (parts_between w.neutral a.from a.end) × (texts_between w.neutral a.from a.end ≡ texts w a)
+
+abbrev Part : Contents → ℕ × ℕ → Type 0
+Part w part = IsTextPart w.neutral part.0 part.1
+
+parts-past : (w : Contents) (a : Arguments) → a.end < a.from → AreLeft w a
+parts-past w a past =
+    let none = parts-none w.neutral a.from a.end past in
+    (rw none (All-nil (Part w)), ap (part_texts w.neutral) none ∙ sym (none-left w a past))
+
+parts-left : (w : Contents) (fuel : ℕ) (a : Arguments) → AreArguments w a → a.end + 1 - a.from ≤ fuel → AreLeft w a
+parts-left w zero a are few = parts-past w a (omega (arith, few))
+parts-left w (suc fuel) a are few = ⊎_elim (parts-past w a) (λ le.
+    let n = before_comma (slice_range w.neutral a.from a.end) in
+    let b : Arguments = record { from = a.from + n + 1; end = a.end } in
+    let first = parts-first w.neutral a.from a.end n le are.within refl in
+    let rest = taken-rest w a are le in
+    let later = parts-left w fuel b (taken-left w a b are le refl refl) (omega (arith, few)) in (
+      rw first (All-cons (Part w) (a.from, a.from + n) (parts_between w.neutral b.from b.end) (taken-part w a are le) later.0),
+      ap (part_texts w.neutral) first
+          ∙ ap (λ text. text ∷ texts_between w.neutral b.from b.end) (taken-text w a are le)
+          ∙ ap (λ ts. argument (texts w a) 0 ∷ ts) later.1
+          ∙ sym (next-left w a b le rest),
+    )) (cases_lt a.end a.from)
+
+pub parted : (w : Contents) (a : Arguments) → AreArguments w a → AreParted w.neutral a.from a.end
+parted w a are =
+    let sound = are.sound in
+    record { order = are.order; within = are.within; bounded = omega (arith, are.within, sound.fits, sound.bounded); texts = (parts-left w (a.end + 1 - a.from) a are (omega arith)).0 }
+
+pub parted-texts : (w : Contents) (a : Arguments) → AreArguments w a → texts_between w.neutral a.from a.end ≡ texts w a
+parted-texts w a are = (parts-left w (a.end + 1 - a.from) a are (omega arith)).1
+
+pub fewer-left : (w : Contents) (a b : Arguments) → a.from ≤ a.end → texts w b ≡ drop 1 (texts w a) → length (texts w b) < length (texts w a)
+fewer-left w a b le rest = omega (arith, ap length (next-left w a b le rest))
+
+-- there are no more arguments than places among the cells
+texts_of-bound : (cells : List Cell) → length (texts_of cells) ≤ suc (length cells)
+texts_of-bound [] = omega arith
+texts_of-bound (cell ∷ cells) = go cell (texts_of cells) (texts_of-bound cells)
+  where
+    in_first-bound : (c : ℕ) (texts : List Text) → length (in_first c texts) ≤ suc (length texts)
+    in_first-bound c [] = omega arith
+    in_first-bound c (text ∷ texts) = omega arith
+
+    go : (cell : Cell) (texts : List Text) → length texts ≤ suc (length cells) → length (with_first cell texts) ≤ suc (suc (length cells))
+    go (Byte c) texts h = omega (arith, in_first-bound c texts)
+    go (Call mode k) texts h = omega (arith, in_first-bound 0 texts)
+    go Comma texts h = omega arith
+    go (Gap k) texts h = omega (arith, in_first-bound 0 texts)
+    go (Head k) texts h = omega (arith, in_first-bound 0 texts)
+
+pub texts-bounded : (w : Contents) (a : Arguments) → AreArguments w a → length (texts w a) ≤ 16777217
+texts-bounded w a are =
+    let fits = are.sound.fits in
+    let bounded = are.sound.bounded in
+    let within = are.within in
+    let cells = slice_range w.neutral a.from a.end in
+    ⊎_elim
+    (λ past. omega (arith, ap length (none-left w a past)))
+    (λ some. omega (arith, ap length (texts_from-some w.neutral a.from a.end some), texts_of-bound cells, length-between w.neutral a.from a.end are.within))
+    (cases_lt a.end a.from)
+
+-- ---- contents of which only the forms change
+
+pub only-forms : (old now new : Contents) (forms : List Form) → now ≡ record old { forms = now.forms } → new ≡ record now { forms = forms } → new ≡ record old { forms = new.forms }
+only-forms old now new forms same is =
+    is ∙ ap (λ (w : Contents). record w { forms = forms }) same ∙ ap (λ fs. record old { forms = fs }) (sym (ap (λ (w : Contents). w.forms) is))
+
+-- ---- forms without those of some names
+
+abbrev pub unnamed : List Text → List Form → List Form
+unnamed names forms = filter (λ form. not (list_any (bytes_eq form.name) names)) forms
+
+pub unnamed-none : (forms : List Form) → unnamed [] forms ≡ forms
+unnamed-none [] = refl
+unnamed-none (form ∷ forms) = ap (λ fs. form ∷ fs) (unnamed-none forms)
+
+-- that of the first name goes first
+pub unnamed-first : (name : Text) (rest : List Text) (forms : List Form) → IsStore forms → unnamed (name ∷ rest) forms ≡ unnamed rest (without name forms)
+unnamed-first name rest [] h = refl
+unnamed-first name rest (form ∷ forms) h =
+    go (is_named name form) (unnamed-first name rest forms h.2)
+    (λ e. without-none name forms (subst (λ n. NoneNamed n forms) ((bytes_eq-Decides form.name name).0 e) h.1))
+  where
+    go : (b : Bool) → unnamed (name ∷ rest) forms ≡ unnamed rest (without name forms) → (b ≡ true → without name forms ≡ forms) → (if not (b || list_any (bytes_eq form.name) rest) then form ∷ unnamed (name ∷ rest) forms else unnamed (name ∷ rest) forms) ≡ unnamed rest (if b then forms else form ∷ without name forms)
+    go true more alone = more ∙ ap (unnamed rest) (alone refl)
+    go false more alone = ap (λ fs. if not (list_any (bytes_eq form.name) rest) then form ∷ fs else fs) more
+
+-- ---- gaps in a form
+
+-- the forms, the one at a place with gaps for these texts from an ordinal on, and its pointer at the start
+abbrev pub segmented : List Text → ℕ → List Form → ℕ → List Form
+segmented texts ordinal forms k = set forms k (record (form_at forms k) { body = segment_by texts ordinal (body_at forms k); pointer = 0 })
+
+-- the same of a form that was put there
+pub segmented-set : (texts : List Text) (ordinal : ℕ) (forms : List Form) (k : ℕ) (form : Form) → k < length forms → segmented texts ordinal (set forms k form) k ≡ set forms k (record form { body = segment_by texts ordinal form.body; pointer = 0 })
+segmented-set texts ordinal forms k form within =
+    let put : form_at (set forms k form) k ≡ form = get_or-set_same forms k form (record { name = []; body = []; pointer = 0 }) within in
+    ap (λ (f : Form). set (set forms k form) k (record f { body = segment_by texts ordinal f.body; pointer = 0 })) put
+    ∙ set-set forms k form (record form { body = segment_by texts ordinal form.body; pointer = 0 })
+
+-- a form with its pointer at the start has the gaps for no texts
+pub segmented-none : (ordinal : ℕ) (forms : List Form) (k : ℕ) → pointer_at forms k ≡ 0 → segmented [] ordinal forms k ≡ forms
+segmented-none ordinal forms k start =
+    ap (λ p. set forms k (record (form_at forms k) { pointer = p })) (sym start) ∙ set-get_or forms k (record { name = []; body = []; pointer = 0 })

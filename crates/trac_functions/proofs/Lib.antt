@@ -1,0 +1,13 @@
+pub mod ArgumentLemmas
+pub mod PutCharacters
+pub mod BitResults
+pub mod CountLimits
+pub mod FlatLemmas
+pub mod FormLemmas
+pub mod Fronts
+pub mod MadeValues
+pub mod TakenParts
+pub mod DigitParts
+pub mod PutParts
+pub mod Ranges
+pub mod TakenItems

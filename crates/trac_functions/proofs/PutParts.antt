@@ -1,0 +1,87 @@
+-- A value that is put at the end of the neutral string part by part.
+use Rattle.std.proofs.Common.{◌≡◌, ℕ, ◌+◌, ◌-◌, ◌<◌, ◌≤◌, false, List, [], ◌++◌, length, take, drop, slice_range, refl, sym, ap, ◌∙◌, arith, append_assoc, ⊎_elim}
+use Rattle.std.proofs.lemmas.Bool.{cases_lt}
+use Rattle.std.proofs.lemmas.List.{append-nil, length-map, length-append, map-append, take-append-le, drop-append-le, length-drop}
+use Rattle.trac_language.specs.declared.function.Function.{Function}
+use Rattle.trac_language.specs.Text.{Text}
+use Rattle.trac_space.specs.declared.cell.Cell.{Cell}
+use Rattle.trac_space.specs.declared.cell.Cell.TheVariants.{Byte}
+use Rattle.trac_space.specs.Texts.{flat_text}
+use Rattle.trac_forms.specs.Contents.{Contents, used, IsSound, IsTextPart, part_text}
+use Rattle.trac_functions.specs.Calls.{Valued, IsValue}
+
+-- of a whole text this much is left, and the rest stands at the end of neutral
+pub record HasPut (old now : Contents) (whole left : Text) : Type 0 where
+  pub done : Text
+  pub sound : IsSound now
+  pub stands : now ≡ record old { neutral = old.neutral ++ flat_text done }
+  pub whole_is : done ++ left ≡ whole
+
+pub put-none : (old now : Contents) (whole left : Text) → IsSound now → now ≡ old → left ≡ whole → HasPut old now whole left
+put-none old now whole left sound same e =
+    record { done = []; sound = sound; stands = same ∙ ap (λ cells. record old { neutral = cells }) (sym (append-nil old.neutral)); whole_is = e }
+
+-- one more part
+pub put-more : (old now new : Contents) (whole text left rest : Text) → HasPut old now whole left → left ≡ text ++ rest → new ≡ record now { neutral = now.neutral ++ flat_text text } → IsSound new → HasPut old new whole rest
+put-more old now new whole text left rest put split more sound =
+    let joined : old.neutral ++ flat_text put.done ++ flat_text text ≡ old.neutral ++ flat_text (put.done ++ text) =
+    append_assoc old.neutral (flat_text put.done) (flat_text text) ∙ ap (λ cells. old.neutral ++ cells) (sym (map-append Byte put.done text)) in
+    record {
+      done = put.done ++ text;
+      sound = sound;
+      stands = more ∙ ap (λ (w : Contents). record w { neutral = w.neutral ++ flat_text text }) put.stands ∙ ap (λ cells. record old { neutral = cells }) joined;
+      whole_is = append_assoc put.done text rest ∙ ap (λ t. put.done ++ t) (sym split) ∙ put.whole_is;
+    }
+
+pub used-put : (old now : Contents) (whole left : Text) (put : HasPut old now whole left) → used now + length left ≡ used old + length whole
+used-put old now whole left put =
+    let e = ap used put.stands in
+    omega (arith, e, ap length put.whole_is, length-append put.done left, length-append old.neutral (flat_text put.done), length-map put.done Byte)
+
+-- where a part that is left doesn't fit the whole doesn't
+pub put-full : (old now : Contents) (whole text left rest : Text) → HasPut old now whole left → left ≡ text ++ rest → now.room < used now + length text → old.room < used old + length whole
+put-full old now whole text left rest put split full =
+    let room : now.room ≡ old.room = ap (λ (w : Contents). w.room) put.stands in
+    omega (arith, used-put old now whole left put, ap length split, length-append text rest)
+
+-- where none is left the value stands
+pub put-all : (f : Function) (args : List Text) (old now : Contents) (whole : Text) → HasPut old now whole [] → Valued f args old.forms whole false old.forms → IsValue f args old now false whole
+put-all f args old now whole put valued =
+    let all : put.done ≡ whole = sym (append-nil put.done) ∙ put.whole_is in
+    let forms : now.forms ≡ old.forms = ap (λ (w : Contents). w.forms) put.stands in
+    let room : now.room ≡ old.room = ap (λ (w : Contents). w.room) put.stands in
+    let fits = put.sound.fits in
+    record {
+      valued = rw forms valued;
+      fits = omega (arith, used-put old now whole [] put);
+      stands = put.stands ∙ ap (λ text. record old { neutral = old.neutral ++ flat_text text }) all ∙ ap (λ fs. record old { forms = fs; neutral = old.neutral ++ flat_text whole }) (sym forms);
+    }
+
+pub forms-kept : (old now : Contents) (whole left : Text) → HasPut old now whole left → now.forms ≡ old.forms
+forms-kept old now whole left put = ap (λ (w : Contents). w.forms) put.stands
+
+-- a part of neutral stays while cells are put behind it
+range-kept : (cells more : List Cell) (a b : ℕ) → b ≤ length cells → slice_range (cells ++ more) a b ≡ slice_range cells a b
+range-kept cells more a b within =
+    ⊎_elim
+    (λ past. let none : b - a ≡ 0 = omega arith in rw none refl)
+    (λ order.
+    let first : a ≤ length cells = omega arith in
+    ap (take (b - a)) (drop-append-le a cells more first) ∙ take-append-le (b - a) (drop a cells) more (omega (arith, length-drop a cells)))
+    (cases_lt b a)
+
+module _ (old now : Contents) (whole left : Text) (put : HasPut old now whole left) where
+  kept : (a b : ℕ) → b ≤ length old.neutral → slice_range now.neutral a b ≡ slice_range old.neutral a b
+  kept a b within = ap (λ (w : Contents). slice_range w.neutral a b) put.stands ∙ range-kept old.neutral (flat_text put.done) a b within
+
+  longer : length old.neutral ≤ length now.neutral
+  longer = omega (arith, ap (λ (w : Contents). length w.neutral) put.stands, length-append old.neutral (flat_text put.done))
+
+  pub part-kept : (a b : ℕ) → IsTextPart old.neutral a b → IsTextPart now.neutral a b
+  part-kept a b part =
+      let within = part.within in
+      record { order = part.order; within = omega (arith, longer); bytes = rw (kept a b part.within) part.bytes }
+
+  pub text-kept : (a b : ℕ) → IsTextPart old.neutral a b → part_text now.neutral a b ≡ part_text old.neutral a b
+  text-kept a b part = rw (kept a b part.within) refl
+  -- and so do the arguments of a call

@@ -1,0 +1,22 @@
+-- Results of arithmetic are machine numbers.
+use Rattle.std.proofs.Common.{◌≡◌, ◌^◌, ℤ, Bool, true, false, cond, ◌&&◌, Option, Some, None, sym, ap, ◌∙◌}
+use Rattle.std.specs.Prelude.{unsigned_abs}
+use Rattle.std.proofs.lemmas.Bool.{ltb-true}
+use Rattle.std.proofs.lemmas.Int.{to_z-of_z, fits_signed_from_abs}
+use Rattle.std.proofs.lemmas.Option.{cond_some}
+use Rattle.trac_language.specs.declared.arith.Arith.{Arith}
+use Rattle.trac_language.specs.Number.{arith, exactly, if_in_range, in_range}
+use mir.Syntax.{w128}
+use mir.Val.{to_z, of_z}
+
+-- a number in the range is kept by a machine number
+kept : (n : ℤ) → in_range n ≡ true → to_z w128 (of_z w128 n) ≡ n
+kept n is = to_z-of_z w128 n (fits_signed_from_abs w128 n (ltb-true (unsigned_abs n) (2 ^ 127) is))
+
+pub arith-passed : (operation : Arith) (m n r : ℤ) → arith operation m n ≡ Some r → to_z w128 (of_z w128 r) ≡ r
+arith-passed operation m n r is = go (in_range m && in_range n) (exactly operation m n) is
+  where
+    go : (b : Bool) (exact : Option ℤ) → cond b (if_in_range exact) None ≡ Some r → to_z w128 (of_z w128 r) ≡ r
+    go true None e = absurd cc
+    go true (Some z) e = let facts = cond_some (in_range z) z r e in kept r (ap in_range (sym facts.1) ∙ facts.0)
+    go false exact e = absurd cc

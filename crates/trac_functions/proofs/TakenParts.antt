@@ -1,0 +1,359 @@
+-- The parts that calls take of a form.
+use Rattle.std.proofs.Common.{◌≡◌, ◌≢◌, ℕ, zero, suc, ◌+◌, ◌-◌, ◌<◌, ◌≤◌, min, Bool, true, false, List, [], ◌∷◌, ◌++◌, length, take, drop, reverse, set, slice_range, get_or, Option, Some, None, refl, sym, ap, ◌∙◌, subst, ⊎_elim, arith, append-nil}
+use Rattle.std.specs.Prelude.{nat_lt, take_while, option_map, if◌then◌else◌, int_lt, unsigned_abs, pos}
+use Rattle.std.specs.List.{prefix_len}
+use Rattle.std.proofs.lemmas.Bool.{cases_lt, lt-ltb, le-ltb}
+use Rattle.std.proofs.lemmas.List.{length-take, length-drop, length-reverse, get_or-drop, drop-drop}
+use Rattle.std.proofs.Math.ListN.{drop_of_length-le}
+use Rattle.std.proofs.lemmas.List.Sums.{sum_by-cons}
+use Rattle.trac_language.specs.declared.item.Item.{Item}
+use Rattle.trac_language.specs.declared.item.Item.TheVariants.{Byte, Gap}
+use Rattle.trac_language.specs.declared.function.Function.{Function}
+use Rattle.trac_language.specs.Text.{Text}
+use Rattle.trac_language.specs.Form.{Form, is_character, text_of, after_pointer, before_pointer}
+use Rattle.trac_language.specs.Segment.{begins, place_of}
+use Rattle.trac_language.specs.Store.{form_named, changed, cells, form_cells, NoneNamed}
+use Rattle.trac_language.specs.State.{Input}
+use Rattle.trac_language.specs.Part.{Part, characters, first_characters, segment_from, next_segment, unless_null, forward, backward, next_characters, previous_characters, up_to, initial_part}
+use Rattle.trac_language.specs.Meaning.{World, on_form, silent, with_form, take_part, meaning_of, value_length, built}
+use Rattle.trac_language.specs.Number.{number}
+use Rattle.trac_space.specs.Texts.{flat_text}
+use Rattle.trac_values.specs.Digits.{signed}
+use Rattle.trac_forms.specs.Search.{is_gap, gap_at, text_at, NonePasses, IsFirst}
+use Rattle.trac_forms.specs.Contents.{Contents, form_at, IsNamedAt, IsSound, part_text}
+use Rattle.trac_forms.proofs.Stores.{form_named-at, form_named-none, changed-at}
+use Rattle.trac_functions.specs.declared.arguments.Made.{Made}
+use Rattle.trac_functions.specs.declared.arguments.Made.TheVariants.{Full, Value, Forced, Defined}
+use Rattle.trac_functions.specs.Calls.{world, Valued, Makes}
+use Rattle.trac_functions.specs.Taking.{part_value, moved, TakesPart}
+use Rattle.trac_functions.proofs.CountLimits.{counted}
+use Rattle.trac_functions.proofs.MadeValues.{valued-of}
+use Rattle.trac_functions.proofs.TakenItems.{length-text_of, text_of-first, taken-forward, taken-backward, length-text_of-reverse}
+
+-- ---- what a call makes of the part that it takes
+
+-- a call of this function takes a part of the form that its first argument names
+pub record TakesBy (f : Function) (args : List Text) (name : Text) (part : Form → Option Part) (z : Text) : Type 0 where
+  pub means : (w : World) → meaning_of f args w ≡ on_form (form_named name w.forms) (λ form. take_part name (part form) z w) w
+  pub builds : (w : World) → built (Some f) args w ≡ value_length (meaning_of f args w)
+
+module _ (f : Function) (args : List Text) (name : Text) (part : Form → Option Part) (z : Text) (by : TakesBy f args name part z) where
+  -- no form has the name
+  pub makes-none : (old new : Contents) → IsSound old → NoneNamed name old.forms → new ≡ old → Makes f args old Value new
+  makes-none old new sound none same =
+      let fits = sound.fits in
+      let at : Contents → Type 0 = λ w. Makes f args old Value w in
+      subst at (sym same) (
+        [],
+        record {
+          valued = valued-of f args old.forms old.forms [] false
+              (λ meta input. by.means (world old.forms meta input)
+              ∙ ap (λ o. on_form o (λ form. take_part name (part form) z (world old.forms meta input)) (world old.forms meta input)) (form_named-none name old.forms none))
+              by.builds;
+          fits = omega arith;
+          stands = ap (λ n. record old { neutral = n }) (sym (append-nil old.neutral));
+        },
+      )
+
+  -- what the form at a place gives
+  pub makes-part : (old new : Contents) (k : ℕ) (made : Made) → IsSound old → IsNamedAt old.forms name k → TakesPart (part (form_at old.forms k)) z k old made new → Makes f args old made new
+  makes-part old new k made sound at takes = go (part (form_at old.forms k)) refl made takes
+    where
+      means-at : (o : Option Part) → part (form_at old.forms k) ≡ o → (meta : ℕ) (input : Input) → meaning_of f args (world old.forms meta input) ≡ take_part name o z (world old.forms meta input)
+      means-at o e meta input =
+          by.means (world old.forms meta input)
+          ∙ ap (λ o. on_form o (λ form. take_part name (part form) z (world old.forms meta input)) (world old.forms meta input)) (form_named-at name old.forms k sound.forms at)
+          ∙ ap (λ o. take_part name o z (world old.forms meta input)) e
+
+      go : (o : Option Part) → part (form_at old.forms k) ≡ o → (made : Made) → TakesPart o z k old made new → Makes f args old made new
+      go o e Full takes = λ meta input. let size = by.builds (world old.forms meta input) ∙ ap value_length (means-at o e meta input) ∙ long o (world old.forms meta input) in omega arith
+        where
+          long : (o : Option Part) (w : World) → value_length (take_part name o z w) ≡ length (part_value o z)
+          long None w = refl
+          long (Some p) w = refl
+      go None e Forced takes =
+          let forms : new.forms ≡ old.forms = ap (λ (w : Contents). w.forms) takes.stands in (
+            z,
+            record {
+              valued = subst (λ fs. Valued f args old.forms z true fs) (sym forms) (valued-of f args old.forms old.forms z true (means-at None e) by.builds);
+              fits = takes.fits;
+              stands = takes.stands ∙ ap (λ fs. record old { forms = fs; neutral = old.neutral ++ flat_text z }) (sym forms);
+            },
+          )
+      go (Some p) e Value takes =
+          let forms : new.forms ≡ moved old.forms k p.pointer = ap (λ (w : Contents). w.forms) takes.stands in
+          let changes : changed name (λ form. record form { pointer = p.pointer }) old.forms ≡ moved old.forms k p.pointer = changed-at name (λ form. record form { pointer = p.pointer }) old.forms k sound.forms at in (
+            p.text,
+            record {
+              valued = subst (λ fs. Valued f args old.forms p.text false fs) (changes ∙ sym forms) (valued-of f args old.forms (changed name (λ form. record form { pointer = p.pointer }) old.forms) p.text false (means-at (Some p) e) by.builds);
+              fits = takes.fits;
+              stands = takes.stands ∙ ap (λ fs. record old { forms = fs; neutral = old.neutral ++ flat_text p.text }) (sym forms);
+            },
+          )
+      go None e Value takes = absurd takes
+      go (Some p) e Forced takes = absurd takes
+      go None e (Defined cells) takes = absurd takes
+      go (Some p) e (Defined cells) takes = absurd takes
+
+  -- the same, by what the code knows
+  pub makes-found : (old found new : Contents) (k : ℕ) (made : Made) (named : Text) (a b : ℕ) → IsSound old → found ≡ old → IsNamedAt old.forms named k → named ≡ name → TakesPart (part (form_at found.forms k)) (part_text found.neutral a b) k found made new → part_text old.neutral a b ≡ z → Makes f args old made new
+  makes-found old found new k made named a b sound same at is takes text =
+      let here = subst (λ (w : Contents). TakesPart (part (form_at w.forms k)) (part_text w.neutral a b) k w made new) same takes in
+      makes-part old new k made sound (subst (λ n. IsNamedAt old.forms n k) is at) (subst (λ t. TakesPart (part (form_at old.forms k)) t k old made new) text here)
+
+  pub makes-missing : (old found : Contents) (named : Text) → IsSound old → found ≡ old → NoneNamed named old.forms → named ≡ name → Makes f args old Value found
+  makes-missing old found named sound same none is = makes-none old found sound (subst (λ n. NoneNamed n old.forms) is none) same
+
+-- ---- a form that is changed
+
+-- a call of this function changes the form that its first argument names
+pub record ChangesBy (f : Function) (args : List Text) (name : Text) (change : Form → Form) : Type 0 where
+  pub means : (w : World) → meaning_of f args w ≡ on_form (form_named name w.forms) (λ form. silent (with_form name change w)) w
+  pub builds : (w : World) → built (Some f) args w ≡ value_length (meaning_of f args w)
+
+module _ (f : Function) (args : List Text) (name : Text) (change : Form → Form) (by : ChangesBy f args name change) where
+  pub changes-found : (old found new : Contents) (k : ℕ) (named : Text) → IsSound old → found ≡ old → IsNamedAt old.forms named k → named ≡ name → new ≡ record found { forms = set found.forms k (change (form_at found.forms k)) } → Makes f args old Value new
+  changes-found old found new k named sound same at is changed_is =
+      let fits = sound.fits in
+      let here = subst (λ n. IsNamedAt old.forms n k) is at in
+      let new_is : new ≡ record old { forms = set old.forms k (change (form_at old.forms k)) } = changed_is ∙ ap (λ (w : Contents). record w { forms = set w.forms k (change (form_at w.forms k)) }) same in
+      let forms : new.forms ≡ set old.forms k (change (form_at old.forms k)) = ap (λ (w : Contents). w.forms) new_is in
+      let changes : changed name change old.forms ≡ set old.forms k (change (form_at old.forms k)) = changed-at name change old.forms k sound.forms here in (
+        [],
+        record {
+          valued = subst (λ fs. Valued f args old.forms [] false fs) (changes ∙ sym forms)
+              (valued-of f args old.forms (changed name change old.forms) [] false
+              (λ meta input. by.means (world old.forms meta input)
+              ∙ ap (λ o. on_form o (λ form. silent (with_form name change (world old.forms meta input))) (world old.forms meta input)) (form_named-at name old.forms k sound.forms here))
+              by.builds);
+          fits = omega arith;
+          stands = new_is ∙ ap (λ fs. record old { forms = fs }) (sym forms) ∙ ap (λ n. record old { forms = new.forms; neutral = n }) (sym (append-nil old.neutral));
+        },
+      )
+
+  pub changes-missing : (old found : Contents) (named : Text) → IsSound old → found ≡ old → NoneNamed named old.forms → named ≡ name → Makes f args old Value found
+  changes-missing old found named sound same none is =
+      let fits = sound.fits in
+      let at : Contents → Type 0 = λ w. Makes f args old Value w in
+      subst at (sym same) (
+        [],
+        record {
+          valued = valued-of f args old.forms old.forms [] false
+              (λ meta input. by.means (world old.forms meta input)
+              ∙ ap (λ o. on_form o (λ form. silent (with_form name change (world old.forms meta input))) (world old.forms meta input)) (form_named-none name old.forms (subst (λ n. NoneNamed n old.forms) is none)))
+              by.builds;
+          fits = omega arith;
+          stands = ap (λ n. record old { neutral = n }) (sym (append-nil old.neutral));
+        },
+      )
+
+-- ---- the parts
+
+abbrev pub a-part : Text → ℕ → Part
+a-part text pointer = record { text = text; pointer = pointer }
+
+null-first : (items : List Item) (n : ℕ) → length (first_characters n items) ≡ 0 → first_characters n items ≡ []
+null-first items n e = go (first_characters n items) e
+  where
+    go : (l : List Item) → length l ≡ 0 → l ≡ []
+    go [] e = refl
+    go (x ∷ xs) e = absurd (omega arith)
+
+some-part : (part : Part) → 0 < length part.text → unless_null part ≡ Some part
+some-part part some = ap (λ b. if b then Some part else None) (lt-ltb 0 (length part.text) some)
+
+-- the next characters after the pointer: none where none is passed
+pub next-none : (form : Form) (n from to : ℕ) → from ≡ form.pointer → to ≡ from + length (first_characters (min n (length (text_of (drop from form.body)))) (drop from form.body)) → to ≡ from → next_characters n form ≡ None
+next-none form n from to from_is to_is same =
+    let e : first_characters (min n (length (text_of (drop form.pointer form.body)))) (drop form.pointer form.body) ≡ [] =
+    null-first (drop form.pointer form.body) (min n (length (text_of (drop form.pointer form.body))))
+    (sym (ap (λ p. length (first_characters (min n (length (text_of (drop p form.body)))) (drop p form.body))) from_is) ∙ omega arith) in
+    ap (forward form) e
+
+-- and else those up to a place
+pub next-some : (form : Form) (n from to : ℕ) → from ≡ form.pointer → from ≤ length form.body → to ≡ from + length (first_characters (min n (length (text_of (drop from form.body)))) (drop from form.body)) → to ≢ from → Some (record { text = text_of (slice_range form.body from to); pointer = to }) ≡ next_characters n form
+next-some form n from to from_is within to_is other =
+    let m = min n (length (text_of (drop from form.body))) in
+    let u = first_characters m (drop from form.body) in
+    let part : u ≡ slice_range form.body from to = taken-forward form.body from m within ∙ ap (λ k. slice_range form.body from k) (sym to_is) in
+    let long = text_of-first (drop from form.body) m in
+    let some : 0 < length (text_of u) = ⊎_elim
+    (λ lt. lt)
+    (λ none. let zero_m : m ≡ 0 = omega arith in let nothing = ap (λ k. length (first_characters k (drop from form.body))) zero_m in absurd (other (let z = first-none (drop from form.body) in omega arith)))
+    (cases_lt 0 (length (text_of u))) in
+    let here : Part = record { text = text_of u; pointer = from + length u } in
+    let same : Some here ≡ Some (record { text = text_of (slice_range form.body from to); pointer = to }) =
+    ap (λ t. let r : Part = record { text = text_of t; pointer = from + length u } in Some r) part ∙ ap (λ k. let r : Part = record { text = text_of (slice_range form.body from to); pointer = k } in Some r) (sym to_is) in
+    sym same ∙ sym (some-part here some)
+    ∙ ap (λ p. let r : Part = record { text = text_of (first_characters (min n (length (text_of (drop p form.body)))) (drop p form.body)); pointer = p + length (first_characters (min n (length (text_of (drop p form.body)))) (drop p form.body)) } in unless_null r) from_is
+  where
+    first-none : (items : List Item) → length (first_characters 0 items) ≡ 0
+    first-none [] = refl
+    first-none (x ∷ xs) = refl
+
+-- the last characters before the pointer: none where none is passed
+pub previous-none : (form : Form) (n from to : ℕ) → to ≡ form.pointer → from + length (first_characters (min n (length (text_of (take to form.body)))) (reverse (take to form.body))) ≡ to → from ≡ to → previous_characters n form ≡ None
+previous-none form n from to to_is at same =
+    let e : first_characters (min n (length (text_of (take form.pointer form.body)))) (reverse (take form.pointer form.body)) ≡ [] =
+    null-first (reverse (take form.pointer form.body)) (min n (length (text_of (take form.pointer form.body))))
+    (sym (ap (λ p. length (first_characters (min n (length (text_of (take p form.body)))) (reverse (take p form.body)))) to_is) ∙ omega arith) in
+    ap (λ u. backward form (reverse u)) e
+
+-- and else those from a place on
+pub previous-some : (form : Form) (n from to : ℕ) → to ≡ form.pointer → to ≤ length form.body → from + length (first_characters (min n (length (text_of (take to form.body)))) (reverse (take to form.body))) ≡ to → from ≢ to → Some (record { text = text_of (slice_range form.body from to); pointer = from }) ≡ previous_characters n form
+previous-some form n from to to_is within at other =
+    let m = min n (length (text_of (take to form.body))) in
+    let back = reverse (take to form.body) in
+    let u = reverse (first_characters m back) in
+    let part : u ≡ slice_range form.body from to = taken-backward form.body to from m within at in
+    let long = text_of-first (reverse (take to form.body)) m in
+    let total = length-text_of-reverse (take to form.body) in
+    let size = length-text_of-reverse (first_characters m (reverse (take to form.body))) in
+    let u_long = length-reverse (first_characters m (reverse (take to form.body))) in
+    let some : 0 < length (text_of u) = ⊎_elim
+    (λ lt. lt)
+    (λ none. let zero_m : m ≡ 0 = omega arith in let nothing = ap (λ k. length (first_characters k (reverse (take to form.body)))) zero_m in absurd (other (let z = first-none (reverse (take to form.body)) in omega arith)))
+    (cases_lt 0 (length (text_of u))) in
+    let place : to - length u ≡ from = omega arith in
+    let here : Part = record { text = text_of u; pointer = to - length u } in
+    let same : Some here ≡ Some (record { text = text_of (slice_range form.body from to); pointer = from }) =
+    ap (λ t. let r : Part = record { text = text_of t; pointer = to - length u } in Some r) part ∙ ap (λ k. let r : Part = record { text = text_of (slice_range form.body from to); pointer = k } in Some r) place in
+    sym same ∙ sym (some-part here some)
+    ∙ ap (λ p. let r : Part = record { text = text_of (reverse (first_characters (min n (length (text_of (take p form.body)))) (reverse (take p form.body)))); pointer = p - length (reverse (first_characters (min n (length (text_of (take p form.body)))) (reverse (take p form.body)))) } in unless_null r) to_is
+  where
+    first-none : (items : List Item) → length (first_characters 0 items) ≡ 0
+    first-none [] = refl
+    first-none (x ∷ xs) = refl
+
+-- no characters
+pub part-null : (form : Form) (p : ℕ) → p ≡ form.pointer → Some (a-part (text_of (slice_range form.body p p)) p) ≡ Some (a-part [] form.pointer)
+part-null form p e =
+    let none : p - p ≡ 0 = omega arith in
+    ap (λ n. let r : Part = record { text = text_of (take n (drop p form.body)); pointer = p } in Some r) none
+    ∙ ap (λ q. let r : Part = record { text = []; pointer = q } in Some r) e
+
+-- ---- up to the next gap
+
+prefix-run : (items : List Item) (n : ℕ) → n ≤ length items → ((k : ℕ) → k < n → is_gap (get_or items k (Byte 0)) ≡ false) → (n < length items → is_gap (get_or items n (Byte 0)) ≡ true) → prefix_len is_character items ≡ n
+prefix-run [] n within before last = omega arith
+prefix-run (Byte c ∷ items) zero within before last = absurd (let wrong = last (omega arith) in cc)
+prefix-run (Byte c ∷ items) (suc n) within before last =
+    let rest = prefix-run items n (omega arith) (λ k lt. before (suc k) (omega arith)) (λ lt. last (omega arith)) in omega arith
+prefix-run (Gap g ∷ items) zero within before last = refl
+prefix-run (Gap g ∷ items) (suc n) within before last = absurd (let wrong = before 0 (omega arith) in cc)
+
+pub segment-none : (form : Form) (p : ℕ) → p ≡ form.pointer → p ≡ length form.body → next_segment form ≡ None
+segment-none form p e end =
+    let rest : drop form.pointer form.body ≡ [] = drop_of_length-le form.body (omega arith) in
+    ap (λ items. segment_from form.pointer items (take_while is_character items)) rest
+
+-- the segment that ends at a place
+segment-at : (form : Form) (p n : ℕ) → p ≡ form.pointer → prefix_len is_character (drop p form.body) ≡ n → p < length form.body → next_segment form ≡ Some (record { text = text_of (take n (drop p form.body)); pointer = if nat_lt (length (take n (drop p form.body))) (length (drop p form.body)) then p + length (take n (drop p form.body)) + 1 else p + length (take n (drop p form.body)) })
+segment-at form p n e run some =
+    sym (ap (λ q. segment_from q (drop q form.body) (take_while is_character (drop q form.body))) e)
+    ∙ ap (λ m. segment_from p (drop p form.body) (take m (drop p form.body))) run
+    ∙ go (drop p form.body) (length-drop p form.body)
+  where
+    go : (items : List Item) → length items ≡ length form.body - p → segment_from p items (take n items) ≡ Some (record { text = text_of (take n items); pointer = if nat_lt (length (take n items)) (length items) then p + length (take n items) + 1 else p + length (take n items) })
+    go [] long = absurd (omega arith)
+    go (x ∷ xs) long = refl
+
+pub segment-gap : (form : Form) (p gap : ℕ) → p ≡ form.pointer → IsFirst (gap_at form.body) p (length form.body) gap → Some (record { text = text_of (slice_range form.body p gap); pointer = gap + 1 }) ≡ next_segment form
+segment-gap form p gap e first =
+    let inside = first.within in
+    let above = first.above in
+    let items = drop p form.body in
+    let n = gap - p in
+    let long = length-drop p form.body in
+    let here : p + (gap - p) ≡ gap = omega arith in
+    let run = prefix-run (drop p form.body) (gap - p) (omega arith)
+    (λ k lt. ap is_gap (get_or-drop p form.body k (Byte 0)) ∙ first.before (p + k) (omega arith) (omega arith))
+    (λ lt. ap is_gap (get_or-drop p form.body (gap - p) (Byte 0)) ∙ ap (gap_at form.body) here ∙ first.passes) in
+    let front : length (take (gap - p) (drop p form.body)) ≡ gap - p = length-take (gap - p) (drop p form.body) ∙ omega arith in
+    let test : nat_lt (length (take (gap - p) (drop p form.body))) (length (drop p form.body)) ≡ true = lt-ltb _ _ (omega arith) in
+    let pointer : p + length (take (gap - p) (drop p form.body)) + 1 ≡ gap + 1 = omega arith in
+    sym (segment-at form p (gap - p) e run (omega arith)
+    ∙ ap (λ b. let r : Part = record { text = text_of (slice_range form.body p gap); pointer = if b then p + length (take (gap - p) (drop p form.body)) + 1 else p + length (take (gap - p) (drop p form.body)) } in Some r) test
+    ∙ ap (λ q. let r : Part = record { text = text_of (slice_range form.body p gap); pointer = q } in Some r) pointer)
+
+pub segment-end : (form : Form) (p end : ℕ) → p ≡ form.pointer → end ≡ length form.body → p ≤ end → p ≢ end → NonePasses (gap_at form.body) p (length form.body) → Some (record { text = text_of (slice_range form.body p end); pointer = end }) ≡ next_segment form
+segment-end form p end e end_is le other none =
+    let long = length-drop p form.body in
+    let run = prefix-run (drop p form.body) (end - p) (omega arith)
+    (λ k lt. ap is_gap (get_or-drop p form.body k (Byte 0)) ∙ none (p + k) (omega arith) (omega arith))
+    (λ lt. absurd (omega arith)) in
+    let front : length (take (end - p) (drop p form.body)) ≡ end - p = length-take (end - p) (drop p form.body) ∙ omega arith in
+    let test : nat_lt (length (take (end - p) (drop p form.body))) (length (drop p form.body)) ≡ false = le-ltb _ _ (omega arith) in
+    let pointer : p + length (take (end - p) (drop p form.body)) ≡ end = omega arith in
+    sym (segment-at form p (end - p) e run (omega arith)
+    ∙ ap (λ b. let r : Part = record { text = text_of (slice_range form.body p end); pointer = if b then p + length (take (end - p) (drop p form.body)) + 1 else p + length (take (end - p) (drop p form.body)) } in Some r) test
+    ∙ ap (λ q. let r : Part = record { text = text_of (slice_range form.body p end); pointer = q } in Some r) pointer)
+
+-- ---- up to an occurrence
+
+place-first : (text : Text) (items : List Item) (i : ℕ) → i < length items → begins (drop i items) text ≡ true → ((k : ℕ) → k < i → begins (drop k items) text ≡ false) → place_of text items ≡ Some i
+place-first text [] i within here before = absurd (omega arith)
+place-first text (item ∷ items) zero within here before = ap (λ b. if b then Some 0 else option_map suc (place_of text items)) here
+place-first text (item ∷ items) (suc i) within here before =
+    ap (λ b. if b then Some 0 else option_map suc (place_of text items)) (before 0 (omega arith))
+    ∙ ap (option_map suc) (place-first text items i (omega arith) here (λ k lt. before (suc k) (omega arith)))
+
+place-none : (text : Text) (items : List Item) → ((k : ℕ) → k < length items → begins (drop k items) text ≡ false) → place_of text items ≡ None
+place-none text [] none = refl
+place-none text (item ∷ items) none =
+    ap (λ b. if b then Some 0 else option_map suc (place_of text items)) (none 0 (omega arith))
+    ∙ ap (option_map suc) (place-none text items (λ k lt. none (suc k) (omega arith)))
+
+some-text : (text : Text) (form : Form) → 0 < length text → initial_part text form ≡ up_to (place_of text (after_pointer form)) text form
+some-text [] form some = absurd (omega arith)
+some-text (c ∷ text) form some = refl
+
+pub initial-null : (text : Text) (form : Form) → length text ≡ 0 → initial_part text form ≡ Some (record { text = []; pointer = form.pointer })
+initial-null [] form e = refl
+initial-null (c ∷ text) form e = absurd (omega arith)
+
+pub initial-some : (text : Text) (form : Form) (p begin end : ℕ) → p ≡ form.pointer → 0 < length text → IsFirst (text_at text form.body) p (length form.body) begin → end ≡ begin + length text → Some (record { text = text_of (slice_range form.body p begin); pointer = end }) ≡ initial_part text form
+initial-some text form p begin end e some first end_is =
+    let inside = first.within in
+    let above = first.above in
+    let long = length-drop p form.body in
+    let here : p + (begin - p) ≡ begin = omega arith in
+    let place : place_of text (drop p form.body) ≡ Some (begin - p) =
+    place-first text (drop p form.body) (begin - p) (omega arith)
+    (ap (λ items. begins items text) (drop-drop (begin - p) p form.body) ∙ ap (text_at text form.body) here ∙ first.passes)
+    (λ k lt. ap (λ items. begins items text) (drop-drop k p form.body) ∙ first.before (p + k) (omega arith) (omega arith)) in
+    let pointer : p + (begin - p) + length text ≡ end = omega arith in
+    sym (some-text text form some
+    ∙ sym (ap (λ q. up_to (place_of text (drop q form.body)) text (record form { pointer = q })) e)
+    ∙ ap (λ o. up_to o text (record form { pointer = p })) place
+    ∙ ap (λ q. let r : Part = record { text = text_of (slice_range form.body p begin); pointer = q } in Some r) pointer)
+
+pub initial-none : (text : Text) (form : Form) (p : ℕ) → p ≡ form.pointer → p ≤ length form.body → 0 < length text → NonePasses (text_at text form.body) p (length form.body) → initial_part text form ≡ None
+initial-none text form p e within some none =
+    let long = length-drop p form.body in
+    some-text text form some
+    ∙ sym (ap (λ q. up_to (place_of text (drop q form.body)) text (record form { pointer = q })) e)
+    ∙ ap (λ o. up_to o text (record form { pointer = p }))
+    (place-none text (drop p form.body) (λ k lt. ap (λ items. begins items text) (drop-drop k p form.body) ∙ none (p + k) (omega arith) (omega arith)))
+
+pub characters-zero : (negative : Bool) (size : ℕ) (form : Form) → size ≡ 0 → characters (signed negative size) form ≡ Some (record { text = []; pointer = form.pointer })
+characters-zero true size form e = ap (λ n. characters (signed true n) form) e
+characters-zero false size form e = ap (λ n. characters (signed false n) form) e
+
+-- a count up to a limit takes the same characters
+body-within : (forms : List Form) (k : ℕ) → k < length forms → length (form_at forms k).body ≤ cells forms
+body-within [] k lt = absurd (omega arith)
+body-within (form ∷ forms) zero lt = omega (arith, sum_by-cons form_cells form forms)
+body-within (form ∷ forms) (suc k) lt = let rest = body-within forms k (omega arith) in omega (arith, sum_by-cons form_cells form forms)
+
+pub characters-counted : (w : Contents) (k : ℕ) (text : Text) (negative : Bool) (size : ℕ) → IsSound w → k < length w.forms → negative ≡ int_lt (number text) (pos 0) → size ≡ min (unsigned_abs (number text)) 16777216 → characters (signed negative size) (form_at w.forms k) ≡ characters (number text) (form_at w.forms k)
+characters-counted w k text negative size sound lt sign is =
+    let form = form_at w.forms k in
+    let within = body-within w.forms k lt in
+    let fits = sound.fits in
+    let bounded = sound.bounded in
+    let after = length-text_of (after_pointer form) in
+    let before = length-text_of (before_pointer form) in
+    let after_long = length-drop form.pointer form.body in
+    let before_long = length-take form.pointer form.body in
+    counted form (omega arith) (omega arith) (number text) negative size sign is

@@ -1,0 +1,73 @@
+use Rattle.std.proofs.Common.{◌≡◌, ◌∷◌, ◌+◌, ◌++◌, false, true, Some, None, sym, ap, ◌∙◌, refl, arith, length}
+use Rattle.std.specs.Fmt.{signed_decimal}
+use Rattle.trac_language.specs.declared.function.Function.TheVariants.{Arithmetic}
+use Rattle.trac_language.specs.Number.{number, prefix, arith as result_of_arith, if_in_range}
+use Rattle.trac_language.specs.State.{argument}
+use Rattle.trac_language.specs.Meaning.{result_or, forced, valued, meaning_of}
+use Rattle.trac_forms.specs.Contents.{part_text}
+use Rattle.trac_functions.specs.Calls.{world, texts}
+use Rattle.trac_functions.proofs.MadeValues.{valued-of}
+use Rattle.trac_functions.proofs.Ranges.{arith-passed}
+use Rattle.trac_functions.proofs.Fronts.{prefix-front, inside, front-part, front-text}
+use Rattle.trac_functions.proofs.arithmetic.arithmetic.Goals as goal
+
+pub overflow_add-first : goal.overflow_add-first
+overflow_add-first c =
+    let w = c.args.work.now in
+    let first = c.next-first.result in
+    let t = part_text w.neutral first.0 first.1 in
+    let fits = inside w.neutral first.0 first.1 c.tail_number-left.result.start c.next-first.ensures.part (prefix t) (prefix-front t) (c.tail_number-left.ensures.start ∙ ap (λ t. length (prefix t)) c.text.ensures.text) in
+    let within = c.next-first.ensures.part.within in
+    let sound = c.requires.sound.fits in
+    let bounded = c.requires.sound.bounded in
+    omega arith
+
+pub give_number-requires : goal.give_number-requires
+give_number-requires c =
+    let w = c.args.work.now in
+    let first = c.next-first.result in
+    let t = part_text w.neutral first.0 first.1 in
+    record { prefix = front-part w.neutral first.0 first.1 c.tail_number-left.result.start c.next-first.ensures.part (prefix t) (prefix-front t) (c.tail_number-left.ensures.start ∙ ap (λ t. length (prefix t)) c.text.ensures.text) }
+
+pub returns-in-Some-clause-makes : goal.returns-in-Some-clause-makes
+unfolding meaning_of
+returns-in-Some-clause-makes c = λ name.
+    let w = c.args.work.now in
+    let ts = texts w c.args.arguments in
+    let operation = c.args.operation in
+    let first = c.next-first.result in
+    let t = part_text w.neutral first.0 first.1 in
+    let left = c.text.ensures.text ∙ c.next-first.ensures.text in
+    let right = c.text-2.ensures.text ∙ c.next-second.ensures.text ∙ c.next-first.ensures.later 0 in
+    let before : part_text w.neutral first.0 (first.0 + c.tail_number-left.result.start) ≡ prefix (argument ts 0) =
+    front-text w.neutral first.0 first.1 c.tail_number-left.result.start c.next-first.ensures.part (prefix t) (prefix-front t) (c.tail_number-left.ensures.start ∙ ap (λ t. length (prefix t)) c.text.ensures.text) ∙ ap prefix c.next-first.ensures.text in
+    let result : Some c.in-Some.number ≡ result_of_arith operation (number (argument ts 0)) (number (argument ts 1)) =
+    c.in-Some.ensures (number (argument ts 0)) (number (argument ts 1))
+    (c.tail_number-left.ensures.value ∙ ap (λ t. if_in_range (Some (number t))) left)
+    (c.tail_number-right.ensures.value ∙ ap (λ t. if_in_range (Some (number t))) right) in
+    let kept = arith-passed operation (number (argument ts 0)) (number (argument ts 1)) c.in-Some.number (sym result) in
+    c.give_number.ensures.makes (Arithmetic operation) (name ∷ ts)
+    (valued-of (Arithmetic operation) (name ∷ ts) w.forms w.forms _ false
+    (λ meta input. ap (λ r. result_or r (prefix (argument ts 0)) (argument ts 2) (world w.forms meta input)) (sym result)
+    ∙ ap (λ p. result_or (Some c.in-Some.number) p (argument ts 2) (world w.forms meta input)) (sym before)
+    ∙ ap (λ n. valued (part_text w.neutral first.0 (first.0 + c.tail_number-left.result.start) ++ signed_decimal n) (world w.forms meta input)) (sym kept))
+    (λ _. refl))
+
+pub returns-in-None-clause-makes : goal.returns-in-None-clause-makes
+unfolding meaning_of
+returns-in-None-clause-makes c = λ name.
+    let w = c.args.work.now in
+    let ts = texts w c.args.arguments in
+    let operation = c.args.operation in
+    let left = c.text.ensures.text ∙ c.next-first.ensures.text in
+    let right = c.text-2.ensures.text ∙ c.next-second.ensures.text ∙ c.next-first.ensures.later 0 in
+    let third = c.next-other.ensures.text ∙ c.next-second.ensures.later 0 ∙ c.next-first.ensures.later 1 in
+    let result : None ≡ result_of_arith operation (number (argument ts 0)) (number (argument ts 1)) =
+    c.in-None.ensures (number (argument ts 0)) (number (argument ts 1))
+    (c.tail_number-left.ensures.value ∙ ap (λ t. if_in_range (Some (number t))) left)
+    (c.tail_number-right.ensures.value ∙ ap (λ t. if_in_range (Some (number t))) right) in
+    c.give.ensures.makes (Arithmetic operation) (name ∷ ts)
+    (valued-of (Arithmetic operation) (name ∷ ts) w.forms w.forms _ true
+    (λ meta input. ap (λ r. result_or r (prefix (argument ts 0)) (argument ts 2) (world w.forms meta input)) (sym result)
+    ∙ ap (λ t. forced t (world w.forms meta input)) (sym third))
+    (λ _. refl))

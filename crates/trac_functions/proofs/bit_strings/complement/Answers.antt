@@ -1,0 +1,21 @@
+use Rattle.std.proofs.Common.{◌≡◌, ◌∷◌, false, ap, ◌∙◌, refl}
+use Rattle.trac_language.specs.declared.function.Function.TheVariants.{Complement}
+use Rattle.trac_language.specs.BitString.{bits, octal_prefix, complement}
+use Rattle.trac_language.specs.State.{argument}
+use Rattle.trac_language.specs.Meaning.{meaning_of}
+use Rattle.trac_forms.specs.Contents.{part_text}
+use Rattle.trac_functions.specs.BitResults.{bits_at}
+use Rattle.trac_functions.specs.Calls.{world, texts}
+use Rattle.trac_functions.proofs.MadeValues.{valued-of}
+use Rattle.trac_functions.proofs.BitResults.{bits-means}
+use Rattle.trac_functions.proofs.bit_strings.complement.Goals as goal
+
+pub returns-clause-makes : goal.returns-clause-makes
+unfolding meaning_of
+returns-clause-makes c = λ name.
+    let w = c.args.work.now in
+    let ts = texts w c.args.arguments in
+    let before : part_text w.neutral c.next-first.result.0 c.digits_of-digits.result.0 ≡ octal_prefix (argument ts 0) = c.digits_of-digits.ensures.prefix ∙ ap (λ t. octal_prefix t) c.next-first.ensures.text in
+    let made : complement (bits_at w.neutral c.digits_of-digits.result) ≡ complement (bits (argument ts 0)) = ap (λ l. complement l) (c.digits_of-digits.ensures.bits ∙ ap (λ t. bits t) c.next-first.ensures.text) in
+    c.give_bits.ensures.makes Complement (name ∷ ts)
+    (valued-of Complement (name ∷ ts) w.forms w.forms _ false (λ meta input. bits-means _ _ _ _ (world w.forms meta input) before made) (λ _. refl))

@@ -1,0 +1,25 @@
+use Rattle.std.proofs.Common.{◌≡◌, ◌∷◌, false, ap, ◌∙◌, refl}
+use Rattle.trac_language.specs.declared.function.Function.TheVariants.{Union}
+use Rattle.trac_language.specs.BitString.{bits, octal_prefix, union}
+use Rattle.trac_language.specs.State.{argument}
+use Rattle.trac_language.specs.Meaning.{meaning_of}
+use Rattle.trac_forms.specs.Contents.{part_text}
+use Rattle.trac_functions.specs.BitResults.{bits_at}
+use Rattle.trac_functions.specs.Calls.{world, texts}
+use Rattle.trac_functions.proofs.MadeValues.{valued-of}
+use Rattle.trac_functions.proofs.BitResults.{bits-means}
+use Rattle.trac_functions.proofs.bit_strings.union.Goals as goal
+
+pub returns-clause-makes : goal.returns-clause-makes
+unfolding meaning_of
+returns-clause-makes c = λ name.
+    let w = c.args.work.now in
+    let ts = texts w c.args.arguments in
+    let second = c.next-second.ensures.text ∙ c.next-first.ensures.later 0 in
+    let before : part_text w.neutral c.next-first.result.0 c.digits_of-left.result.0 ≡ octal_prefix (argument ts 0) = c.digits_of-left.ensures.prefix ∙ ap (λ t. octal_prefix t) c.next-first.ensures.text in
+    let left : bits_at w.neutral c.digits_of-left.result ≡ bits (argument ts 0) = c.digits_of-left.ensures.bits ∙ ap (λ t. bits t) c.next-first.ensures.text in
+    let right : bits_at w.neutral c.digits_of-right.result ≡ bits (argument ts 1) = c.digits_of-right.ensures.bits ∙ ap (λ t. bits t) second in
+    let made : union (bits_at w.neutral c.digits_of-left.result) (bits_at w.neutral c.digits_of-right.result) ≡ union (bits (argument ts 0)) (bits (argument ts 1)) =
+    ap (λ l. union l (bits_at w.neutral c.digits_of-right.result)) left ∙ ap (λ l. union (bits (argument ts 0)) l) right in
+    c.give_bits.ensures.makes Union (name ∷ ts)
+    (valued-of Union (name ∷ ts) w.forms w.forms _ false (λ meta input. bits-means _ _ _ _ (world w.forms meta input) before made) (λ _. refl))

@@ -1,0 +1,30 @@
+use Rattle.std.proofs.Common.{◌≡◌, ◌+◌, ◌-◌, length, refl, ap, ◌∙◌, arith}
+use Rattle.trac_language.specs.Store.{defined}
+use Rattle.trac_language.specs.State.{argument}
+use Rattle.trac_language.specs.Meaning.{meaning_of, silent}
+use Rattle.trac_forms.specs.Contents.{part_text}
+use Rattle.trac_functions.specs.Calls.{world, texts}
+use Rattle.trac_functions.proofs.FormLemmas.{length-part}
+use Rattle.trac_functions.proofs.form_calls.define_string.Goals as goal
+
+pub returns-in-Ok-clause-makes : goal.returns-in-Ok-clause-makes
+unfolding meaning_of
+returns-in-Ok-clause-makes c = λ name.
+    let old = c.args.work.now in
+    let ts = texts old c.args.arguments in
+    let first = c.next-name.ensures.text in
+    let second = c.next-text.ensures.text ∙ c.next-name.ensures.later 0 in
+    let n = length-part old.neutral c.next-name.result.0 c.next-name.result.1 c.next-name.ensures.part in
+    let m = length-part old.neutral c.next-text.result.0 c.next-text.result.1 c.next-text.ensures.part in
+    let named = part_text old.neutral c.next-name.result.0 c.next-name.result.1 in
+    let body = part_text old.neutral c.next-text.result.0 c.next-text.result.1 in
+    let same : defined (argument ts 0) (argument ts 1) old.forms ≡ defined named body old.forms = rw (first, second) refl in
+    let cells : 3 + length (argument ts 0) + length (argument ts 1) ≡ 3 + (c.next-name.result.1 - c.next-name.result.0) + (c.next-text.result.1 - c.next-text.result.0) =
+    omega (arith, n, m, ap length first, ap length second) in
+    rw c.in-Ok.ensures.ok
+    (record {
+      means = λ meta input. ap (λ forms. silent (world forms meta input)) same;
+      builds = λ meta input. cells;
+      fits = grind (arith, c.in-Ok.ensures.full);
+      stands = refl;
+    })

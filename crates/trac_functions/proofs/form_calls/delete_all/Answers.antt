@@ -1,0 +1,11 @@
+use Rattle.std.proofs.Common.{[], refl}
+use Rattle.trac_language.specs.declared.function.Function.TheVariants.{DeleteAll}
+use Rattle.trac_language.specs.Meaning.{meaning_of}
+use Rattle.trac_functions.proofs.FormLemmas.{null-value}
+use Rattle.trac_functions.proofs.form_calls.delete_all.Goals as goal
+
+pub returns-clause-makes : goal.returns-clause-makes
+unfolding meaning_of
+returns-clause-makes c = λ args.
+    let old = c.args.work.now in
+    ([], rw c.delete_all.ensures.gone (null-value DeleteAll args old (record old { forms = [] }) c.requires (λ meta input. refl) (λ w. refl) refl))

@@ -1,0 +1,36 @@
+use Rattle.std.proofs.Common.{◌∷◌, sym, ap, ◌∙◌, refl, subst, arith, length, Option}
+use Rattle.trac_language.specs.declared.function.Function.TheVariants.{CallNumber}
+use Rattle.trac_language.specs.State.{argument}
+use Rattle.trac_language.specs.Meaning.{meaning_of}
+use Rattle.trac_language.specs.Part.{Part, characters}
+use Rattle.trac_language.specs.Number.{number}
+use Rattle.trac_space.specs.Texts.{text_of_cells}
+use Rattle.trac_forms.specs.Contents.{Contents, part_text, form_at, IsSound}
+use Rattle.trac_functions.specs.Calls.{texts}
+use Rattle.trac_functions.specs.Taking.{TakesPart}
+use Rattle.trac_functions.proofs.TakenParts.{makes-found, makes-missing, characters-counted}
+use Rattle.trac_functions.proofs.form_parts.call_number.Goals as goal
+
+pub returns-in-Some-clause-makes : goal.returns-in-Some-clause-makes
+unfolding meaning_of
+returns-in-Some-clause-makes c = λ name.
+    let w = c.args.work.now in
+    let ts = texts w c.args.arguments in
+    let number_is = c.text.ensures.text ∙ c.next-number.ensures.text ∙ c.next-name.ensures.later 0 in
+    let sound = subst IsSound (sym c.in-Some.ensures.same) c.requires.sound in
+    let within = ap (λ (v : Contents). length v.forms) c.in-Some.ensures.same in
+    let at = c.in-Some.ensures.found.within in
+    let counts = characters-counted c.find.new.self c.in-Some.form.0 (text_of_cells c.text.result.now) c.count_of-count.result.negative c.count_of-count.result.size sound (omega arith) c.count_of-count.ensures.negative c.count_of-count.ensures.size in
+    let takes = subst (λ (o : Option Part). TakesPart o (part_text c.find.new.self.neutral c.next-default.result.0 c.next-default.result.1) c.in-Some.form.0 c.find.new.self c.take_characters.result c.take_characters.new.work)
+    (counts ∙ ap (λ t. characters (number t) (form_at c.find.new.self.forms c.in-Some.form.0)) number_is) c.take_characters.ensures.takes in
+    makes-found CallNumber (name ∷ ts) (argument ts 0) (λ form. characters (number (argument ts 1)) form) (argument ts 2) (record { means = λ w. refl; builds = λ w. refl })
+    w c.find.new.self c.take_characters.new.work c.in-Some.form.0 c.take_characters.result _ c.next-default.result.0 c.next-default.result.1
+    c.requires.sound c.in-Some.ensures.same c.in-Some.ensures.found c.next-name.ensures.text takes (c.next-default.ensures.text ∙ c.next-number.ensures.later 0 ∙ c.next-name.ensures.later 1)
+
+pub returns-in-None-clause-makes : goal.returns-in-None-clause-makes
+unfolding meaning_of
+returns-in-None-clause-makes c = λ name.
+    let w = c.args.work.now in
+    let ts = texts w c.args.arguments in
+    makes-missing CallNumber (name ∷ ts) (argument ts 0) (λ form. characters (number (argument ts 1)) form) (argument ts 2) (record { means = λ w. refl; builds = λ w. refl })
+    w c.find.new.self _ c.requires.sound c.in-None.ensures.same c.in-None.ensures.found c.next-name.ensures.text

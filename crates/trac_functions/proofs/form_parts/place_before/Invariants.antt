@@ -1,0 +1,7 @@
+use Rattle.trac_forms.specs.Contents.{body_at}
+use Rattle.trac_functions.proofs.TakenItems.{Backward}
+use Rattle.trac_functions.proofs.form_parts.place_before.Given as goal
+
+-- so many characters were taken
+abbrev pub invariant-loop-taken : goal.invariant-loop-taken
+invariant-loop-taken l = Backward (body_at l.work.forms l.form.0) l.to l._taken l.place

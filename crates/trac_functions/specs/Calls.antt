@@ -1,0 +1,92 @@
+-- The arguments of a call, and what a function makes of it.
+use Rattle.std.specs.Prelude.{◌≡◌, ℕ, ◌+◌, ◌<◌, ◌≤◌, Bool, true, false, List, [], ◌∷◌}
+use Rattle.std.specs.Prelude.{◌++◌, length, Some, slice_range, nat_le, if◌then◌else◌}
+use Rattle.trac_language.specs.declared.function.Function.{Function}
+use Rattle.trac_language.specs.Text.{Text}
+use Rattle.trac_language.specs.Form.{Form}
+use Rattle.trac_language.specs.State.{Input}
+use Rattle.trac_language.specs.Meaning.{World, Gives, meaning_of, built}
+use Rattle.trac_space.specs.declared.cell.Cell.{Cell}
+use Rattle.trac_space.specs.Cells.{NoCall}
+use Rattle.trac_space.specs.Texts.{flat_text}
+use Rattle.trac_forms.specs.Contents.{Contents, used, IsSound}
+use Rattle.trac_functions.specs.declared.arguments.Arguments.{Arguments}
+use Rattle.trac_functions.specs.declared.arguments.Made.{Made}
+use Rattle.trac_functions.specs.declared.arguments.Made.TheVariants.{Full, Value, Forced, Defined}
+use Rattle.trac_functions.specs.Flat.{texts_of}
+
+-- the arguments that are left to take: those from a place up to another, none once the place is
+-- past that
+abbrev pub texts_from : List Cell → ℕ → ℕ → List Text
+texts_from neutral from end =
+    if nat_le from end then texts_of (slice_range neutral from end) else []
+
+-- the arguments that are left are within neutral, where no call mark stands among them
+pub record AreArguments (w : Contents) (arguments : Arguments) : Type 0 where
+  pub sound : IsSound w
+  pub order : arguments.from ≤ arguments.end + 1
+  pub within : arguments.end ≤ length w.neutral
+  pub no_call : NoCall (slice_range w.neutral arguments.from arguments.end)
+
+-- the texts of the arguments that are left
+abbrev pub texts : Contents → Arguments → List Text
+texts w arguments = texts_from w.neutral arguments.from arguments.end
+
+-- what calls read and change, of these forms
+abbrev pub world : List Form → ℕ → Input → World
+world forms meta input = record { forms = forms; meta = meta; input = input }
+
+-- a call of the function has this value, changes the forms to these and does nothing else
+abbrev pub Means : Function → List Text → List Form → Text → Bool → List Form → Type 0
+Means function args old value forced new =
+    (meta : ℕ) (input : Input) →
+    meaning_of function args (world old meta input) ≡ Gives (record {
+      value = value;
+      forced = forced;
+      world = world new meta input;
+      printed = [];
+    })
+
+-- a call of the function has this value, changes the forms to these, and builds the value alone
+pub record Valued (function : Function) (args : List Text) (old : List Form) (value : Text)
+    (forced : Bool) (new : List Form) : Type 0 where
+  pub means : Means function args old value forced new
+  pub builds : (meta : ℕ) (input : Input) →
+      built (Some function) args (world old meta input) ≡ length value
+
+-- the value of a call stands at the end of neutral, and the forms are changed
+pub record IsValue (function : Function) (args : List Text) (old new : Contents) (forced : Bool)
+    (value : Text) : Type 0 where
+  pub valued : Valued function args old.forms value forced new.forms
+  pub fits : used old + length value ≤ old.room
+  pub stands : new ≡ record old { forms = new.forms; neutral = old.neutral ++ flat_text value }
+
+-- a call with a null value built so many cells of forms
+pub record IsDefined (function : Function) (args : List Text) (old new : Contents)
+    (cells : ℕ) : Type 0 where
+  pub means : Means function args old.forms [] false new.forms
+  pub builds : (meta : ℕ) (input : Input) →
+      built (Some function) args (world old.forms meta input) ≡ cells
+  pub fits : used old + cells ≤ old.room
+  pub stands : new ≡ record old { forms = new.forms }
+
+-- what a function without devices makes of a call: its value, or more than there is room for
+abbrev pub Makes : Function → List Text → Contents → Made → Contents → Type 0
+Makes function args old Full new =
+    (meta : ℕ) (input : Input) →
+    old.room < used old + built (Some function) args (world old.forms meta input)
+Makes function args old Value new = (value : Text) × IsValue function args old new false value
+Makes function args old Forced new = (value : Text) × IsValue function args old new true value
+Makes function args old (Defined cells) new = IsDefined function args old new cells
+
+-- the same of a call whose arguments, but for the function's name, are those that are left
+abbrev pub Performs : Function → Contents → Arguments → Made → Contents → Type 0
+Performs function old arguments made new =
+    (name : Text) → Makes function (name ∷ texts old arguments) old made new
+
+-- whatever call has this value and changes no form, this is what its function makes of it
+abbrev pub MakesValue : Text → Bool → Contents → Made → Contents → Type 0
+MakesValue value forced old made new =
+    (function : Function) (args : List Text) →
+    Valued function args old.forms value forced old.forms →
+    Makes function args old made new

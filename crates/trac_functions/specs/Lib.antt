@@ -1,0 +1,4 @@
+pub mod BitResults
+pub mod Calls
+pub mod Flat
+pub mod Taking

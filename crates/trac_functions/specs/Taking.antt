@@ -1,0 +1,48 @@
+-- What is taken of a form by a call.
+use Rattle.std.specs.Prelude.{◌≡◌, ℕ, Bool, true, ◌+◌, ◌<◌, ◌≤◌, List, ◌++◌, length, set}
+use Rattle.std.specs.Prelude.{Option, Some, None}
+use Rattle.trac_language.specs.Text.{Text}
+use Rattle.trac_language.specs.Form.{Form}
+use Rattle.trac_language.specs.Part.{Part}
+use Rattle.trac_space.specs.Texts.{flat_text}
+use Rattle.trac_forms.specs.Contents.{Contents, used, part_text, form_at}
+use Rattle.trac_forms.specs.Search.{NonePasses}
+use Rattle.trac_functions.specs.declared.arguments.Made.{Made}
+use Rattle.trac_functions.specs.declared.arguments.Made.TheVariants.{Full, Value, Forced, Defined}
+
+-- the value of a call that takes a part, or z where there is none
+abbrev pub part_value : Option Part → Text → Text
+part_value None z = z
+part_value (Some part) z = part.text
+
+-- the forms with the pointer of that at a place moved
+abbrev pub moved : List Form → ℕ → ℕ → List Form
+moved forms k pointer = set forms k (record (form_at forms k) { pointer = pointer })
+
+-- a text stands at the end of neutral, and the forms are these
+pub record Puts (old new : Contents) (forms : List Form) (text : Text) : Type 0 where
+  pub fits : used old + length text ≤ old.room
+  pub stands : new ≡ record old { forms = forms; neutral = old.neutral ++ flat_text text }
+
+-- the part of the form at place k is the value, and its
+-- pointer is moved; or z is the value; or that doesn't fit
+abbrev pub TakesPart : Option Part → Text → ℕ → Contents → Made → Contents → Type 0
+TakesPart part z k old Full new = old.room < used old + length (part_value part z)
+TakesPart None z k old Forced new = Puts old new old.forms z
+TakesPart (Some part) z k old Value new = Puts old new (moved old.forms k part.pointer) part.text
+TakesPart None z k old Value new = ⊥
+TakesPart (Some part) z k old Forced new = ⊥
+TakesPart part z k old (Defined cells) new = ⊥
+
+-- the part of the form at place k that a call takes is the value, and its pointer is moved; or the
+-- text of z, a part of the neutral string, is the value; or that doesn't fit
+abbrev pub TakesOrDefault : (Form → Option Part) → ℕ → ℕ × ℕ → Contents → Made → Contents → Type 0
+TakesOrDefault part k z old made new =
+    TakesPart (part (form_at old.forms k)) (part_text old.neutral z.0 z.1) k old made new
+
+-- the first place from one up to another that passes a test, or that other place
+pub record IsFirstOr (test : ℕ → Bool) (from to place : ℕ) : Type 0 where
+  pub above : from ≤ place
+  pub below : place ≤ to
+  pub before : NonePasses test from place
+  pub passes : place < to → test place ≡ true

@@ -1,0 +1,105 @@
+//! The arguments of a call, taken one after the other, and the value that is put behind them.
+ghost use Rattle.std.specs.Prelude.{◌≡◌, ◌↔◌, ◌+◌, ◌≤◌, ◌++◌, ℕ, true, false, length, drop};
+ghost use Rattle.std.specs.Prelude.{IsTrue};
+ghost use Rattle.std.specs.Bool.{OnTrue, OnFalse};
+ghost use Rattle.trac_language.specs.State.{argument};
+ghost use Rattle.trac_space.specs.Texts.{flat_text, text_of_cells};
+ghost use Rattle.trac_values.specs.Cells.{IsText};
+ghost use Rattle.trac_forms.specs.Contents.{used, part_text, IsTextPart, IsSound};
+ghost use Rattle.trac_functions.specs.Calls.{MakesValue, AreArguments, texts};
+ghost use Rattle.trac_functions.specs.Taking.{TakesPart};
+
+use trac_forms::{Cell, Work, before_comma};
+
+/// The arguments of a call that are left to take: those in the neutral string from a place up to
+/// another. None is left once the place is past that.
+#[derive(Clone, Copy)]
+pub struct Arguments {
+    pub from: u32,
+    pub end: u32,
+}
+
+/// What a function makes of a call.
+#[derive(Clone, Copy, PartialEq, Eq, Debug)]
+pub enum Made {
+    /// There are too few cells for what it builds.
+    Full,
+    /// Its value stands at the end of the neutral string.
+    Value,
+    /// The same, and the value goes to the active string whatever the call's mode.
+    Forced,
+    /// A null value; it built so many cells of forms.
+    Defined(u32),
+}
+
+impl Arguments {
+    /// Where the next argument begins and ends; a null part where none is left.
+    pub fn next(&mut self, work: &Work) -> (u32, u32)
+        requires { AreArguments work.now self.old }
+        ensures part { IsTextPart work.now.neutral result.0 result.1 }
+        ensures text { let text = part_text work.now.neutral result.0 result.1 in
+            text ≡ argument (texts work.now self.old) 0 }
+        ensures rest { texts work.now self.new ≡ drop 1 (texts work.now self.old) }
+        ensures later { (k : ℕ) →
+            argument (texts work.now self.new) k ≡ argument (texts work.now self.old) (k + 1) }
+        ensures left { AreArguments work.now self.new }
+    {
+        let from = self.from;
+        if from > self.end {
+            return (self.end, self.end);
+        }
+        let to = from + before_comma(work.neutral_part(from, self.end));
+        self.from = to + 1;
+        (from, to)
+    }
+
+    /// Whether no argument is left.
+    pub fn is_empty(&self) -> bool
+        ensures { IsTrue result ↔ (self.now.end + 1 ≤ self.now.from) }
+    {
+        self.from > self.end
+    }
+}
+
+/// The cells of a part of the neutral string that is a text.
+pub fn text<'a>(work: &'a Work, part: (u32, u32)) -> &'a [Cell]
+    requires { IsTextPart work.now.neutral part.0 part.1 }
+    ensures text { text_of_cells result.now ≡ part_text work.now.neutral part.0 part.1 }
+    ensures is_text { IsText result.now }
+{
+    prove!(work.used() <= work.room());
+    work.neutral_part(part.0, part.1)
+}
+
+/// Puts a part of the neutral string that is a text once more at its end, if there are cells for
+/// it.
+pub fn put_part(work: &mut Work, part: (u32, u32)) -> bool
+    requires part { IsTextPart work.old.neutral part.0 part.1 }
+    ensures put { let text = part_text work.old.neutral part.0 part.1 in
+        IsTrue result ↔ (used work.old + length text ≤ work.old.room) }
+    ensures last { let text = part_text work.old.neutral part.0 part.1 in
+        OnTrue result (work.new ≡ record work.old {
+          neutral = work.old.neutral ++ flat_text text;
+        }) }
+    ensures full { OnFalse result (work.new ≡ work.old) }
+    ensures sound { IsSound work.new }
+{
+    work.copy_neutral(part.0, part.1)
+}
+
+/// A part of the neutral string is the value of a call, which goes to the active string whatever
+/// the call's mode where it is forced.
+pub fn give(work: &mut Work, part: (u32, u32), forced: bool) -> Made
+    requires part { IsTextPart work.old.neutral part.0 part.1 }
+    ensures makes { let text = part_text work.old.neutral part.0 part.1 in
+        MakesValue text forced work.old result work.new }
+    ensures takes { let text = part_text work.old.neutral part.0 part.1 in
+        forced ≡ true → (k : ℕ) → TakesPart None text k work.old result work.new }
+    ensures room { work.new.room ≡ work.old.room }
+    ensures sound { IsSound work.new }
+{
+    if !put_part(work, part) {
+        return Made::Full;
+    }
+    if forced { Made::Forced } else { Made::Value }
+}

@@ -1,0 +1,58 @@
+//! The functions of arithmetic: `ad`, `su`, `ml` and `dv`.
+ghost use Rattle.std.specs.Prelude.{◌≡◌, ◌∷◌, ◌++◌, false, List};
+ghost use Rattle.std.specs.Fmt.{signed_decimal};
+ghost use Rattle.trac_language.specs.declared.function.Function.{Function};
+ghost use Rattle.trac_language.specs.declared.function.Function.TheVariants.{Arithmetic};
+ghost use Rattle.trac_language.specs.Text.{Text};
+ghost use Rattle.trac_forms.specs.Contents.{part_text, IsTextPart, IsSound};
+ghost use Rattle.trac_functions.specs.Calls.{AreArguments, texts, Valued, Makes};
+
+use crate::arguments::{Arguments, Made, give, put_part, text};
+use crate::writing::put_bytes;
+use itoa::Buffer;
+use trac_forms::Work;
+use trac_language::Arith;
+
+/// `ad,N1,N2,Z`, `su,N1,N2,Z`, `ml,N1,N2,Z` and `dv,N1,N2,Z`: the prefix of N1 and after it the
+/// sum, difference, product or quotient of the numbers of N1 and N2 in decimal (Mooers 1966). Z,
+/// which goes to the active string whatever the call's mode, where a number or the result is
+/// outside the range of arithmetic or a divisor is 0; the range and that the quotient is rounded
+/// towards 0 are this processor's own choice.
+pub fn arithmetic(work: &mut Work, operation: Arith, mut arguments: Arguments) -> Made
+    requires { AreArguments work.old arguments }
+    ensures makes { (name : Text) →
+        Makes (Arithmetic operation) (name ∷ texts work.old arguments) work.old result work.new }
+    ensures room { work.new.room ≡ work.old.room }
+    ensures sound { IsSound work.new }
+{
+    let first = arguments.next(work);
+    let second = arguments.next(work);
+    let other = arguments.next(work);
+    let left = trac_values::tail_number(text(work, first));
+    let right = trac_values::tail_number(text(work, second));
+    match trac_values::result_of(operation, left.value, right.value) {
+        Some(number) => give_number(work, (first.0, first.0 + left.start), number),
+        None => give(work, other, true),
+    }
+}
+
+/// A part of the neutral string, and a number in decimal behind it, are the value of a call.
+fn give_number(work: &mut Work, prefix: (u32, u32), number: i128) -> Made
+    requires prefix { IsTextPart work.old.neutral prefix.0 prefix.1 }
+    ensures makes { (function : Function) (args : List Text) →
+        let before = part_text work.old.neutral prefix.0 prefix.1 in
+        let value = before ++ signed_decimal number in
+        Valued function args work.old.forms value false work.old.forms →
+        Makes function args work.old result work.new }
+    ensures room { work.new.room ≡ work.old.room }
+    ensures sound { IsSound work.new }
+{
+    let mut buffer = Buffer::new();
+    let digits = buffer.format(number).as_bytes();
+    if work.free() < prefix.1 - prefix.0 + digits.len() as u32 {
+        return Made::Full;
+    }
+    put_part(work, prefix);
+    put_bytes(work, digits);
+    Made::Value
+}

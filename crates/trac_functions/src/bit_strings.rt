@@ -1,0 +1,211 @@
+//! The functions of bit strings: `bu`, `bi`, `bc`, `bs` and `br`.
+ghost use Rattle.std.specs.Prelude.{◌≡◌, ◌+◌, ◌-◌, ◌≤◌, ◌++◌, false, List, length, slice_get};
+ghost use Rattle.trac_language.specs.declared.function.Function.{Function};
+ghost use Rattle.trac_language.specs.declared.function.Function.TheVariants.{Union, Intersection};
+ghost use Rattle.trac_language.specs.declared.function.Function.TheVariants.{Complement, Shift};
+ghost use Rattle.trac_language.specs.declared.function.Function.TheVariants.{Rotate};
+ghost use Rattle.trac_language.specs.Text.{Text};
+ghost use Rattle.trac_language.specs.BitString.{bits, octal, octal_prefix};
+ghost use Rattle.trac_space.specs.Texts.{flat_text};
+ghost use Rattle.trac_values.specs.Digits.{bits_of_cells, IsOctal};
+ghost use Rattle.trac_forms.specs.Contents.{used, part_text, IsTextPart, IsSound};
+ghost use Rattle.trac_functions.specs.BitResults.{bits_at, AreDigits, AreFor, octal_made};
+ghost use Rattle.trac_functions.specs.Calls.{AreArguments, Valued, Makes, Performs};
+
+use crate::arguments::{Arguments, Made, put_part, text};
+use trac_forms::{Cell, Work};
+use trac_values::Count;
+
+/// A result of bits, with the parts of the neutral string
+/// where the octal digits stand that it is made of.
+#[derive(Clone, Copy)]
+pub enum BitResult {
+    Union((u32, u32), (u32, u32)),
+    Intersection((u32, u32), (u32, u32)),
+    Complement((u32, u32)),
+    Shift(Count, (u32, u32)),
+    Rotation(u32, (u32, u32)),
+}
+
+/// `bu,A,B`: the prefix of A and after it the union of the bit strings of A and B in octal digits
+/// (Mooers 1966). That the shorter is filled with zeros at the left, and that the prefix of B is
+/// dropped, is this processor's own choice.
+pub fn union(work: &mut Work, mut arguments: Arguments) -> Made
+    requires { AreArguments work.old arguments }
+    ensures makes { Performs Union work.old arguments result work.new }
+    ensures room { work.new.room ≡ work.old.room }
+    ensures sound { IsSound work.new }
+{
+    let first = arguments.next(work);
+    let second = arguments.next(work);
+    let left = digits_of(work, first);
+    let right = digits_of(work, second);
+    give_bits(work, (first.0, left.0), BitResult::Union(left, right))
+}
+
+/// `bi,A,B`: the prefix of A and after it the intersection of the bit strings
+/// of A and B in octal digits (Mooers 1966). That the longer is cut at the
+/// left, and that the prefix of B is dropped, is this processor's own choice.
+pub fn intersection(work: &mut Work, mut arguments: Arguments) -> Made
+    requires { AreArguments work.old arguments }
+    ensures makes { Performs Intersection work.old arguments result work.new }
+    ensures room { work.new.room ≡ work.old.room }
+    ensures sound { IsSound work.new }
+{
+    let first = arguments.next(work);
+    let second = arguments.next(work);
+    let left = digits_of(work, first);
+    let right = digits_of(work, second);
+    give_bits(
+        work,
+        (first.0, left.0),
+        BitResult::Intersection(left, right),
+    )
+}
+
+/// `bc,O`: the prefix of O and after it the octal digits of
+/// its bit string with each bit turned over (Mooers 1966).
+pub fn complement(work: &mut Work, mut arguments: Arguments) -> Made
+    requires { AreArguments work.old arguments }
+    ensures makes { Performs Complement work.old arguments result work.new }
+    ensures room { work.new.room ≡ work.old.room }
+    ensures sound { IsSound work.new }
+{
+    let first = arguments.next(work);
+    let digits = digits_of(work, first);
+    give_bits(work, (first.0, digits.0), BitResult::Complement(digits))
+}
+
+/// `bs,D,O`: the prefix of O and after it the octal digits of its bit string, shifted by as many
+/// bits as the number of D says, to the left where that is positive and to the right where it is
+/// negative (Mooers 1966). That zeros come in and the length is kept, and that the number may have
+/// any length, is this processor's own choice.
+pub fn shift(work: &mut Work, mut arguments: Arguments) -> Made
+    requires { AreArguments work.old arguments }
+    ensures makes { Performs Shift work.old arguments result work.new }
+    ensures room { work.new.room ≡ work.old.room }
+    ensures sound { IsSound work.new }
+{
+    let distance = arguments.next(work);
+    let shifted = arguments.next(work);
+    let by = trac_values::shift_of(text(work, distance));
+    let digits = digits_of(work, shifted);
+    give_bits(work, (shifted.0, digits.0), BitResult::Shift(by, digits))
+}
+
+/// `br,D,O`: the prefix of O and after it the octal digits of its bit string,
+/// rotated by as many bits as the number of D says, to the left where that is
+/// positive and to the right where it is negative (Mooers 1966). That the length is
+/// kept, and that the number may have any length, is this processor's own choice.
+pub fn rotate(work: &mut Work, mut arguments: Arguments) -> Made
+    requires { AreArguments work.old arguments }
+    ensures makes { Performs Rotate work.old arguments result work.new }
+    ensures room { work.new.room ≡ work.old.room }
+    ensures sound { IsSound work.new }
+{
+    let distance = arguments.next(work);
+    let rotated = arguments.next(work);
+    let digits = digits_of(work, rotated);
+    let bits = (3 * (digits.1 - digits.0)).max(1);
+    let by = trac_values::rotation_of(text(work, distance), bits);
+    give_bits(work, (rotated.0, digits.0), BitResult::Rotation(by, digits))
+}
+
+/// Where the octal digits stand at the end of a part of the neutral string.
+fn digits_of(work: &Work, part: (u32, u32)) -> (u32, u32)
+    requires { IsTextPart work.now.neutral part.0 part.1 }
+    ensures digits { AreDigits work.now.neutral result }
+    ensures before { IsTextPart work.now.neutral part.0 result.0 }
+    ensures prefix { let text = part_text work.now.neutral part.0 part.1 in
+        part_text work.now.neutral part.0 result.0 ≡ octal_prefix text }
+    ensures bits { let text = part_text work.now.neutral part.0 part.1 in
+        bits_at work.now.neutral result ≡ bits text }
+{
+    (part.0 + trac_values::octal_start(text(work, part)), part.1)
+}
+
+/// The cells of octal digits.
+fn digit_cells<'a>(work: &'a Work, part: (u32, u32)) -> &'a [Cell]
+    requires { AreDigits work.now.neutral part }
+    ensures octal { IsOctal result.now }
+    ensures bits { bits_of_cells result.now ≡ bits_at work.now.neutral part }
+    ensures long { length result.now ≡ part.1 - part.0 }
+    ensures short { length result.now ≤ 16777216 }
+{
+    prove!(work.used() <= work.room());
+    work.neutral_part(part.0, part.1)
+}
+
+/// How many octal digits a result has.
+fn digits_made(work: &Work, bits: BitResult) -> u32
+    requires { AreFor work.now.neutral bits }
+    ensures { result ≡ length (octal_made work.now.neutral bits) }
+{
+    match bits {
+        BitResult::Union(a, b) => (a.1 - a.0).max(b.1 - b.0),
+        BitResult::Intersection(a, b) => (a.1 - a.0).min(b.1 - b.0),
+        BitResult::Complement(a) => a.1 - a.0,
+        BitResult::Shift(_, a) => a.1 - a.0,
+        BitResult::Rotation(_, a) => a.1 - a.0,
+    }
+}
+
+/// The octal digit at a place of a result, counted from the left; None past its end.
+fn digit_made(work: &Work, bits: BitResult, place: u32) -> Option<u8>
+    requires { AreFor work.now.neutral bits }
+    ensures { result ≡ slice_get (octal_made work.now.neutral bits) place }
+{
+    match bits {
+        BitResult::Union(a, b) => {
+            trac_values::union_digit(digit_cells(work, a), digit_cells(work, b), place)
+        }
+        BitResult::Intersection(a, b) => {
+            trac_values::intersection_digit(digit_cells(work, a), digit_cells(work, b), place)
+        }
+        BitResult::Complement(a) => trac_values::complement_digit(digit_cells(work, a), place),
+        BitResult::Shift(by, a) => trac_values::shifted_digit(digit_cells(work, a), by, place),
+        BitResult::Rotation(by, a) => {
+            if a.0 == a.1 {
+                return None;
+            }
+            trac_values::rotated_digit(digit_cells(work, a), by, place)
+        }
+    }
+}
+
+/// Puts the octal digits of a result at the end of the neutral string, which there are cells for.
+fn put_digits(work: &mut Work, bits: BitResult)
+    requires parts { AreFor work.old.neutral bits }
+    requires fits { used work.old + length (octal_made work.old.neutral bits) ≤ work.old.room }
+    ensures put { let digits = octal_made work.old.neutral bits in
+        work.new ≡ record work.old { neutral = work.old.neutral ++ flat_text digits } }
+    ensures sound { IsSound work.new }
+{
+    prove!(work.used() <= work.room());
+    for place in 0..digits_made(work, bits) {
+        if let Some(digit) = digit_made(work, bits, place) {
+            work.push_neutral(Cell::Byte(digit));
+        }
+    }
+}
+
+/// A part of the neutral string, and the octal digits of a
+/// result behind it, are the value of a call.
+fn give_bits(work: &mut Work, prefix: (u32, u32), bits: BitResult) -> Made
+    requires prefix { IsTextPart work.old.neutral prefix.0 prefix.1 }
+    requires parts { AreFor work.old.neutral bits }
+    ensures makes { (function : Function) (args : List Text) →
+        let before = part_text work.old.neutral prefix.0 prefix.1 in
+        let value = before ++ octal_made work.old.neutral bits in
+        Valued function args work.old.forms value false work.old.forms →
+        Makes function args work.old result work.new }
+    ensures room { work.new.room ≡ work.old.room }
+    ensures sound { IsSound work.new }
+{
+    if work.free() < prefix.1 - prefix.0 + digits_made(work, bits) {
+        return Made::Full;
+    }
+    put_part(work, prefix);
+    put_digits(work, bits);
+    Made::Value
+}

@@ -1,0 +1,163 @@
+//! The functions that make, remove and list forms, and that call a whole form: `ds`, `ss`, `ln`,
+//! `dd`, `da`, `cl`.
+ghost use Rattle.std.specs.Prelude.{◌≡◌, ◌↔◌, ◌+◌, ◌<◌, ◌≤◌, List, ◌++◌, length, drop};
+ghost use Rattle.std.specs.Prelude.{IsTrue, MatchOption};
+ghost use Rattle.std.specs.Bool.{OnTrue};
+ghost use Rattle.trac_language.specs.declared.function.Function.TheVariants.{DefineString};
+ghost use Rattle.trac_language.specs.declared.function.Function.TheVariants.{SegmentString};
+ghost use Rattle.trac_language.specs.declared.function.Function.TheVariants.{DeleteDefinition};
+ghost use Rattle.trac_language.specs.declared.function.Function.TheVariants.{DeleteAll, ListNames};
+ghost use Rattle.trac_language.specs.declared.function.Function.TheVariants.{CallForm};
+ghost use Rattle.trac_language.specs.Text.{Text};
+ghost use Rattle.trac_language.specs.Store.{NoneNamed};
+ghost use Rattle.trac_language.specs.State.{argument};
+ghost use Rattle.trac_space.specs.Texts.{flat_text};
+ghost use Rattle.trac_forms.specs.Contents.{used, name_at, part_text, IsTextPart, IsNamedAt};
+ghost use Rattle.trac_forms.specs.Contents.{IsSound};
+ghost use Rattle.trac_functions.specs.Calls.{AreArguments, texts, Makes, Performs};
+
+use crate::arguments::{Arguments, Made, put_part};
+use trac_forms::{FormId, Work};
+
+/// `da`: all forms are removed (Mooers 1966).
+pub fn delete_all(work: &mut Work) -> Made
+    requires { IsSound work.old }
+    ensures makes { (args : List Text) → Makes DeleteAll args work.old result work.new }
+    ensures room { work.new.room ≡ work.old.room }
+    ensures sound { IsSound work.new }
+{
+    work.delete_all();
+    Made::Value
+}
+
+/// `ds,N,X`: the form N with the characters of X as its body becomes the last, in place of an older
+/// form N (Mooers 1966). It takes 3 cells beside its name and its body, while an older one still
+/// stands (this processor's own choice).
+pub fn define_string(work: &mut Work, mut arguments: Arguments) -> Made
+    requires { AreArguments work.old arguments }
+    ensures makes { Performs DefineString work.old arguments result work.new }
+    ensures room { work.new.room ≡ work.old.room }
+    ensures sound { IsSound work.new }
+{
+    let name = arguments.next(work);
+    let text = arguments.next(work);
+    let cells = 3 + (name.1 - name.0) + (text.1 - text.0);
+    match work.define(name, text) {
+        Ok(()) => Made::Defined(cells),
+        Err(_) => Made::Full,
+    }
+}
+
+/// `ss,N,X1,X2,..`: each occurrence of X1 in the form N, from the left, becomes a gap of ordinal 1,
+/// then each occurrence of X2 in what is left a gap of ordinal 2, and so on (Mooers 1966). The
+/// pointer goes to the start, also where no X is given, a null X keeps its ordinal, and earlier
+/// gaps stay (this processor's own choice).
+pub fn segment_string(work: &mut Work, mut arguments: Arguments) -> Made
+    requires { AreArguments work.old arguments }
+    ensures makes { Performs SegmentString work.old arguments result work.new }
+    ensures room { work.new.room ≡ work.old.room }
+    ensures sound { IsSound work.new }
+{
+    let Some(form) = next_form(work, &mut arguments) else {
+        return Made::Value;
+    };
+    work.set_pointer(form, 0);
+    let mut ordinal = 0;
+    while !arguments.is_empty() {
+        let part = arguments.next(work);
+        ordinal += 1;
+        work.segment(form, part, ordinal);
+    }
+    Made::Value
+}
+
+/// `ln,X`: for each form, in the order in which they were defined, X and then its name (Mooers
+/// 1966; X before each name is this processor's own choice).
+pub fn list_names(work: &mut Work, mut arguments: Arguments) -> Made
+    requires { AreArguments work.old arguments }
+    ensures makes { Performs ListNames work.old arguments result work.new }
+    ensures room { work.new.room ≡ work.old.room }
+    ensures sound { IsSound work.new }
+{
+    let before = arguments.next(work);
+    for k in 0..work.forms() {
+        if let Some(form) = work.form(k) {
+            if !put_name(work, before, form) {
+                return Made::Full;
+            }
+        }
+    }
+    Made::Value
+}
+
+/// Puts a part of the neutral string and then the form's name at its end, if there are cells for
+/// both.
+fn put_name(work: &mut Work, before: (u32, u32), form: FormId) -> bool
+    requires part { IsTextPart work.old.neutral before.0 before.1 }
+    requires known { form.0 < length work.old.forms }
+    ensures put { let before = part_text work.old.neutral before.0 before.1 in
+        let text = before ++ name_at work.old.forms form.0 in
+        IsTrue result ↔ (used work.old + length text ≤ work.old.room) }
+    ensures last { let before = part_text work.old.neutral before.0 before.1 in
+        let text = before ++ name_at work.old.forms form.0 in
+        OnTrue result (work.new ≡ record work.old {
+          neutral = work.old.neutral ++ flat_text text;
+        }) }
+    ensures room { work.new.room ≡ work.old.room }
+    ensures sound { IsSound work.new }
+{
+    if !put_part(work, before) {
+        return false;
+    }
+    work.copy_name(form)
+}
+
+/// `dd,N1,N2,..`: the forms of these names are removed (Mooers 1966). A name that no form has is
+/// ignored, and only the arguments that are written are names (this processor's own choice).
+pub fn delete_definition(work: &mut Work, mut arguments: Arguments) -> Made
+    requires { AreArguments work.old arguments }
+    ensures makes { Performs DeleteDefinition work.old arguments result work.new }
+    ensures room { work.new.room ≡ work.old.room }
+    ensures sound { IsSound work.new }
+{
+    while !arguments.is_empty() {
+        if let Some(form) = next_form(work, &mut arguments) {
+            work.delete(form);
+        }
+    }
+    Made::Value
+}
+
+/// `cl,N,X1,X2,..`: the form N from its pointer on, each gap of ordinal k replaced by Xk, or by
+/// nothing where that is missing (Mooers 1966). What stands before the pointer is left out, and the
+/// pointer stays (this processor's own choice).
+pub fn call_form(work: &mut Work, mut arguments: Arguments) -> Made
+    requires { AreArguments work.old arguments }
+    ensures makes { Performs CallForm work.old arguments result work.new }
+    ensures room { work.new.room ≡ work.old.room }
+    ensures sound { IsSound work.new }
+{
+    let Some(form) = next_form(work, &mut arguments) else {
+        return Made::Value;
+    };
+    if work.fill_body(form, arguments.from, arguments.end) {
+        Made::Value
+    } else {
+        Made::Full
+    }
+}
+
+/// The form that the next argument names, None where no form has the name.
+fn next_form(work: &mut Work, arguments: &mut Arguments) -> Option<FormId>
+    requires { AreArguments work.old arguments.old }
+    ensures found { let name = argument (texts work.old arguments.old) 0 in
+        MatchOption result
+        (NoneNamed name work.old.forms)
+        (λ form. IsNamedAt work.old.forms name form.0) }
+    ensures same { work.new ≡ work.old }
+    ensures rest { texts work.old arguments.new ≡ drop 1 (texts work.old arguments.old) }
+    ensures left { AreArguments work.old arguments.new }
+{
+    let name = arguments.next(work);
+    work.find(name.0, name.1)
+}

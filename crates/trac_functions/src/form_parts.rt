@@ -1,0 +1,324 @@
+//! The functions that take a part of a form: `cs`, `cc`, `cn`, `in`, and `cr`.
+ghost use Rattle.std.specs.Prelude.{◌≡◌, ◌↔◌, ◌+◌, ◌-◌, ◌<◌, ◌≤◌, ◌++◌, ℕ, min};
+ghost use Rattle.std.specs.Prelude.{take, drop, reverse, length, Some, None, IsTrue, true, false};
+ghost use Rattle.std.specs.Bool.{OnTrue};
+ghost use Rattle.trac_language.specs.declared.function.Function.TheVariants.{CallSegment};
+ghost use Rattle.trac_language.specs.declared.function.Function.TheVariants.{CallCharacter};
+ghost use Rattle.trac_language.specs.declared.function.Function.TheVariants.{CallNumber};
+ghost use Rattle.trac_language.specs.declared.function.Function.TheVariants.{InitialPart};
+ghost use Rattle.trac_language.specs.declared.function.Function.TheVariants.{CallRestore};
+ghost use Rattle.trac_language.specs.Text.{Text};
+ghost use Rattle.trac_language.specs.Form.{text_of};
+ghost use Rattle.trac_language.specs.Part.{first_characters, characters, next_characters};
+ghost use Rattle.trac_language.specs.Part.{previous_characters, next_segment, initial_part};
+ghost use Rattle.trac_language.specs.Part.{characters_between, part_between};
+ghost use Rattle.trac_space.specs.Texts.{flat_text};
+ghost use Rattle.trac_values.specs.Digits.{signed};
+ghost use Rattle.trac_forms.specs.Contents.{used, body_at, part_text, IsTextPart, IsSound};
+ghost use Rattle.trac_forms.specs.Search.{character_at, gap_at};
+ghost use Rattle.trac_functions.specs.Calls.{AreArguments, Performs};
+ghost use Rattle.trac_functions.specs.Taking.{TakesPart, IsFirstOr, TakesOrDefault};
+
+use crate::arguments::{Arguments, Made, give, put_part, text};
+use trac_forms::{FormId, Work};
+use trac_language::Item;
+use trac_values::{Count, count_of};
+
+/// `cs,N,Z`: the characters from the pointer up to the next gap, or to the end where no gap
+/// follows; the pointer goes past that gap (Mooers 1966). With the pointer at the end Z is the
+/// value, and goes to the active string whatever the call's mode; a form that isn't defined gives a
+/// null value (this processor's own choice).
+pub fn call_segment(work: &mut Work, mut arguments: Arguments) -> Made
+    requires { AreArguments work.old arguments }
+    ensures makes { Performs CallSegment work.old arguments result work.new }
+    ensures room { work.new.room ≡ work.old.room }
+    ensures sound { IsSound work.new }
+{
+    let name = arguments.next(work);
+    let default = arguments.next(work);
+    match work.find(name.0, name.1) {
+        Some(form) => take_segment(work, form, default),
+        None => Made::Value,
+    }
+}
+
+/// Takes the characters up to the next gap.
+fn take_segment(work: &mut Work, form: FormId, default: (u32, u32)) -> Made
+    requires known { form.0 < length work.old.forms }
+    requires part { IsTextPart work.old.neutral default.0 default.1 }
+    requires sound { IsSound work.old }
+    ensures takes { TakesOrDefault next_segment form.0 default work.old result work.new }
+    ensures room { work.new.room ≡ work.old.room }
+    ensures sound { IsSound work.new }
+{
+    let from = work.pointer(form);
+    let end = work.body_len(form);
+    if from == end {
+        return give(work, default, true);
+    }
+    match work.next_gap(form, from) {
+        Some(gap) => take_part(work, form, (from, gap), gap + 1),
+        None => take_part(work, form, (from, end), end),
+    }
+}
+
+/// `cc,N,Z`: the next character after the pointer, gaps skipped;
+/// the pointer goes behind it (Mooers 1966). Z as for `cs`.
+pub fn call_character(work: &mut Work, mut arguments: Arguments) -> Made
+    requires { AreArguments work.old arguments }
+    ensures makes { Performs CallCharacter work.old arguments result work.new }
+    ensures room { work.new.room ≡ work.old.room }
+    ensures sound { IsSound work.new }
+{
+    let name = arguments.next(work);
+    let default = arguments.next(work);
+    match work.find(name.0, name.1) {
+        Some(form) => take_forward(work, form, 1, default),
+        None => Made::Value,
+    }
+}
+
+/// `cn,N,D,Z`: the next D characters, or the last -D before the pointer where D is negative, gaps
+/// skipped; the pointer goes to the other side of them (Mooers 1966). All of them where there are
+/// fewer; D has any length; D = 0 gives a null value; Z as for `cs` (this processor's own choice).
+pub fn call_number(work: &mut Work, mut arguments: Arguments) -> Made
+    requires { AreArguments work.old arguments }
+    ensures makes { Performs CallNumber work.old arguments result work.new }
+    ensures room { work.new.room ≡ work.old.room }
+    ensures sound { IsSound work.new }
+{
+    let name = arguments.next(work);
+    let number = arguments.next(work);
+    let default = arguments.next(work);
+    let count = count_of(text(work, number));
+    match work.find(name.0, name.1) {
+        Some(form) => take_characters(work, form, count, default),
+        None => Made::Value,
+    }
+}
+
+/// Takes so many characters forward or backward.
+fn take_characters(work: &mut Work, form: FormId, count: Count, default: (u32, u32)) -> Made
+    requires known { form.0 < length work.old.forms }
+    requires part { IsTextPart work.old.neutral default.0 default.1 }
+    requires sound { IsSound work.old }
+    ensures takes { let part = characters (signed count.negative count.size) in
+        TakesOrDefault part form.0 default work.old result work.new }
+    ensures room { work.new.room ≡ work.old.room }
+    ensures sound { IsSound work.new }
+{
+    if count.size == 0 {
+        let pointer = work.pointer(form);
+        take_part(work, form, (pointer, pointer), pointer)
+    } else if count.negative {
+        take_backward(work, form, count.size, default)
+    } else {
+        take_forward(work, form, count.size, default)
+    }
+}
+
+/// Takes the next so many characters after the pointer.
+fn take_forward(work: &mut Work, form: FormId, count: u32, default: (u32, u32)) -> Made
+    requires known { form.0 < length work.old.forms }
+    requires some { 0 < count }
+    requires part { IsTextPart work.old.neutral default.0 default.1 }
+    requires sound { IsSound work.old }
+    ensures takes { TakesOrDefault (next_characters count) form.0 default work.old result work.new }
+    ensures room { work.new.room ≡ work.old.room }
+    ensures sound { IsSound work.new }
+{
+    let from = work.pointer(form);
+    let to = place_after(work, form, from, count);
+    if to == from {
+        return give(work, default, true);
+    }
+    take_part(work, form, (from, to), to)
+}
+
+/// Takes the last so many characters before the pointer.
+fn take_backward(work: &mut Work, form: FormId, count: u32, default: (u32, u32)) -> Made
+    requires known { form.0 < length work.old.forms }
+    requires some { 0 < count }
+    requires part { IsTextPart work.old.neutral default.0 default.1 }
+    requires sound { IsSound work.old }
+    ensures takes { let part = previous_characters count in
+        TakesOrDefault part form.0 default work.old result work.new }
+    ensures room { work.new.room ≡ work.old.room }
+    ensures sound { IsSound work.new }
+{
+    let to = work.pointer(form);
+    let from = place_before(work, form, to, count);
+    if from == to {
+        return give(work, default, true);
+    }
+    take_part(work, form, (from, to), from)
+}
+
+/// The place after the next so many characters, or after all of them where there are fewer.
+fn place_after(work: &Work, form: FormId, from: u32, count: u32) -> u32
+    requires known { form.0 < length work.now.forms }
+    requires within { from ≤ length (body_at work.now.forms form.0) }
+    ensures place { let items = drop from (body_at work.now.forms form.0) in
+        let least = min count (length (text_of items)) in
+        result ≡ from + length (first_characters least items) }
+    ensures end { result ≤ length (body_at work.now.forms form.0) }
+{
+    prove!(from <= work.body_len(form));
+    let mut place = from;
+    for _taken in 0..count {
+        match work.next_char(form, place) {
+            Some(character) => place = character + 1,
+            None => return place,
+        }
+    }
+    place
+}
+
+/// The place of the first of the last so many characters before a
+/// place, or of the first of all of them where there are fewer.
+fn place_before(work: &Work, form: FormId, to: u32, count: u32) -> u32
+    requires known { form.0 < length work.now.forms }
+    requires within { to ≤ length (body_at work.now.forms form.0) }
+    ensures { let items = take to (body_at work.now.forms form.0) in
+        let least = min count (length (text_of items)) in
+        result + length (first_characters least (reverse items)) ≡ to }
+{
+    let mut place = to;
+    for _taken in 0..count {
+        match work.previous_char(form, place) {
+            Some(character) => place = character,
+            None => return place,
+        }
+    }
+    place
+}
+
+/// Takes the characters of a part of the body, and moves the pointer.
+fn take_part(work: &mut Work, form: FormId, part: (u32, u32), pointer: u32) -> Made
+    requires known { form.0 < length work.old.forms }
+    requires order { part.0 ≤ part.1 }
+    requires within { part.1 ≤ length (body_at work.old.forms form.0) }
+    requires pointer { pointer ≤ length (body_at work.old.forms form.0) }
+    requires sound { IsSound work.old }
+    ensures takes { (z : Text) →
+        let taken = part_between (body_at work.old.forms form.0) part pointer in
+        TakesPart (Some taken) z form.0 work.old result work.new }
+    ensures room { work.new.room ≡ work.old.room }
+    ensures sound { IsSound work.new }
+{
+    if !copy_characters(work, form, part.0, part.1) {
+        return Made::Full;
+    }
+    work.set_pointer(form, pointer);
+    Made::Value
+}
+
+/// Puts the characters of a part of the body, gaps left out, at
+/// the end of the neutral string, if there are cells for them.
+pub fn copy_characters(work: &mut Work, form: FormId, from: u32, to: u32) -> bool
+    requires known { form.0 < length work.old.forms }
+    requires order { from ≤ to }
+    requires within { to ≤ length (body_at work.old.forms form.0) }
+    requires sound { IsSound work.old }
+    ensures put { let text = characters_between (body_at work.old.forms form.0) from to in
+        IsTrue result ↔ (used work.old + length text ≤ work.old.room) }
+    ensures last { let text = characters_between (body_at work.old.forms form.0) from to in
+        OnTrue result
+        (work.new ≡ record work.old { neutral = work.old.neutral ++ flat_text text }) }
+    ensures room { work.new.room ≡ work.old.room }
+    ensures sound { IsSound work.new }
+{
+    prove!(to <= work.body_len(form));
+    let mut place = from;
+    while place < to {
+        let start = character_or(work, form, place, to);
+        let end = gap_or(work, form, start, to);
+        if !work.copy_body(form, start, end) {
+            return false;
+        }
+        place = end;
+    }
+    true
+}
+
+/// The place of the first character from one place up to another, or that other place.
+fn character_or(work: &Work, form: FormId, from: u32, to: u32) -> u32
+    requires known { form.0 < length work.now.forms }
+    requires order { from ≤ to }
+    requires within { to ≤ length (body_at work.now.forms form.0) }
+    ensures { IsFirstOr (character_at (body_at work.now.forms form.0)) from to result }
+{
+    match work.next_char(form, from) {
+        Some(place) => place.min(to),
+        None => to,
+    }
+}
+
+/// The place of the first gap from one place up to another, or that other place.
+fn gap_or(work: &Work, form: FormId, from: u32, to: u32) -> u32
+    requires known { form.0 < length work.now.forms }
+    requires order { from ≤ to }
+    requires within { to ≤ length (body_at work.now.forms form.0) }
+    ensures { IsFirstOr (gap_at (body_at work.now.forms form.0)) from to result }
+{
+    prove!(to <= work.body_len(form));
+    for place in from..to {
+        if let Item::Gap(_) = work.item(form, place) {
+            return place;
+        }
+    }
+    to
+}
+
+/// `in,N,X,Z`: the characters from the pointer up to the first occurrence of X, which reaches
+/// across no gap; the pointer goes past it (Mooers 1966). Z where there is none, and a null value
+/// for a null X (this processor's own choice).
+pub fn initial_part(work: &mut Work, mut arguments: Arguments) -> Made
+    requires { AreArguments work.old arguments }
+    ensures makes { Performs InitialPart work.old arguments result work.new }
+    ensures room { work.new.room ≡ work.old.room }
+    ensures sound { IsSound work.new }
+{
+    let name = arguments.next(work);
+    let sought = arguments.next(work);
+    let default = arguments.next(work);
+    match work.find(name.0, name.1) {
+        Some(form) => take_initial(work, form, sought, default),
+        None => Made::Value,
+    }
+}
+
+/// Takes the characters up to the first occurrence of a text.
+fn take_initial(work: &mut Work, form: FormId, sought: (u32, u32), default: (u32, u32)) -> Made
+    requires known { form.0 < length work.old.forms }
+    requires sought { IsTextPart work.old.neutral sought.0 sought.1 }
+    requires part { IsTextPart work.old.neutral default.0 default.1 }
+    requires sound { IsSound work.old }
+    ensures takes { let text = part_text work.old.neutral sought.0 sought.1 in
+        TakesOrDefault (initial_part text) form.0 default work.old result work.new }
+    ensures room { work.new.room ≡ work.old.room }
+    ensures sound { IsSound work.new }
+{
+    let pointer = work.pointer(form);
+    if sought.0 == sought.1 {
+        return take_part(work, form, (pointer, pointer), pointer);
+    }
+    match work.occurrence(form, pointer, sought) {
+        Some((begin, end)) => take_part(work, form, (pointer, begin), end),
+        None => give(work, default, true),
+    }
+}
+
+/// `cr,N`: the pointer goes back to the start (Mooers 1966).
+pub fn call_restore(work: &mut Work, mut arguments: Arguments) -> Made
+    requires { AreArguments work.old arguments }
+    ensures makes { Performs CallRestore work.old arguments result work.new }
+    ensures room { work.new.room ≡ work.old.room }
+    ensures sound { IsSound work.new }
+{
+    let name = arguments.next(work);
+    if let Some(form) = work.find(name.0, name.1) {
+        work.set_pointer(form, 0);
+    }
+    Made::Value
+}

@@ -1,0 +1,14 @@
+pub mod BitString
+pub mod Form
+pub mod Function
+pub mod Meaning
+pub mod Number
+pub mod Part
+pub mod Protected
+pub mod Rule
+pub mod Run
+pub mod Segment
+pub mod State
+pub mod Step
+pub mod Store
+pub mod Text

@@ -1,0 +1,55 @@
+//! The operations of arithmetic.
+ghost use Rattle.std.specs.Prelude.{◌≡◌, IsTrue};
+ghost use Rattle.trac_language.specs.declared.arith.Arith.TheVariants.{Divide};
+ghost use Rattle.trac_language.specs.Number.{arith, exactly, in_range};
+
+/// An operation of arithmetic (Mooers 1966).
+#[derive(Clone, Copy)]
+pub enum Arith {
+    /// `ad`.
+    Add,
+    /// `su`.
+    Subtract,
+    /// `ml`.
+    Multiply,
+    /// `dv`.
+    Divide,
+}
+
+impl Arith {
+    /// The sum, difference, product or quotient of two numbers in the range
+    /// of arithmetic (Mooers 1966). None where it is outside that range, from
+    /// -(2^127 - 1) up to 2^127 - 1, and for a divisor of 0. The range, and
+    /// that a quotient is rounded towards 0, is this processor's own choice.
+    pub fn apply(self, a: i128, b: i128) -> Option<i128>
+        requires left { IsTrue (in_range a) }
+        requires right { IsTrue (in_range b) }
+        ensures { result ≡ arith self a b }
+    {
+        let exact = match self {
+            Arith::Add => a.checked_add(b),
+            Arith::Subtract => a.checked_sub(b),
+            Arith::Multiply => a.checked_mul(b),
+            Arith::Divide => quotient(a, b),
+        };
+        match exact {
+            Some(n) => if n == i128::MIN { None } else { Some(n) },
+            None => None,
+        }
+    }
+}
+
+/// The quotient, rounded towards 0; None for a divisor of
+/// 0. Numbers that 64 bits hold are divided as such.
+fn quotient(a: i128, b: i128) -> Option<i128>
+    requires left { IsTrue (in_range a) }
+    requires right { IsTrue (in_range b) }
+    ensures { result ≡ exactly Divide a b }
+{
+    if let (Ok(dividend), Ok(divisor)) = (i64::try_from(a), i64::try_from(b)) {
+        if let Some(quotient) = dividend.checked_div(divisor) {
+            return Some(i128::from(quotient));
+        }
+    }
+    a.checked_div(b)
+}

@@ -1,0 +1,297 @@
+-- Every run keeps its forms in order: no two have one name, and each pointer is a place of its body.
+use Rattle.std.proofs.Common.{◌≡◌, ◌≢◌, ℕ, zero, suc, ◌+◌, ◌-◌, ◌≤◌, min, Bool, true, false, not, cond, List, [], ◌∷◌, ◌++◌, length, drop, Option, Some, None, ℤ, pos, negsuc, refl, sym, ap, ◌∙◌, subst, ⊎_elim, arith}
+use Rattle.std.specs.Prelude.{nat_lt, ◌==◌, if◌then◌else◌, bytes_eq, filter, option_map, take_while}
+use Rattle.std.specs.List.{list_any, prefix_len}
+use Rattle.std.specs.Cmp.Lexicographic.{bytes_decides}
+use Rattle.std.proofs.lemmas.Bool.{cond_both, both_ways, cases_lt, lt-ltb, le-ltb, and_parts}
+use Rattle.std.proofs.lemmas.List.{length-take, length-drop}
+use Rattle.trac_language.specs.declared.item.Item.{Item}
+use Rattle.trac_language.specs.declared.item.Item.TheVariants.{Byte, Gap}
+use Rattle.trac_language.specs.declared.mode.Mode.{Mode}
+use Rattle.trac_language.specs.declared.mode.Mode.TheVariants.{Active, Neutral}
+use Rattle.trac_language.specs.declared.function.Function.{Function}
+use Rattle.trac_language.specs.declared.function.Function.TheVariants.{ReadString, ReadCharacter, ChangeMeta, PrintString, Halt, DefineString, SegmentString, DeleteDefinition, DeleteAll, ListNames, PrintForm, CallForm, CallSegment, CallCharacter, CallNumber, InitialPart, CallRestore, Equal, Greater, Arithmetic, Union, Intersection, Complement, Shift, Rotate}
+use Rattle.trac_language.specs.Text.{Text}
+use Rattle.trac_language.specs.Form.{Form, is_character, text_of, items_of, fill, before_pointer, after_pointer}
+use Rattle.trac_language.specs.Segment.{begins, place_of, segment_by}
+use Rattle.trac_language.specs.Store.{is_named, form_named, without, changed, defined, NoneNamed, IsStore}
+use Rattle.trac_language.specs.Number.{number, prefix, arith as arith_of}
+use Rattle.trac_language.specs.State.{OpenCall, Memory, State, arguments, argument, add_to, add}
+use Rattle.trac_language.specs.Meaning.{World, Meaning, Gives, Ends, valued, silent, printing, before_meta, from_meta, read_all, read_string, read_character, change_meta, show_form, on_form, with_form, take_part, result_or, meaning_of, meaning}
+use Rattle.trac_language.specs.Rule.{Rule, LoadIdling, DeleteLayout, AddProtected, ClearActive, BeginArgument, BeginCall, EndCall, AddCharacter, rule}
+use Rattle.trac_language.specs.Step.{Outcome, Next, Over, function_of, world_of, deliver, perform, end_call, with_active, follow, step}
+use Rattle.trac_language.specs.Part.{Part, first_characters, last_characters, segment_from, next_segment, unless_null, forward, backward, characters, up_to, initial_part}
+
+-- ---- the parts that calls take lie within the body
+
+-- the pointer of a part is a place of a body of so many items
+abbrev Fits : ℕ → Option Part → Type 0
+Fits n None = Unit {0}
+Fits n (Some part) = part.pointer ≤ n
+
+fits_unless_null : (n : ℕ) (part : Part) → part.pointer ≤ n → Fits n (unless_null part)
+fits_unless_null n part le = go (nat_lt 0 (length part.text))
+  where
+    go : (b : Bool) → Fits n (if b then Some part else None)
+    go true = le
+    go false = tt
+
+length-first_characters-le : (n : ℕ) (items : List Item) → length (first_characters n items) ≤ length items
+length-first_characters-le n [] = omega arith
+length-first_characters-le zero (item ∷ items) = omega arith
+length-first_characters-le (suc n) (Byte c ∷ items) = omega (arith, length-first_characters-le n items)
+length-first_characters-le (suc n) (Gap k ∷ items) = omega (arith, length-first_characters-le (suc n) items)
+
+begins_fits : (items : List Item) (text : Text) → begins items text ≡ true → length text ≤ length items
+begins_fits items [] e = omega arith
+begins_fits [] (c ∷ text) e = cc
+begins_fits (Byte b ∷ items) (c ∷ text) e = let rest = begins_fits items text (and_parts (b == c) (begins items text) e).1 in omega arith
+begins_fits (Gap k ∷ items) (c ∷ text) e = cc
+
+-- an occurrence ends within the items
+abbrev StandsIn : ℕ → ℕ → Option ℕ → Type 0
+StandsIn text items None = Unit {0}
+StandsIn text items (Some i) = i + text ≤ items
+
+ends_later : (text items : ℕ) (o : Option ℕ) → StandsIn text items o → StandsIn text (suc items) (option_map suc o)
+ends_later text items None h = tt
+ends_later text items (Some i) h = omega arith
+
+place_fits : (text : Text) (items : List Item) → StandsIn (length text) (length items) (place_of text items)
+place_fits text [] = tt
+place_fits text (item ∷ items) =
+    let rest = ends_later (length text) (length items) (place_of text items) (place_fits text items) in
+    cond_both (begins (item ∷ items) text) (Some 0) (option_map suc (place_of text items)) (StandsIn (length text) (suc (length items)))
+    (λ e. let h = begins_fits (item ∷ items) text e in omega arith)
+    (λ e. rest)
+
+fits_up_to : (o : Option ℕ) (text : Text) (form : Form) → form.pointer ≤ length form.body → StandsIn (length text) (length (after_pointer form)) o → Fits (length form.body) (up_to o text form)
+fits_up_to None text form le h = tt
+fits_up_to (Some i) text form le h = omega (arith, length-drop form.pointer form.body)
+
+fits_initial_part : (text : Text) (form : Form) → form.pointer ≤ length form.body → Fits (length form.body) (initial_part text form)
+fits_initial_part [] form le = le
+fits_initial_part (c ∷ text) form le = fits_up_to (place_of (c ∷ text) (after_pointer form)) (c ∷ text) form le (place_fits (c ∷ text) (after_pointer form))
+
+fits_forward : (form : Form) (u : List Item) → form.pointer ≤ length form.body → length u ≤ length (after_pointer form) → Fits (length form.body) (forward form u)
+fits_forward form u le h = fits_unless_null (length form.body) (record { text = text_of u; pointer = form.pointer + length u }) (omega (arith, length-drop form.pointer form.body))
+
+fits_backward : (form : Form) (u : List Item) → form.pointer ≤ length form.body → Fits (length form.body) (backward form u)
+fits_backward form u le = fits_unless_null (length form.body) (record { text = text_of u; pointer = form.pointer - length u }) (omega arith)
+
+fits_characters : (d : ℤ) (form : Form) → form.pointer ≤ length form.body → Fits (length form.body) (characters d form)
+fits_characters (pos zero) form le = le
+fits_characters (pos (suc n)) form le = fits_forward form (first_characters (min (suc n) (length (text_of (after_pointer form)))) (after_pointer form)) le (length-first_characters-le (min (suc n) (length (text_of (after_pointer form)))) (after_pointer form))
+fits_characters (negsuc n) form le = fits_backward form (last_characters (min (suc n) (length (text_of (before_pointer form)))) (before_pointer form)) le
+
+fits_segment_from : (form : Form) (items front : List Item) → items ≡ after_pointer form → length front ≤ length items → form.pointer ≤ length form.body → Fits (length form.body) (segment_from form.pointer items front)
+fits_segment_from form [] front e h le = tt
+fits_segment_from form (item ∷ items) front e h le =
+    ⊎_elim
+    (λ lt. subst (λ b. (if b then form.pointer + length front + 1 else form.pointer + length front) ≤ length form.body) (sym (lt-ltb (length front) (length (item ∷ items)) lt)) (omega (arith, n)))
+    (λ ge. subst (λ b. (if b then form.pointer + length front + 1 else form.pointer + length front) ≤ length form.body) (sym (le-ltb (length front) (length (item ∷ items)) ge)) (omega (arith, n)))
+    (cases_lt (length front) (length (item ∷ items)))
+  where
+    n : length (item ∷ items) ≡ length form.body - form.pointer
+    n = ap length e ∙ length-drop form.pointer form.body
+
+fits_next_segment : (form : Form) → form.pointer ≤ length form.body → Fits (length form.body) (next_segment form)
+fits_next_segment form le = fits_segment_from form (after_pointer form) (take_while is_character (after_pointer form)) refl (omega (arith, length-take (prefix_len is_character (after_pointer form)) (after_pointer form))) le
+
+-- ---- changes of the store
+
+none_filter : (name : Text) (p : Form → Bool) (forms : List Form) → NoneNamed name forms → NoneNamed name (filter p forms)
+none_filter name p [] h = tt
+none_filter name p (form ∷ forms) h =
+    let rest = none_filter name p forms h.1 in
+    cond_both (p form) (form ∷ filter p forms) (filter p forms) (NoneNamed name) (λ e. (h.0, rest)) (λ e. rest)
+
+store_filter : (p : Form → Bool) (forms : List Form) → IsStore forms → IsStore (filter p forms)
+store_filter p [] h = tt
+store_filter p (form ∷ forms) h =
+    let rest = store_filter p forms h.2 in
+    cond_both (p form) (form ∷ filter p forms) (filter p forms) IsStore (λ e. (h.0, none_filter form.name p forms h.1, rest)) (λ e. rest)
+
+-- what a form of another name keeps
+none_without : (other name : Text) (forms : List Form) → NoneNamed other forms → NoneNamed other (without name forms)
+none_without other name [] h = tt
+none_without other name (form ∷ forms) h =
+    let rest = none_without other name forms h.1 in
+    cond_both (is_named name form) forms (form ∷ without name forms) (NoneNamed other) (λ e. h.1) (λ e. (h.0, rest))
+
+store_without : (name : Text) (forms : List Form) → IsStore forms → IsStore (without name forms)
+store_without name [] h = tt
+store_without name (form ∷ forms) h =
+    let rest = store_without name forms h.2 in
+    cond_both (is_named name form) forms (form ∷ without name forms) IsStore (λ e. h.2) (λ e. (h.0, none_without form.name name forms h.1, rest))
+
+-- two texts that compare equal are one
+named_is : (name : Text) (form : Form) → is_named name form ≡ true → form.name ≡ name
+named_is name form e = (bytes_decides form.name name).0 e
+
+named_not : (name : Text) (form : Form) → is_named name form ≡ false → form.name ≢ name
+named_not name form e same = both_ways (is_named name form) e ((bytes_decides form.name name).1 same)
+
+-- the form of this name is gone
+gone : (name : Text) (forms : List Form) → IsStore forms → NoneNamed name (without name forms)
+gone name [] h = tt
+gone name (form ∷ forms) h =
+    let rest = gone name forms h.2 in
+    cond_both (is_named name form) forms (form ∷ without name forms) (NoneNamed name)
+    (λ e. subst (λ n. NoneNamed n forms) (named_is name form e) h.1)
+    (λ e. (named_not name form e, rest))
+
+none_push : (name : Text) (forms : List Form) (last : Form) → NoneNamed name forms → last.name ≢ name → NoneNamed name (forms ++ last ∷ [])
+none_push name [] last h d = (d, tt)
+none_push name (form ∷ forms) last h d = (h.0, none_push name forms last h.1 d)
+
+store_push : (forms : List Form) (last : Form) → IsStore forms → NoneNamed last.name forms → last.pointer ≤ length last.body → IsStore (forms ++ last ∷ [])
+store_push [] last h n le = (le, tt, tt)
+store_push (form ∷ forms) last h n le = (h.0, none_push form.name forms last h.1 (λ e. n.0 (sym e)), store_push forms last h.2 n.1 le)
+
+store_defined : (name text : Text) (forms : List Form) → IsStore forms → IsStore (defined name text forms)
+store_defined name text forms h = store_push (without name forms) (record { name = name; body = items_of text; pointer = 0 }) (store_without name forms h) (gone name forms h) (omega arith)
+
+none_changed : (other name : Text) (change : Form → Form) (forms : List Form) → ((form : Form) → (change form).name ≡ form.name) → NoneNamed other forms → NoneNamed other (changed name change forms)
+none_changed other name change [] keeps h = tt
+none_changed other name change (form ∷ forms) keeps h =
+    let rest = none_changed other name change forms keeps h.1 in
+    cond_both (is_named name form) (change form ∷ forms) (form ∷ changed name change forms) (NoneNamed other)
+    (λ e. ((λ same. h.0 (sym (keeps form) ∙ same)), h.1))
+    (λ e. (h.0, rest))
+
+-- a fact about the form that was found, if one was
+abbrev OfFound : Option Form → (Form → Type 0) → Type 0
+OfFound None P = Unit {0}
+OfFound (Some form) P = P form
+
+store_changed : (name : Text) (change : Form → Form) (forms : List Form) → ((form : Form) → (change form).name ≡ form.name) → OfFound (form_named name forms) (λ form. (change form).pointer ≤ length (change form).body) → IsStore forms → IsStore (changed name change forms)
+store_changed name change [] keeps fits h = tt
+store_changed name change (form ∷ forms) keeps fits h =
+    let Within : Form → Type 0 = λ form. (change form).pointer ≤ length (change form).body in
+    let rest = λ (found : OfFound (form_named name forms) Within). store_changed name change forms keeps found h.2 in
+    let here = λ (b : Bool) (e : is_named name form ≡ b). subst (λ b. OfFound (cond b (Some form) (form_named name forms)) Within) e fits in
+    cond_both (is_named name form) (change form ∷ forms) (form ∷ changed name change forms) IsStore
+    (λ e. (here true e, subst (λ n. NoneNamed n forms) (sym (keeps form)) h.1, h.2))
+    (λ e. (h.0, none_changed form.name name change forms keeps h.1, rest (here false e)))
+
+-- ---- what calls leave
+
+abbrev Keeps : Meaning → Type 0
+Keeps (Gives answer) = IsStore answer.world.forms
+Keeps (Ends fate) = Unit {0}
+
+found_fits : (name : Text) (forms : List Form) → IsStore forms → OfFound (form_named name forms) (λ form. form.pointer ≤ length form.body)
+found_fits name [] h = tt
+found_fits name (form ∷ forms) h =
+    let rest = found_fits name forms h.2 in
+    cond_both (is_named name form) (Some form) (form_named name forms) (λ o. OfFound o (λ form. form.pointer ≤ length form.body)) (λ e. h.0) (λ e. rest)
+
+keeps_read_all : (fails : Bool) (text : Text) (world : World) → IsStore world.forms → Keeps (read_all fails text world)
+keeps_read_all true text world h = tt
+keeps_read_all false [] world h = tt
+keeps_read_all false (c ∷ text) world h = h
+
+keeps_read_string : (text from : Text) (world : World) → IsStore world.forms → Keeps (read_string text from world)
+keeps_read_string text [] world h = keeps_read_all world.input.fails text world h
+keeps_read_string text (c ∷ rest) world h = h
+
+keeps_read_character : (text : Text) (fails : Bool) (world : World) → IsStore world.forms → Keeps (read_character text fails world)
+keeps_read_character (c ∷ rest) fails world h = h
+keeps_read_character [] true world h = tt
+keeps_read_character [] false world h = tt
+
+keeps_change_meta : (text : Text) (world : World) → IsStore world.forms → Keeps (change_meta text world)
+keeps_change_meta [] world h = h
+keeps_change_meta (c ∷ text) world h = h
+
+keeps_result_or : (o : Option ℤ) (before z : Text) (world : World) → IsStore world.forms → Keeps (result_or o before z world)
+keeps_result_or None before z world h = h
+keeps_result_or (Some n) before z world h = h
+
+keeps_on_form : (name : Text) (k : Form → Meaning) (world : World) → IsStore world.forms → ((form : Form) → form_named name world.forms ≡ Some form → form.pointer ≤ length form.body → Keeps (k form)) → Keeps (on_form (form_named name world.forms) k world)
+keeps_on_form name k world h each = go (form_named name world.forms) refl
+  where
+    go : (o : Option Form) → form_named name world.forms ≡ o → Keeps (on_form o k world)
+    go None e = h
+    go (Some form) e = each form e (subst (λ o. OfFound o (λ form. form.pointer ≤ length form.body)) e (found_fits name world.forms h))
+
+keeps_with_form : (name : Text) (change : Form → Form) (world : World) (form : Form) → IsStore world.forms → form_named name world.forms ≡ Some form → ((form : Form) → (change form).name ≡ form.name) → (change form).pointer ≤ length (change form).body → IsStore (with_form name change world).forms
+keeps_with_form name change world form h e keeps fits = store_changed name change world.forms keeps (subst (λ o. OfFound o (λ form. (change form).pointer ≤ length (change form).body)) (sym e) fits) h
+
+keeps_take_part : (name : Text) (part : Option Part) (z : Text) (world : World) (form : Form) → IsStore world.forms → form_named name world.forms ≡ Some form → Fits (length form.body) part → Keeps (take_part name part z world)
+keeps_take_part name None z world form h e fits = h
+keeps_take_part name (Some part) z world form h e fits = keeps_with_form name (λ form. record form { pointer = part.pointer }) world form h e (λ form. refl) fits
+
+meaning_of_keeps : (f : Function) (args : List Text) (world : World) → IsStore world.forms → Keeps (meaning_of f args world)
+unfolding meaning_of
+meaning_of_keeps ReadString args world h = keeps_read_string (before_meta world) (from_meta world) world h
+meaning_of_keeps ReadCharacter args world h = keeps_read_character world.input.text world.input.fails world h
+meaning_of_keeps ChangeMeta args world h = keeps_change_meta (argument args 1) world h
+meaning_of_keeps PrintString args world h = h
+meaning_of_keeps Halt args world h = tt
+meaning_of_keeps DefineString args world h = store_defined (argument args 1) (argument args 2) world.forms h
+meaning_of_keeps SegmentString args world h = keeps_on_form (argument args 1) (λ form. silent (with_form (argument args 1) (λ form. record form { body = segment_by (drop 2 args) 1 form.body; pointer = 0 }) world)) world h (λ form e le. keeps_with_form (argument args 1) (λ form. record form { body = segment_by (drop 2 args) 1 form.body; pointer = 0 }) world form h e (λ form. refl) (omega arith))
+meaning_of_keeps DeleteDefinition args world h = store_filter (λ form. not (list_any (bytes_eq form.name) (drop 1 args))) world.forms h
+meaning_of_keeps DeleteAll args world h = tt
+meaning_of_keeps ListNames args world h = h
+meaning_of_keeps PrintForm args world h = keeps_on_form (argument args 1) (λ form. printing (show_form form) world) world h (λ form e le. h)
+meaning_of_keeps CallForm args world h = keeps_on_form (argument args 1) (λ form. valued (fill (drop 2 args) (after_pointer form)) world) world h (λ form e le. h)
+meaning_of_keeps CallSegment args world h = keeps_on_form (argument args 1) (λ form. take_part (argument args 1) (next_segment form) (argument args 2) world) world h (λ form e le. keeps_take_part (argument args 1) (next_segment form) (argument args 2) world form h e (fits_next_segment form le))
+meaning_of_keeps CallCharacter args world h = keeps_on_form (argument args 1) (λ form. take_part (argument args 1) (characters (pos 1) form) (argument args 2) world) world h (λ form e le. keeps_take_part (argument args 1) (characters (pos 1) form) (argument args 2) world form h e (fits_characters (pos 1) form le))
+meaning_of_keeps CallNumber args world h = keeps_on_form (argument args 1) (λ form. take_part (argument args 1) (characters (number (argument args 2)) form) (argument args 3) world) world h (λ form e le. keeps_take_part (argument args 1) (characters (number (argument args 2)) form) (argument args 3) world form h e (fits_characters (number (argument args 2)) form le))
+meaning_of_keeps InitialPart args world h = keeps_on_form (argument args 1) (λ form. take_part (argument args 1) (initial_part (argument args 2) form) (argument args 3) world) world h (λ form e le. keeps_take_part (argument args 1) (initial_part (argument args 2) form) (argument args 3) world form h e (fits_initial_part (argument args 2) form le))
+meaning_of_keeps CallRestore args world h = keeps_on_form (argument args 1) (λ form. silent (with_form (argument args 1) (λ form. record form { pointer = 0 }) world)) world h (λ form e le. keeps_with_form (argument args 1) (λ form. record form { pointer = 0 }) world form h e (λ form. refl) (omega arith))
+meaning_of_keeps Equal args world h = h
+meaning_of_keeps Greater args world h = h
+meaning_of_keeps (Arithmetic operation) args world h = keeps_result_or (arith_of operation (number (argument args 1)) (number (argument args 2))) (prefix (argument args 1)) (argument args 3) world h
+meaning_of_keeps Union args world h = h
+meaning_of_keeps Intersection args world h = h
+meaning_of_keeps Complement args world h = h
+meaning_of_keeps Shift args world h = h
+meaning_of_keeps Rotate args world h = h
+
+meaning_keeps : (f : Option Function) (args : List Text) (world : World) → IsStore world.forms → Keeps (meaning f args world)
+meaning_keeps None args world h = h
+meaning_keeps (Some f) args world h = meaning_of_keeps f args world h
+
+-- ---- what steps leave
+
+abbrev KeepsStore : Outcome → Type 0
+KeepsStore (Next t) = IsStore t.memory.forms
+KeepsStore (Over f) = Unit {0}
+
+add_keeps : (text : Text) (memory : Memory) → IsStore memory.forms → IsStore (add text memory).forms
+add_keeps text memory h = go memory.calls
+  where
+    go : (calls : List OpenCall) → IsStore (add_to calls text memory).forms
+    go [] = h
+    go (call ∷ outer) = h
+
+deliver_keeps : (mode : Mode) (forced : Bool) (value : Text) (memory : Memory) → IsStore memory.forms → IsStore (deliver mode forced value memory).forms
+deliver_keeps Active forced value memory h = h
+deliver_keeps Neutral true value memory h = h
+deliver_keeps Neutral false value memory h = add_keeps value memory h
+
+perform_keeps : (mode : Mode) (m : Meaning) (s : State) → Keeps m → KeepsStore (perform mode m s)
+perform_keeps mode (Gives answer) s h = deliver_keeps mode answer.forced answer.value (record s.memory { forms = answer.world.forms; meta = answer.world.meta }) h
+perform_keeps mode (Ends fate) s h = tt
+
+end_call_keeps : (calls : List OpenCall) (s : State) → IsStore s.memory.forms → KeepsStore (end_call calls s)
+end_call_keeps [] s h = h
+end_call_keeps (call ∷ outer) s h = perform_keeps call.mode (meaning (function_of call) (arguments call) (world_of s)) (record s { memory = record s.memory { calls = outer } }) (meaning_keeps (function_of call) (arguments call) (world_of s) h)
+
+follow_keeps : (r : Rule) (s : State) → IsStore s.memory.forms → KeepsStore (follow r s)
+follow_keeps LoadIdling s h = h
+follow_keeps (DeleteLayout rest) s h = h
+follow_keeps (AddProtected inside rest) s h = add_keeps inside (record s.memory { active = rest }) h
+follow_keeps ClearActive s h = h
+follow_keeps (BeginArgument rest) s h = h
+follow_keeps (BeginCall mode rest) s h = h
+follow_keeps (EndCall rest) s h = end_call_keeps s.memory.calls (with_active rest s) h
+follow_keeps (AddCharacter c rest) s h = add_keeps (c ∷ []) (record s.memory { active = rest }) h
+
+-- a step keeps the forms in order
+pub step_keeps : (s t : State) → IsStore s.memory.forms → step s ≡ Next t → IsStore t.memory.forms
+unfolding step
+step_keeps s t h e = subst KeepsStore e (follow_keeps (rule s.memory.active) s h)

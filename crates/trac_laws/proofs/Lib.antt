@@ -1,0 +1,12 @@
+pub mod TakenInput
+pub mod UnreadInput
+pub mod Examples
+pub mod Fitting
+pub mod Parentheses
+pub mod Quoting
+pub mod Reached
+pub mod ReachedWhileReading
+pub mod Rules
+pub mod Runs
+pub mod Stepping
+pub mod FormsKept

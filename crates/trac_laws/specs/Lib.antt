@@ -1,0 +1,5 @@
+pub mod Balance
+pub mod Fitting
+pub mod LastRead
+pub mod Laws
+pub mod Stepping

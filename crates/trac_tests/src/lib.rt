@@ -1,0 +1,11 @@
+//! Tests of the libraries, by their public names: the lists of a block, values, and the machine
+//! over rows that were worked by hand, in every room, with every allowance, and over devices that
+//! fail.
+#![tactic(auto)]
+
+#[cfg(test)]
+mod machine;
+#[cfg(test)]
+mod space;
+#[cfg(test)]
+mod values;

@@ -1,0 +1,53 @@
+-- Numbers of any length, read digit by digit within bounds.
+use Rattle.std.proofs.Common.{◌≡◌, ℕ, ◌+◌, ◌-◌, ◌*◌, ◌/◌, ◌%◌, ◌<◌, min, pos, neg_ℤ, sym, ap, ◌∙◌, refl, arith, ⊎_elim}
+use Rattle.std.proofs.Math.Nat.{mod-add-mod, mod-eq_of_lt}
+use Rattle.std.specs.Prelude.{Bool, true, false, ◌+ℤ◌, if◌then◌else◌}
+use Rattle.std.specs.Str.Parse.{digits_value}
+use Rattle.std.proofs.lemmas.Bool.{cases_Bool}
+use Rattle.std.specs.Int.{int_rem_euclid}
+use Rattle.std.proofs.lemmas.Nat.{mul-mod_first, mod_below, div-add-mod'}
+use Rattle.std.proofs.lemmas.Int.{ints, int_rem_euclid_is}
+use Rattle.trac_language.specs.Text.{Text}
+use Rattle.trac_language.specs.Number.{before_digits, digits, ends_with, number}
+
+-- one more digit, up to a limit
+pub limited_more : (v c limit : ℕ) → min (min v limit * 10 + c) limit ≡ min (v * 10 + c) limit
+limited_more v c limit = omega arith
+
+-- one more digit, modulo a divisor
+pub rest_more : (v c n : ℕ) → (v % n * 10 + c) % n ≡ (v * 10 + c) % n
+rest_more v c n = sym (mod-add-mod (v % n * 10) n c) ∙ ap (λ m. (m + c) % n) (mul-mod_first v 10 n) ∙ mod-add-mod (v * 10) n c
+
+-- a negative number modulo a divisor
+pub rest_of_negated : (v n r : ℕ) → 0 < n → r ≡ v % n → 0 < r → int_rem_euclid (neg_ℤ (pos v)) (pos n) ≡ pos (n - r)
+rest_of_negated v n r pos_n is above =
+    let e = div-add-mod' v n in
+    let lt = mod_below v n pos_n in
+    let whole : neg_ℤ (pos v) +ℤ pos ((v / n + 1) * n) ≡ pos (n - r) = omega (arith, ints) in
+    int_rem_euclid_is (neg_ℤ (pos v)) (pos n) n (v / n + 1) (n - r) pos_n refl whole ∙ ap pos (mod-eq_of_lt (omega arith))
+
+pub rest_of_multiple : (v n : ℕ) → 0 < n → v % n ≡ 0 → int_rem_euclid (neg_ℤ (pos v)) (pos n) ≡ pos 0
+rest_of_multiple v n pos_n is =
+    let e = div-add-mod' v n in
+    let whole : neg_ℤ (pos v) +ℤ pos (v / n * n) ≡ pos 0 = omega (arith, ints) in
+    int_rem_euclid_is (neg_ℤ (pos v)) (pos n) n (v / n) 0 pos_n refl whole ∙ ap pos (mod-eq_of_lt pos_n)
+
+-- the number of a text modulo a divisor, told by its digits and by what stands before them
+module _ (t front back : Text) (n rest : ℕ) (pos_n : 0 < n) (before : front ≡ before_digits t) (after : back ≡ digits t) (is : rest ≡ digits_value 10 back % n) where
+  as_number : (b : Bool) → ends_with 45 front ≡ b → number t ≡ (if b then neg_ℤ (pos (digits_value 10 back)) else pos (digits_value 10 back))
+  as_number b e =
+      ap (λ d. if ends_with 45 (before_digits t) then neg_ℤ (pos (digits_value 10 d)) else pos (digits_value 10 d)) (sym after)
+      ∙ ap (λ m. if m then neg_ℤ (pos (digits_value 10 back)) else pos (digits_value 10 back)) (ap (ends_with 45) (sym before) ∙ e)
+
+  pub rotation_minus : ends_with 45 front ≡ true → 0 < rest → int_rem_euclid (number t) (pos n) ≡ pos (n - rest)
+  rotation_minus minus above = ap (λ z. int_rem_euclid z (pos n)) (as_number true minus) ∙ rest_of_negated (digits_value 10 back) n rest pos_n is above
+
+  pub rotation_plain : ends_with 45 front ≡ false → int_rem_euclid (number t) (pos n) ≡ pos rest
+  rotation_plain plain = ap (λ z. int_rem_euclid z (pos n)) (as_number false plain) ∙ ap pos (sym is)
+
+  pub rotation_none : rest ≡ 0 → int_rem_euclid (number t) (pos n) ≡ pos rest
+  rotation_none none =
+      ⊎_elim
+      (λ minus. ap (λ z. int_rem_euclid z (pos n)) (as_number true minus) ∙ rest_of_multiple (digits_value 10 back) n pos_n (sym is ∙ none) ∙ ap pos (sym none))
+      rotation_plain
+      (cases_Bool (ends_with 45 front))

@@ -1,0 +1,108 @@
+-- The longest suffix of characters that pass a test, found from the end.
+use Rattle.std.proofs.Common.{◌≡◌, ℕ, zero, suc, ◌+◌, ◌-◌, ◌*◌, ◌<◌, ◌≤◌, Bool, true, false, List, length, take, get_or, sym, ap, ◌∙◌, arith, ⊎_elim, cond, eqb}
+use Rattle.std.specs.List.{suffix_len}
+use Rattle.std.specs.Char.{is_ascii_digit, digit_value}
+use Rattle.std.specs.Ordering.{nat_cmp, ordering_then}
+use Rattle.std.specs.declared.cmp.Ordering.TheVariants.{Less, Equal, Greater}
+use Rattle.std.proofs.lemmas.Bool.{cases_order, lt-ltb, le-ltb, ne_eqb, eq-eqb}
+use Rattle.std.specs.Str.Parse.{digits_value}
+use Rattle.std.proofs.lemmas.Bool.Decides.{nat_tests}
+use Rattle.std.proofs.lemmas.Int.Digits.{digits_value_more}
+use Rattle.std.proofs.lemmas.List.{length-take, length-map, get_or-map, take_all}
+use Rattle.std.proofs.lemmas.List.Sums.{suffix_len-take_yes, suffix_len-take_no}
+use Rattle.trac_space.specs.declared.cell.Cell.{Cell}
+use Rattle.trac_space.specs.Texts.{character_of, text_of_cells}
+use Rattle.trac_values.specs.Digits.{value_upto}
+
+module _ (p : ℕ → Bool) (cells : List Cell) where
+  -- the character of a cell
+  read : (i : ℕ) → i < length cells → get_or (text_of_cells cells) i 0 ≡ character_of (get_or cells i (Cell.Byte 0))
+  read i h = get_or-map character_of cells i (Cell.Byte 0) 0 h
+
+  -- one more character from the end passes
+  pub suffix_more : (n : ℕ) → 0 < n → n ≤ length cells → p (character_of (get_or cells (n - 1) (Cell.Byte 0))) ≡ true → n + suffix_len p (text_of_cells cells) ≡ length cells + suffix_len p (take n (text_of_cells cells)) → n - 1 + suffix_len p (text_of_cells cells) ≡ length cells + suffix_len p (take (n - 1) (text_of_cells cells))
+  suffix_more n pos le passes so_far =
+      let long = length-map cells character_of in
+      let here = suffix_len-take_yes p (text_of_cells cells) n 0 pos (omega arith) (ap p (read (n - 1) (omega arith)) ∙ passes) in
+      omega arith
+
+  -- the next doesn't
+  pub suffix_stops : (n : ℕ) → 0 < n → n ≤ length cells → p (character_of (get_or cells (n - 1) (Cell.Byte 0))) ≡ false → n + suffix_len p (text_of_cells cells) ≡ length cells + suffix_len p (take n (text_of_cells cells)) → n ≡ length (take (length (text_of_cells cells) - suffix_len p (text_of_cells cells)) (text_of_cells cells))
+  suffix_stops n pos le stops so_far =
+      let long = length-map cells character_of in
+      let here = suffix_len-take_no p (text_of_cells cells) n 0 pos (omega arith) (ap p (read (n - 1) (omega arith)) ∙ stops) in
+      omega (arith, length-take (length (text_of_cells cells) - suffix_len p (text_of_cells cells)) (text_of_cells cells))
+
+  -- all pass
+  pub suffix_all : (n : ℕ) → n ≤ 0 → n + suffix_len p (text_of_cells cells) ≡ length cells + suffix_len p (take n (text_of_cells cells)) → n ≡ length (take (length (text_of_cells cells) - suffix_len p (text_of_cells cells)) (text_of_cells cells))
+  suffix_all zero le so_far =
+      let long = length-map cells character_of in
+      omega (arith, length-take (length (text_of_cells cells) - suffix_len p (text_of_cells cells)) (text_of_cells cells))
+  suffix_all (suc n) le so_far = absurd (omega arith)
+
+-- a decimal digit and its value
+digit_facts : (c : ℕ) → is_ascii_digit c ≡ true → (48 ≤ c) × (c < 58) × (digit_value c ≡ c - 48)
+digit_facts c e = grind (arith, nat_tests)
+
+-- the digit at a place of cells that all are digits
+pub digit_at : (cells : List Cell) (i c : ℕ) → i < length cells → c ≡ character_of (get_or cells i (Cell.Byte 0)) → is_ascii_digit (get_or (text_of_cells cells) i 0) ≡ true → (48 ≤ c) × (c < 58) × (digit_value (get_or (text_of_cells cells) i 0) ≡ c - 48)
+digit_at cells i c lt is passes =
+    let same : get_or (text_of_cells cells) i 0 ≡ c = get_or-map character_of cells i (Cell.Byte 0) 0 lt ∙ sym is in
+    let facts = digit_facts c (ap is_ascii_digit (sym same) ∙ passes) in
+    (facts.0, facts.1, ap digit_value same ∙ facts.2)
+
+-- the value of one more digit
+pub value_more : (cells : List Cell) (i c : ℕ) → i < length cells → c ≡ character_of (get_or cells i (Cell.Byte 0)) → is_ascii_digit (get_or (text_of_cells cells) i 0) ≡ true → digits_value 10 (take (i + 1) (text_of_cells cells)) ≡ digits_value 10 (take i (text_of_cells cells)) * 10 + (c - 48)
+value_more cells i c lt is passes =
+    let long = length-map cells character_of in
+    let facts = digit_at cells i c lt is passes in
+    digits_value_more 10 (text_of_cells cells) i (omega arith) ∙ ap (λ d. digits_value 10 (take i (text_of_cells cells)) * 10 + d) facts.2
+
+pub within_text : (cells : List Cell) (i : ℕ) → i < length cells → i < length (text_of_cells cells)
+within_text cells i lt = let long = length-map cells character_of in omega arith
+
+-- the value up to a place that is within the digits
+pub value_upto_more : (cells : List Cell) (long place c : ℕ) → length cells ≤ long → place < long → long ≤ place + length cells → c ≡ character_of (get_or cells (place + length cells - long) (Cell.Byte 0)) → is_ascii_digit (get_or (text_of_cells cells) (place + length cells - long) 0) ≡ true → value_upto (text_of_cells cells) long (place + 1) ≡ value_upto (text_of_cells cells) long place * 10 + (c - 48)
+value_upto_more cells long place c short before within is passes =
+    let n = length-map cells character_of in
+    let i = place + length cells - long in
+    let e1 : place + 1 + length (text_of_cells cells) - long ≡ i + 1 = omega arith in
+    let e0 : i ≡ place + length (text_of_cells cells) - long = omega arith in
+    ap (λ k. digits_value 10 (take k (text_of_cells cells))) e1
+    ∙ value_more cells i c (omega arith) is passes
+    ∙ ap (λ k. digits_value 10 (take k (text_of_cells cells)) * 10 + (c - 48)) e0
+
+-- at the end it is the value of all digits, and before the first it is 0
+pub value_upto_all : (digits : List ℕ) (long place : ℕ) → long ≤ place → place ≤ long → value_upto digits long place ≡ digits_value 10 digits
+value_upto_all digits long place le ge = let e : place + length digits - long ≡ length digits = omega arith in ap (λ n. digits_value 10 (take n digits)) e ∙ ap (digits_value 10) (take_all (length digits) digits (omega arith))
+
+pub value_upto_none : (digits : List ℕ) (long : ℕ) → length digits ≤ long → value_upto digits long 0 ≡ 0
+value_upto_none digits long le = let e : 0 + length digits - long ≡ 0 = omega arith in ap (λ n. digits_value 10 (take n digits)) e
+
+cmp_less : (a b : ℕ) → a < b → nat_cmp a b ≡ Less
+cmp_less a b h = ap (λ t. cond t Less (cond (eqb a b) Equal Greater)) (lt-ltb a b h)
+
+cmp_greater : (a b : ℕ) → b < a → nat_cmp a b ≡ Greater
+cmp_greater a b h = ap (λ t. cond t Less (cond (eqb a b) Equal Greater)) (le-ltb a b (omega arith)) ∙ ap (λ t. cond t Equal Greater) (ne_eqb a b (λ e. absurd (omega arith)))
+
+cmp_equal : (a b : ℕ) → a ≡ b → nat_cmp a b ≡ Equal
+cmp_equal a b h = ap (λ t. cond t Less (cond (eqb a b) Equal Greater)) (le-ltb a b (omega arith)) ∙ ap (λ t. cond t Equal Greater) (eq-eqb a b h)
+
+-- numbers that get one more digit each
+pub cmp_more : (x y d e : ℕ) → d < 10 → e < 10 → ordering_then (nat_cmp x y) (nat_cmp d e) ≡ nat_cmp (x * 10 + d) (y * 10 + e)
+cmp_more x y d e dl el =
+    ⊎_elim
+    (λ same.
+    ap (λ o. ordering_then o (nat_cmp d e)) (cmp_equal x y same)
+    ∙ ⊎_elim
+    (λ same'. cmp_equal d e same' ∙ sym (cmp_equal (x * 10 + d) (y * 10 + e) (omega arith)))
+    (λ other'. ⊎_elim
+    (λ less. cmp_less d e less ∙ sym (cmp_less (x * 10 + d) (y * 10 + e) (omega arith)))
+    (λ greater. cmp_greater d e greater ∙ sym (cmp_greater (x * 10 + d) (y * 10 + e) (omega arith)))
+    other')
+    (cases_order d e))
+    (λ other. ⊎_elim
+    (λ less. ap (λ o. ordering_then o (nat_cmp d e)) (cmp_less x y less) ∙ sym (cmp_less (x * 10 + d) (y * 10 + e) (omega arith)))
+    (λ greater. ap (λ o. ordering_then o (nat_cmp d e)) (cmp_greater x y greater) ∙ sym (cmp_greater (x * 10 + d) (y * 10 + e) (omega arith)))
+    other)
+    (cases_order x y)

@@ -1,0 +1,43 @@
+-- What a text's number and prefix are, told by where its digits begin.
+use Rattle.std.proofs.Common.{◌≡◌, ℕ, ◌+◌, ◌-◌, ◌<◌, true, List, length, take, drop, get_or, sym, ap, ◌∙◌, arith, reverse}
+use Rattle.std.specs.List.{suffix_len}
+use Rattle.std.specs.Char.{is_ascii_digit}
+use Rattle.std.proofs.lemmas.List.{length-take, length-drop, get_or-drop, get_or-reverse, drop-map, take-map}
+use Rattle.std.proofs.lemmas.List.Sums.{prefix_len_passes, suffix_len-le-length}
+use Rattle.trac_language.specs.Text.{Text}
+use Rattle.trac_language.specs.Number.{digits, before_digits}
+use Rattle.trac_space.specs.declared.cell.Cell.{Cell}
+use Rattle.trac_space.specs.Texts.{character_of, text_of_cells}
+
+length-before_digits : (t : Text) → length (before_digits t) ≡ length t - suffix_len is_ascii_digit t
+length-before_digits t = omega (arith, length-take (length t - suffix_len is_ascii_digit t) t)
+
+length-digits : (t : Text) → length (digits t) ≡ suffix_len is_ascii_digit t
+length-digits t = omega (arith, length-drop (length t - suffix_len is_ascii_digit t) t, suffix_len-le-length is_ascii_digit t)
+
+-- each of the digits is one
+pub digits_pass : (t : Text) (k : ℕ) → k < length (digits t) → is_ascii_digit (get_or (digits t) k 0) ≡ true
+digits_pass t k h =
+    let n = suffix_len is_ascii_digit t in
+    let m = n - 1 - k in
+    let le = suffix_len-le-length is_ascii_digit t in
+    let long = length-digits t in
+    let at : length t - 1 - m ≡ length t - n + k = omega arith in
+    let here : is_ascii_digit (get_or (reverse t) m 0) ≡ true = prefix_len_passes is_ascii_digit (reverse t) m 0 (omega arith) in
+    ap is_ascii_digit (get_or-drop (length t - n) t k 0 ∙ ap (λ i. get_or t i 0) (sym at) ∙ sym (get_or-reverse t m 0 (omega arith))) ∙ here
+
+module _ (cells : List Cell) (s : ℕ) (is : s ≡ length (before_digits (text_of_cells cells))) where
+  place : s ≡ length (text_of_cells cells) - suffix_len is_ascii_digit (text_of_cells cells)
+  place = is ∙ length-before_digits (text_of_cells cells)
+
+  -- the cells before s are the text before the digits, and those from s on the digits
+  pub front_is : text_of_cells (take s cells) ≡ before_digits (text_of_cells cells)
+  front_is = sym (take-map character_of s cells) ∙ ap (λ n. take n (text_of_cells cells)) place
+
+  pub back_is : text_of_cells (drop s cells) ≡ digits (text_of_cells cells)
+  back_is = sym (drop-map character_of s cells) ∙ ap (λ n. drop n (text_of_cells cells)) place
+
+  pub back_passes : (k : ℕ) → k < length (text_of_cells (drop s cells)) → is_ascii_digit (get_or (text_of_cells (drop s cells)) k 0) ≡ true
+  back_passes k h =
+      let e = ap length back_is in
+      ap (λ t. is_ascii_digit (get_or t k 0)) back_is ∙ digits_pass (text_of_cells cells) k (omega arith)

@@ -1,0 +1,23 @@
+use Rattle.std.proofs.Common.{◌/◌, length, sym, ◌∙◌, false, arith}
+use Rattle.std.proofs.lemmas.List.{get_or_past}
+use Rattle.std.proofs.lemmas.Bool.{le-ltb}
+use Rattle.trac_language.specs.BitString.{is_octal}
+use Rattle.trac_space.specs.Texts.{text_of_cells}
+use Rattle.trac_values.specs.Digits.{bits_of_cells}
+use Rattle.trac_values.proofs.Texts.{length-text, read_at, read_passes}
+use Rattle.trac_values.proofs.OctalDigits.{length-bits_of}
+use Rattle.trac_values.proofs.DigitBits.{bit_read}
+use Rattle.trac_values.proofs.bit_string.bit_at.Goals as goal
+
+pub returns-then-place-digits : goal.returns-then-place-digits
+returns-then-place-digits c =
+    let i = c.args.place / 3 in
+    bit_read (text_of_cells c.args.digits.now) c.args.place c.character_of.result
+    (read_at c.args.digits.now i c.character_of.result 48 (omega arith) c.character_of.ensures)
+    (read_passes is_octal c.args.digits.now i c.character_of.result c.requires (omega arith) c.character_of.ensures)
+
+pub returns-else-place-digits : goal.returns-else-place-digits
+returns-else-place-digits c =
+    let long = length-text c.args.digits.now in
+    let bits = length-bits_of (text_of_cells c.args.digits.now) in
+    le-ltb (c.args.place / 3) (length c.args.digits.now) (omega arith) ∙ sym (get_or_past (bits_of_cells c.args.digits.now) c.args.place false (omega arith))

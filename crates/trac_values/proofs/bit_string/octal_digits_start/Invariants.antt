@@ -1,0 +1,15 @@
+use Rattle.std.proofs.Common.{◌≡◌, length, ◌+◌, ◌≤◌, take}
+use Rattle.std.specs.List.{suffix_len}
+use Rattle.trac_language.specs.BitString.{is_octal}
+use Rattle.trac_space.specs.Texts.{text_of_cells}
+use Rattle.trac_values.proofs.bit_string.octal_digits_start.Given as goal
+
+-- the cells from start on are octal digits
+abbrev pub invariant-loop-start : goal.invariant-loop-start
+invariant-loop-start l = record {
+  within : l.start ≤ length l.cells;
+  digits : l.start + suffix_len is_octal (text_of_cells l.cells) ≡ length l.cells + suffix_len is_octal (take l.start (text_of_cells l.cells));
+}
+
+abbrev pub decreases-loop-start : goal.decreases-loop-start
+decreases-loop-start l = l.start

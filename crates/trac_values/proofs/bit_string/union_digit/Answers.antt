@@ -1,0 +1,21 @@
+use Rattle.std.proofs.Common.{sym, arith}
+use Rattle.trac_space.specs.Texts.{text_of_cells}
+use Rattle.trac_values.proofs.Texts.{length-text}
+use Rattle.trac_values.proofs.DigitBits.{union_at, union_past}
+use Rattle.trac_values.proofs.bit_string.union_digit.Goals as goal
+
+pub returns-then-place-long : goal.returns-then-place-long
+returns-then-place-long c =
+    let t = text_of_cells c.args.a.now in
+    let u = text_of_cells c.args.b.now in
+    let lt = length-text c.args.a.now in
+    let lu = length-text c.args.b.now in
+    sym (union_past t u c.max-long.result c.args.k (omega arith) (omega arith))
+
+pub returns : goal.returns
+returns c =
+    let t = text_of_cells c.args.a.now in
+    let u = text_of_cells c.args.b.now in
+    let lt = length-text c.args.a.now in
+    let lu = length-text c.args.b.now in
+    sym (union_at t u c.max-long.result c.args.k c.aligned_digit.result c.aligned_digit-2.result (omega arith) (omega arith) c.aligned_digit.ensures.digit c.aligned_digit-2.ensures.digit c.aligned_digit.ensures.octal c.aligned_digit-2.ensures.octal)

@@ -1,0 +1,8 @@
+use Rattle.std.proofs.Common.{◌≡◌, ◌%◌, take}
+use Rattle.std.specs.Str.Parse.{digits_value}
+use Rattle.trac_space.specs.Texts.{text_of_cells}
+use Rattle.trac_values.proofs.number.remainder_of.Given as goal
+
+-- what is left of the value of the digits so far
+abbrev pub invariant-loop-cell : goal.invariant-loop-cell
+invariant-loop-cell l = l.rest ≡ digits_value 10 (take l.cell-index (text_of_cells l.digits)) % l.divisor

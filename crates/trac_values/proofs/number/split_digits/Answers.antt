@@ -1,0 +1,10 @@
+use Rattle.std.proofs.Common.{◌≡◌, sym, subst, length, get_or, true, ◌<◌, ℕ}
+use Rattle.std.specs.Char.{is_ascii_digit}
+use Rattle.trac_space.specs.Texts.{text_of_cells}
+use Rattle.trac_values.proofs.SuffixCells.{back_passes}
+use Rattle.trac_values.proofs.number.split_digits.Goals as goal
+
+pub returns-clause-passes : goal.returns-clause-passes
+returns-clause-passes c =
+    subst (λ cells. (i : ℕ) → i < length (text_of_cells cells) → is_ascii_digit (get_or (text_of_cells cells) i 0) ≡ true) (sym c.split_at.ensures.back)
+    (back_passes is_ascii_digit c.args.cells.now c.digits_start.result c.digits_start.ensures)

@@ -1,0 +1,8 @@
+use Rattle.std.proofs.Common.{◌≡◌, min, take}
+use Rattle.std.specs.Str.Parse.{digits_value}
+use Rattle.trac_space.specs.Texts.{text_of_cells}
+use Rattle.trac_values.proofs.number.value_up_to.Given as goal
+
+-- the value of the digits so far, up to the limit
+abbrev pub invariant-loop-cell : goal.invariant-loop-cell
+invariant-loop-cell l = l.value ≡ min (digits_value 10 (take l.cell-index (text_of_cells l.digits))) l.limit

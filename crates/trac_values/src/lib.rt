@@ -1,0 +1,22 @@
+//! What the functions of the language make of texts,
+//! numbers and bit strings, read from slices of cells.
+//!
+//! Each slice is a text: all of its cells are characters, and it is no longer than a
+//! block can be, 16,777,216 cells. A number or a bit string stands at the right end
+//! of its text, behind a prefix. That they do is Mooers' rule of 1966; what exactly
+//! counts as one, and the range of arithmetic, is this processor's own choice.
+#![tactic(auto)]
+
+mod bit_string;
+mod number;
+mod text;
+
+pub use bit_string::{
+    bool_complement, bool_intersection, bool_rotation, bool_shift, bool_union, complement_digit,
+    intersection_digit, octal_start, rotated_digit, shifted_digit, union_digit,
+};
+pub use number::{
+    Count, TailNumber, count_of, greater, result_of, rotation_of, shift_of, tail_number,
+};
+pub use text::{ends_with, equal};
+pub use trac_language::Arith;

@@ -1,0 +1,278 @@
+//! Numbers at the end of texts.
+ghost use Rattle.std.specs.Prelude.{◌≡◌, ◌↔◌, ◌+◌, ◌*◌, ◌%◌, ◌<◌, ◌≤◌, ◌^◌, ℕ};
+ghost use Rattle.std.specs.Prelude.{ℤ, min, IfSome, IsTrue, length, int_lt, neg_ℤ, pos};
+ghost use Rattle.std.specs.Prelude.{unsigned_abs, ◌<ℤ◌};
+ghost use Rattle.std.specs.Int.{int_rem_euclid};
+ghost use Rattle.std.specs.Ordering.{nat_cmp};
+ghost use Rattle.trac_language.specs.declared.arith.Arith.TheVariants.{Divide};
+ghost use Rattle.trac_language.specs.Number.{arith, before_digits, digits, exactly, if_in_range};
+ghost use Rattle.trac_language.specs.Number.{in_range, prefix};
+ghost use Rattle.trac_space.specs.Texts.{text_of_cells};
+ghost use Rattle.trac_values.specs.Digits.{IsDecimal, decimal_value, value_upto};
+ghost use Rattle.trac_values.specs.Cells.{IsText, number_in};
+
+use crate::text::ends_with;
+use std::cmp::Ordering;
+use trac_language::Arith;
+use trac_space::{Cell, character_of};
+
+/// The number at the end of a text, as `tail_number` finds it, and where it begins.
+#[derive(Clone, Copy)]
+pub struct TailNumber {
+    /// The length of the prefix, the text before the number and its sign, in cells.
+    pub start: u32,
+    /// The number, or None where it is outside the range of
+    /// arithmetic, from -(2^127 - 1) up to 2^127 - 1.
+    pub value: Option<i128>,
+}
+
+/// Where the longest suffix of decimal digits begins.
+fn digits_start(cells: &[Cell]) -> usize
+    ensures { result ≡ length (before_digits (text_of_cells cells.now)) }
+{
+    let mut start = cells.len();
+    while start > 0 && character_of(&cells[start - 1]).is_ascii_digit() {
+        start -= 1;
+    }
+    start
+}
+
+/// Ten times a number and a digit, None where that, or the
+/// number, is outside the range of arithmetic.
+fn with_digit(value: Option<i128>, digit: u8) -> Option<i128>
+    requires { digit < 10 }
+    ensures { (n : ℕ) → value ≡ if_in_range (Some (pos n)) →
+        result ≡ if_in_range (Some (pos (n * 10 + digit))) }
+{
+    value?.checked_mul(10)?.checked_add(i128::from(digit))
+}
+
+/// A text before its longest suffix of decimal digits, and these.
+fn split_digits(cells: &[Cell]) -> (&[Cell], &[Cell])
+    ensures front { text_of_cells result.0.now ≡ before_digits (text_of_cells cells.now) }
+    ensures digits { text_of_cells result.1.now ≡ digits (text_of_cells cells.now) }
+    ensures passes { IsDecimal result.1.now }
+    ensures short { length result.1.now ≤ length cells.now }
+{
+    cells.split_at(digits_start(cells))
+}
+
+/// The number that at most 19 digits are, which 64 bits hold.
+fn short_value(digits: &[Cell]) -> u64
+    requires digits { IsDecimal digits.now }
+    requires short { length digits.now ≤ 19 }
+    ensures { result ≡ decimal_value digits.now }
+{
+    let mut value: u64 = 0;
+    for cell in digits {
+        value = value * 10 + u64::from(character_of(cell) - b'0');
+    }
+    value
+}
+
+/// The number that digits are, of any length, None where it is outside the range of arithmetic.
+fn long_value(digits: &[Cell]) -> Option<i128>
+    requires { IsDecimal digits.now }
+    ensures { result ≡ if_in_range (Some (pos (decimal_value digits.now))) }
+{
+    let mut value = Some(0);
+    for cell in digits {
+        value = with_digit(value, character_of(cell) - b'0');
+    }
+    value
+}
+
+/// The number that digits are, None where it is outside the range of arithmetic.
+fn value_of(digits: &[Cell]) -> Option<i128>
+    requires { IsDecimal digits.now }
+    ensures { result ≡ if_in_range (Some (pos (decimal_value digits.now))) }
+{
+    if digits.len() <= 19 {
+        Some(i128::from(short_value(digits)))
+    } else {
+        long_value(digits)
+    }
+}
+
+/// The number turned to the other sign.
+fn negated(value: Option<i128>) -> Option<i128>
+    ensures { (n : ℕ) → value ≡ if_in_range (Some (pos n)) →
+        result ≡ if_in_range (Some (neg_ℤ (pos n))) }
+{
+    value?.checked_neg()
+}
+
+/// The number at the end of a text, for arithmetic: the longest suffix of decimal
+/// digits, with one `+` or `-` just before it. Without digits the number is 0 and
+/// the whole text is the prefix. That a number stands at the right end behind a
+/// prefix is Mooers' rule of 1966, the rest this processor's own choice.
+pub fn tail_number(cells: &[Cell]) -> TailNumber
+    requires { IsText cells.now }
+    ensures start { result.start ≡ length (prefix (text_of_cells cells.now)) }
+    ensures value { result.value ≡ if_in_range (Some (number_in cells.now)) }
+{
+    let (front, digits) = split_digits(cells);
+    let start = front.len() as u32;
+    if digits.is_empty() {
+        return TailNumber {
+            start,
+            value: Some(0),
+        };
+    }
+    let value = value_of(digits);
+    if ends_with(front, b'-') {
+        TailNumber {
+            start: start - 1,
+            value: negated(value),
+        }
+    } else if ends_with(front, b'+') {
+        TailNumber {
+            start: start - 1,
+            value,
+        }
+    } else {
+        TailNumber { start, value }
+    }
+}
+
+/// What an operation makes of two numbers. None where one of them or the result is outside the
+/// range of arithmetic, and for a divisor of 0.
+pub fn result_of(operation: Arith, a: Option<i128>, b: Option<i128>) -> Option<i128>
+    requires left { IfSome a (λ m. IsTrue (in_range m)) }
+    requires right { IfSome b (λ n. IsTrue (in_range n)) }
+    ensures { (m n : ℤ) → a ≡ if_in_range (Some m) → b ≡ if_in_range (Some n) →
+        result ≡ arith operation m n }
+{
+    operation.apply(a?, b?)
+}
+
+/// The digit at a place, counted in a number of so many
+/// digits that these are the last of; 0 before the first.
+fn digit_at(digits: &[Cell], long: usize, place: usize) -> u8
+    requires digits { IsDecimal digits.now }
+    requires long { (length digits.now ≤ long) × (long < 2 ^ 62) }
+    requires place { place < long }
+    ensures below { result < 10 }
+    ensures value { let text = text_of_cells digits.now in
+        value_upto text long (place + 1) ≡ value_upto text long place * 10 + result }
+{
+    if place + digits.len() < long {
+        0
+    } else {
+        character_of(&digits[place + digits.len() - long]) - b'0'
+    }
+}
+
+/// How the numbers that digits are compare, of any length.
+fn compare_digits(a: &[Cell], b: &[Cell]) -> Ordering
+    requires left { IsDecimal a.now }
+    requires right { IsDecimal b.now }
+    requires short { (length a.now ≤ 16777216) × (length b.now ≤ 16777216) }
+    ensures { result ≡ nat_cmp (decimal_value a.now) (decimal_value b.now) }
+{
+    let long = a.len().max(b.len());
+    let mut order = Ordering::Equal;
+    for place in 0..long {
+        order = order.then(digit_at(a, long, place).cmp(&digit_at(b, long, place)));
+    }
+    order
+}
+
+/// Whether the number at the end of a text is greater than that at the end of another: the test of
+/// `gr` (Mooers 1966). That the numbers may have any length is this processor's own choice.
+pub fn greater(a: &[Cell], b: &[Cell]) -> bool
+    requires left { IsText a.now }
+    requires right { IsText b.now }
+    ensures { IsTrue result ↔ (number_in b.now <ℤ number_in a.now) }
+{
+    let (a_front, a_digits) = split_digits(a);
+    let (b_front, b_digits) = split_digits(b);
+    let a_negative = ends_with(a_front, b'-');
+    let b_negative = ends_with(b_front, b'-');
+    if a_negative && b_negative {
+        compare_digits(a_digits, b_digits).is_lt()
+    } else if a_negative {
+        false
+    } else if b_negative {
+        compare_digits(a_digits, &[]).is_gt() || compare_digits(b_digits, &[]).is_gt()
+    } else {
+        compare_digits(a_digits, b_digits).is_gt()
+    }
+}
+
+/// A number up to a limit: whether it is negative, and its size or the limit, whichever is less.
+#[derive(Clone, Copy)]
+pub struct Count {
+    pub negative: bool,
+    pub size: u32,
+}
+
+/// The number that digits are, or the limit where that is less.
+fn value_up_to(digits: &[Cell], limit: u32) -> u32
+    requires digits { IsDecimal digits.now }
+    requires limit { limit ≤ 50331648 }
+    ensures { result ≡ min (decimal_value digits.now) limit }
+{
+    let mut value = 0;
+    for cell in digits {
+        value = (value * 10 + u32::from(character_of(cell) - b'0')).min(limit);
+    }
+    value
+}
+
+/// The number at the end of a text, of any length, up to a limit.
+fn count_up_to(cells: &[Cell], limit: u32) -> Count
+    requires limit { (0 < limit) × (limit ≤ 50331648) }
+    ensures negative { result.negative ≡ int_lt (number_in cells.now) (pos 0) }
+    ensures size { result.size ≡ min (unsigned_abs (number_in cells.now)) limit }
+{
+    let (front, digits) = split_digits(cells);
+    let size = value_up_to(digits, limit);
+    Count {
+        negative: size > 0 && ends_with(front, b'-'),
+        size,
+    }
+}
+
+/// How many characters the number of a text counts, up to as many as a block can hold.
+pub fn count_of(cells: &[Cell]) -> Count
+    ensures negative { result.negative ≡ int_lt (number_in cells.now) (pos 0) }
+    ensures size { result.size ≡ min (unsigned_abs (number_in cells.now)) 16777216 }
+{
+    count_up_to(cells, 16_777_216)
+}
+
+/// How far the number of a text shifts bits, up to as many as a block can hold.
+pub fn shift_of(cells: &[Cell]) -> Count
+    ensures negative { result.negative ≡ int_lt (number_in cells.now) (pos 0) }
+    ensures size { result.size ≡ min (unsigned_abs (number_in cells.now)) 50331648 }
+{
+    count_up_to(cells, 50_331_648)
+}
+
+/// What is left of the number that digits are, divided by another.
+fn remainder_of(digits: &[Cell], divisor: u32) -> u32
+    requires digits { IsDecimal digits.now }
+    requires divisor { (0 < divisor) × (divisor ≤ 50331648) }
+    ensures { result ≡ decimal_value digits.now % divisor }
+{
+    let mut rest = 0;
+    for cell in digits {
+        rest = (rest * 10 + u32::from(character_of(cell) - b'0')) % divisor;
+    }
+    rest
+}
+
+/// How far to the left the number of a text rotates a string of so many bits.
+pub fn rotation_of(cells: &[Cell], bits: u32) -> u32
+    requires { (0 < bits) × (bits ≤ 50331648) }
+    ensures { int_rem_euclid (number_in cells.now) (pos bits) ≡ pos result }
+{
+    let (front, digits) = split_digits(cells);
+    let rest = remainder_of(digits, bits);
+    if rest > 0 && ends_with(front, b'-') {
+        bits - rest
+    } else {
+        rest
+    }
+}

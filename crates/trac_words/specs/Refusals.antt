@@ -1,0 +1,16 @@
+-- The exit status where the words give no settings.
+use Rattle.std.specs.Prelude.{ℕ, Bool, false}
+use Rattle.clap.specs.declared.error.kind.ErrorKind.{ErrorKind}
+use Rattle.clap.specs.declared.error.kind.ErrorKind.TheVariants.{DisplayHelp, OutOfMemory}
+
+-- the exit status of the program where the words gave this error in place of settings
+abbrev pub refusal_status : ErrorKind → ℕ
+refusal_status DisplayHelp = 0
+refusal_status OutOfMemory = 6
+refusal_status _ = 2
+
+-- the same, once the error was shown or could not be: a
+-- help that could not be written is an output that failed
+abbrev pub shown_status : ErrorKind → Bool → ℕ
+shown_status DisplayHelp false = 5
+shown_status kind shown = refusal_status kind
