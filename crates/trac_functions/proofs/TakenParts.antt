@@ -24,6 +24,7 @@ use Rattle.trac_forms.specs.Contents.{Contents, form_at, IsNamedAt, IsSound, par
 use Rattle.trac_forms.proofs.Stores.{form_named-at, form_named-none, changed-at}
 use Rattle.trac_functions.specs.declared.arguments.Made.{Made}
 use Rattle.trac_functions.specs.declared.arguments.Made.TheVariants.{Full, Value, Forced, Defined}
+use Rattle.trac_functions.specs.declared.arguments.Made.TheVariants.{Over}
 use Rattle.trac_functions.specs.Calls.{world, Valued, Makes}
 use Rattle.trac_functions.specs.Taking.{part_value, moved, TakesPart}
 use Rattle.trac_functions.proofs.CountLimits.{counted}
@@ -94,6 +95,8 @@ module _ (f : Function) (args : List Text) (name : Text) (part : Form → Option
       go (Some p) e Forced takes = absurd takes
       go None e (Defined cells) takes = absurd takes
       go (Some p) e (Defined cells) takes = absurd takes
+      go None e (Over fate) takes = absurd takes
+      go (Some p) e (Over fate) takes = absurd takes
 
   -- the same, by what the code knows
   pub makes-found : (old found new : Contents) (k : ℕ) (made : Made) (named : Text) (a b : ℕ) → IsSound old → found ≡ old → IsNamedAt old.forms named k → named ≡ name → TakesPart (part (form_at found.forms k)) (part_text found.neutral a b) k found made new → part_text old.neutral a b ≡ z → Makes f args old made new

@@ -13,6 +13,7 @@ use Rattle.trac_forms.specs.Contents.{Contents, used, IsSound}
 use Rattle.trac_functions.specs.declared.arguments.Arguments.{Arguments}
 use Rattle.trac_functions.specs.declared.arguments.Made.{Made}
 use Rattle.trac_functions.specs.declared.arguments.Made.TheVariants.{Full, Value, Forced, Defined}
+use Rattle.trac_functions.specs.declared.arguments.Made.TheVariants.{Over}
 use Rattle.trac_functions.specs.Flat.{texts_of}
 
 -- the arguments that are left to take: those from a place up to another, none once the place is
@@ -78,6 +79,7 @@ Makes function args old Full new =
 Makes function args old Value new = (value : Text) × IsValue function args old new false value
 Makes function args old Forced new = (value : Text) × IsValue function args old new true value
 Makes function args old (Defined cells) new = IsDefined function args old new cells
+Makes function args old (Over fate) new = ⊥
 
 -- the same of a call whose arguments, but for the function's name, are those that are left
 abbrev pub Performs : Function → Contents → Arguments → Made → Contents → Type 0

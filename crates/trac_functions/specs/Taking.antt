@@ -9,6 +9,7 @@ use Rattle.trac_forms.specs.Contents.{Contents, used, part_text, form_at}
 use Rattle.trac_forms.specs.Search.{NonePasses}
 use Rattle.trac_functions.specs.declared.arguments.Made.{Made}
 use Rattle.trac_functions.specs.declared.arguments.Made.TheVariants.{Full, Value, Forced, Defined}
+use Rattle.trac_functions.specs.declared.arguments.Made.TheVariants.{Over}
 
 -- the value of a call that takes a part, or z where there is none
 abbrev pub part_value : Option Part → Text → Text
@@ -33,6 +34,7 @@ TakesPart (Some part) z k old Value new = Puts old new (moved old.forms k part.p
 TakesPart None z k old Value new = ⊥
 TakesPart (Some part) z k old Forced new = ⊥
 TakesPart part z k old (Defined cells) new = ⊥
+TakesPart part z k old (Over fate) new = ⊥
 
 -- the part of the form at place k that a call takes is the value, and its pointer is moved; or the
 -- text of z, a part of the neutral string, is the value; or that doesn't fit

@@ -10,6 +10,7 @@ ghost use Rattle.trac_functions.specs.Calls.{MakesValue, AreArguments, texts};
 ghost use Rattle.trac_functions.specs.Taking.{TakesPart};
 
 use trac_forms::{Cell, Work, before_comma};
+use trac_language::Fate;
 
 /// The arguments of a call that are left to take: those in the neutral string from a place up to
 /// another. None is left once the place is past that.
@@ -19,7 +20,7 @@ pub struct Arguments {
     pub end: u32,
 }
 
-/// What a function makes of a call.
+/// What a function answers to a call.
 #[derive(Clone, Copy, PartialEq, Eq, Debug)]
 pub enum Made {
     /// There are too few cells for what it builds.
@@ -30,6 +31,8 @@ pub enum Made {
     Forced,
     /// A null value; it built so many cells of forms.
     Defined(u32),
+    /// The run is over, by the language or because a device failed.
+    Over(Fate),
 }
 
 impl Arguments {
