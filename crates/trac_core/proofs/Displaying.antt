@@ -18,9 +18,10 @@ use Rattle.trac_devices.specs.Devices.{Stream, Breaks, Prints}
 use Rattle.trac_functions.specs.Flat.{mode_at, arguments_at}
 use Rattle.trac_functions.specs.Calls.{world}
 use Rattle.trac_core.specs.Machine.{ending}
-use Rattle.trac_core.specs.Attempts.{scene, TriedCall, IsCall}
+use Rattle.trac_functions.specs.declared.arguments.Made.TheVariants.{Value, Over}
+use Rattle.trac_core.specs.Attempts.{scene, IsCall, settled, AnswersCall}
 use Rattle.trac_core.specs.Display.{display}
-use Rattle.trac_core.proofs.Performing.{closed, delivered-null, tried-answer, tried-broken}
+use Rattle.trac_core.proofs.Performing.{settled-null, tried-answer, tried-broken}
 
 pub show-append : (xs ys : List Item) → show (xs ++ ys) ≡ show xs ++ show ys
 show-append [] ys = refl
@@ -121,25 +122,25 @@ displays : (o : Option Form) (w : World) → on_form o (λ form. printing (show_
 displays None w = refl
 displays (Some form) w = refl
 
-module _ (w : Contents) (place needed : ℕ) where
-  pub tried-display : (new : Contents) → IsCall w place (Some PrintForm) → new ≡ closed w place → needed ≡ used w → (meta : ℕ) (source : Stream) (written : Text) → TriedCall place (scene w meta source written) None needed (scene new meta source (written ++ display (form_named (argument (arguments_at w.neutral place) 1) w.forms)))
+module _ (w : Contents) (place : ℕ) where
+  pub answers-display : IsCall w place (Some PrintForm) → (meta : ℕ) (source : Stream) (written : Text) → AnswersCall place (scene w meta source written) Value (scene w meta source (written ++ display (form_named (argument (arguments_at w.neutral place) 1) w.forms)))
   unfolding meaning_of
-  tried-display new call new_is needs meta source written =
+  answers-display call meta source written =
       let fits = call.sound.fits in
       let means = displays (form_named (argument (arguments_at w.neutral place) 1) w.forms) (world w.forms meta (ending source.bytes)) in
-      tried-answer w new place (Some PrintForm) meta meta source source written (display (form_named (argument (arguments_at w.neutral place) 1) w.forms)) needed [] false w.forms call.names
+      tried-answer w (settled Value place (length w.neutral) w) place (Some PrintForm) meta meta source source written (display (form_named (argument (arguments_at w.neutral place) 1) w.forms)) (used w + (length w.neutral - length w.neutral)) [] false w.forms call.names
       (record {
         means = means;
-        stands = new_is ∙ sym (delivered-null (mode_at w.neutral place) place w);
+        stands = settled-null w place call.innermost;
         needs = let none_built = ap value_length means in omega arith;
         fits = omega arith;
         stays_ended = λ e. e;
         read_all = λ e. absurd cc;
       })
 
-  pub tried-display-broken : IsCall w place (Some PrintForm) → needed ≡ used w → (meta : ℕ) (source : Stream) (written put rest : Text) → display (form_named (argument (arguments_at w.neutral place) 1) w.forms) ≡ put ++ rest → put ++ rest ≢ [] → TriedCall place (scene w meta source written) (Some OutputFailed) needed (scene w meta source (written ++ put))
+  pub answers-display-broken : IsCall w place (Some PrintForm) → (meta : ℕ) (source : Stream) (written put rest : Text) → display (form_named (argument (arguments_at w.neutral place) 1) w.forms) ≡ put ++ rest → put ++ rest ≢ [] → AnswersCall place (scene w meta source written) (Over OutputFailed) (scene w meta source (written ++ put))
   unfolding meaning_of
-  tried-display-broken call needs meta source written put rest parts some =
+  answers-display-broken call meta source written put rest parts some =
       let fits = call.sound.fits in
       let means = displays (form_named (argument (arguments_at w.neutral place) 1) w.forms) (world w.forms meta (ending source.bytes)) in
-      tried-broken w w place (Some PrintForm) meta source written put rest needed _ call.names means parts some (let none_built = ap value_length means in omega arith) (omega arith)
+      tried-broken w w place (Some PrintForm) meta source written put rest (used w) _ call.names means parts some (let none_built = ap value_length means in omega arith) (omega arith)

@@ -4,7 +4,7 @@ use Rattle.std.specs.Prelude.{◌==◌, slice_get, unwrap_or, nat_le}
 use Rattle.std.proofs.lemmas.Option.{unwrap_or-slice_get}
 use Rattle.std.specs.List.{list_any}
 use Rattle.std.proofs.lemmas.List.{length-map, length-drop, get_or_append_left}
-use Rattle.std.proofs.Math.Seq.{drop-append_seam, take-append_seam, take-length}
+use Rattle.std.proofs.Math.Seq.{drop-append_seam, take-append_seam, take-length, drop-length}
 use Rattle.trac_language.specs.declared.mode.Mode.{Mode}
 use Rattle.trac_language.specs.declared.mode.Mode.TheVariants.{Active, Neutral as NeutralMode}
 use Rattle.trac_language.specs.declared.function.Function.{Function}
@@ -27,14 +27,15 @@ use Rattle.trac_space.specs.Calls.{IsLastCall}
 use Rattle.trac_space.proofs.Texts.{text_of_cells-append}
 use Rattle.trac_forms.specs.Contents.{Contents, used, IsSound}
 use Rattle.trac_devices.specs.Devices.{Stream}
-use Rattle.trac_functions.specs.declared.arguments.Made.TheVariants.{Full}
+use Rattle.trac_functions.specs.declared.arguments.Made.{Made}
+use Rattle.trac_functions.specs.declared.arguments.Made.TheVariants.{Full, Value, Forced, Defined, Over}
 use Rattle.trac_functions.specs.Flat.{texts_of, Neutral, no_neutral, neutral_of, memory_with, memory_of, mode_of, mode_at, is_active_mode, arguments_at}
 use Rattle.trac_functions.specs.Calls.{texts_from, world, IsValue, IsDefined, Makes}
 use Rattle.trac_functions.proofs.FlatLemmas.{with_cells-append, with_cells-text, text_of-flat, neutral_of-innermost, call_at, opened, texts_of-some, grown-mode, arguments-call_at, size-used}
 use Rattle.trac_functions.proofs.ArgumentLemmas.{bytes-flat}
 use Rattle.trac_core.specs.Performed.{is_plain, performed_by, performs}
-use Rattle.trac_core.specs.Machine.{MachineState, moment, ending, failing, state_with, state_of, failing_state_of, EndsRun}
-use Rattle.trac_core.specs.Attempts.{scene, Tried, TriedCall, ClosesCall, Scanned, function_at, delivered}
+use Rattle.trac_core.specs.Machine.{MachineState, moment, ending, failing, state_with, state_of, failing_state_of, EndsRun, input_failures, output_failures}
+use Rattle.trac_core.specs.Attempts.{scene, Tried, TriedCall, ClosesCall, Scanned, function_at, delivered, settled, AnswersCall, IsValueFrom, IsBuilt, Stands, fate_after}
 
 -- the contents without the innermost call
 abbrev pub closed : Contents → ℕ → Contents
@@ -324,14 +325,28 @@ module _ (w mid : Contents) (place : ℕ) (f : Function) (rest : List Text) (nam
       let full = is meta (ending source.bytes) in
       tried-full w new place (Some f) meta source source written 0 names (omega arith)
 
+  -- whatever the function makes of the call
+  pub answers-made : (made : Made) → Makes f (argument (arguments_at w.neutral place) 0 ∷ rest) w made mid → (meta : ℕ) (source : Stream) (written : Text) → AnswersCall place (scene w meta source written) made (scene mid meta source written)
+  answers-made Full is meta source written = tried-too-much mid is meta source written
+  answers-made Value is meta source written = tried-value (settled Value place (length w.neutral) mid) (length w.neutral) (used w + (length mid.neutral - length w.neutral)) is.0 false is.1 refl refl refl meta source written
+  answers-made Forced is meta source written = tried-value (settled Forced place (length w.neutral) mid) (length w.neutral) (used w + (length mid.neutral - length w.neutral)) is.0 true is.1 refl refl refl meta source written
+  answers-made (Defined cells) is meta source written = tried-defined (closed mid place) (used w + cells) cells is refl refl meta source written
+  answers-made (Over fate) is meta source written = absurd is
+
+-- a null value, which is put nowhere
+pub settled-null : (w : Contents) (place : ℕ) → IsLastCall w.neutral place → settled Value place (length w.neutral) w ≡ delivered (mode_at w.neutral place) false [] place w
+settled-null w place innermost =
+    delivered-value w w (settled Value place (length w.neutral) w) place (length w.neutral) [] false w.forms innermost
+    (ap (λ n. record w { neutral = n }) (sym (append-nil w.neutral))) refl refl
+
 -- a call of no function
-pub tried-nothing : (w new : Contents) (place needed : ℕ) → function_named (argument (arguments_at w.neutral place) 0) ≡ None → IsSound w → new ≡ closed w place → needed ≡ used w → (meta : ℕ) (source : Stream) (written : Text) → TriedCall place (scene w meta source written) None needed (scene new meta source written)
-tried-nothing w new place needed names sound new_is needs meta source written =
+pub answers-nothing : (w : Contents) (place : ℕ) → function_named (argument (arguments_at w.neutral place) 0) ≡ None → IsLastCall w.neutral place → IsSound w → (meta : ℕ) (source : Stream) (written : Text) → AnswersCall place (scene w meta source written) Value (scene w meta source written)
+answers-nothing w place names innermost sound meta source written =
     let fits = sound.fits in
-    tried-quiet w new place None meta meta source source written needed [] false w.forms names
+    tried-quiet w (settled Value place (length w.neutral) w) place None meta meta source source written (used w + (length w.neutral - length w.neutral)) [] false w.forms names
     (record {
       means = refl;
-      stands = new_is ∙ sym (delivered-null (mode_at w.neutral place) place w);
+      stands = settled-null w place innermost;
       needs = omega arith;
       fits = omega arith;
       stays_ended = λ e. e;
@@ -346,19 +361,51 @@ mode-none forced neutral place e = sym (ap (λ m. forced || is_active_mode (mode
     go true = refl
     go false = refl
 
--- a value stands behind what was there, and its cells are characters
-pub value-within : (f : Function) (args : List Text) (w mid : Contents) (forced : Bool) (value : Text) → IsValue f args w mid forced value → length mid.neutral ≡ length w.neutral + length value
-value-within f args w mid forced value is =
-    ap (λ (w : Contents). length w.neutral) is.stands ∙ length-append w.neutral (flat_text value) ∙ ap (λ n. length w.neutral + n) (length-map value Byte)
+-- a text that was put behind what was there
+pub text-stands : (w mid : Contents) (forms : List Form) (text : Text) → mid ≡ record w { forms = forms; neutral = w.neutral ++ flat_text text } → used w + length text ≤ w.room → IsValueFrom (used w) (length w.neutral) mid
+text-stands w mid forms text stands fits =
+    let long : length mid.neutral ≡ length w.neutral + length text = ap (λ (w : Contents). length w.neutral) stands ∙ length-append w.neutral (flat_text text) ∙ ap (λ n. length w.neutral + n) (length-map text Byte) in
+    let room = ap (λ (w : Contents). w.room) stands in
+    record {
+      within = omega arith;
+      text = subst (All IsByte)
+        (sym (drop-append_seam w.neutral (flat_text text)) ∙ sym (ap (λ (c : Contents). drop (length w.neutral) c.neutral) stands))
+        (bytes-flat text);
+      fits = omega arith;
+    }
 
-pub value-bytes : (f : Function) (args : List Text) (w mid : Contents) (forced : Bool) (value : Text) (end : ℕ) → IsValue f args w mid forced value → end ≡ length w.neutral → All IsByte (drop end mid.neutral)
-value-bytes f args w mid forced value end is end_is =
-    subst (All IsByte)
-    (sym (drop-append_seam w.neutral (flat_text value)) ∙ ap (λ k. drop k (w.neutral ++ flat_text value)) (sym end_is) ∙ sym (ap (λ (w : Contents). drop end w.neutral) is.stands))
-    (bytes-flat value)
+value-stands : (f : Function) (args : List Text) (w mid : Contents) (forced : Bool) (value : Text) → IsValue f args w mid forced value → IsValueFrom (used w) (length w.neutral) mid
+value-stands f args w mid forced value is = text-stands w mid mid.forms value is.stands is.fits
 
-pub defined-within : (f : Function) (args : List Text) (w mid : Contents) (cells : ℕ) → IsDefined f args w mid cells → length mid.neutral ≡ length w.neutral
-defined-within f args w mid cells is = ap (λ (w : Contents). length w.neutral) is.stands
+-- what stands there, whatever a function makes of its call
+pub stands-made : (f : Function) (args : List Text) (w mid : Contents) (made : Made) → Makes f args w made mid → Stands made (used w) (length w.neutral) mid
+stands-made f args w mid Full is = tt
+stands-made f args w mid Value is = value-stands f args w mid false is.0 is.1
+stands-made f args w mid Forced is = value-stands f args w mid true is.0 is.1
+stands-made f args w mid (Defined cells) is =
+    let fits = is.fits in
+    let neutral = ap (λ (w : Contents). length w.neutral) is.stands in
+    let room = ap (λ (w : Contents). w.room) is.stands in
+    record { within = omega arith; fits = omega arith }
+stands-made f args w mid (Over fate) is = tt
+
+-- a function without devices ends no run
+pub no-failure-made : (f : Function) (args : List Text) (w mid : Contents) (made : Made) → Makes f args w made mid → (input_failures None (fate_after made) ≡ 0) × ((output_failures None (fate_after made) ≡ 0) × (made ≢ Over Steps))
+no-failure-made f args w mid Full is = (refl, (refl, λ e. absurd cc))
+no-failure-made f args w mid Value is = (refl, (refl, λ e. absurd cc))
+no-failure-made f args w mid Forced is = (refl, (refl, λ e. absurd cc))
+no-failure-made f args w mid (Defined cells) is = (refl, (refl, λ e. absurd cc))
+no-failure-made f args w mid (Over fate) is = absurd is
+
+-- a null value stands anywhere
+pub stands-null : (w : Contents) → IsSound w → Stands Value (used w) (length w.neutral) w
+stands-null w sound =
+    let fits = sound.fits in
+    record {
+      within = omega arith;
+      text = subst (All IsByte) (sym (drop-length w.neutral)) (bytes-flat []);
+      fits = omega arith;
+    }
 
 -- ---- the parenthesis
 

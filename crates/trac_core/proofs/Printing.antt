@@ -1,5 +1,5 @@
 -- The calls that print, change the meta character and stop.
-use Rattle.std.proofs.Common.{◌≡◌, ◌≢◌, ℕ, false, List, [], ◌∷◌, ◌++◌, drop, Some, None, refl, sym, ap, ◌∙◌, arith, slice_get}
+use Rattle.std.proofs.Common.{◌≡◌, ◌≢◌, ℕ, ◌+◌, ◌-◌, false, List, [], ◌∷◌, ◌++◌, length, drop, Some, None, refl, sym, ap, ◌∙◌, arith, slice_get}
 use Rattle.std.proofs.lemmas.List.{get_or-drop}
 use Rattle.trac_language.specs.declared.function.Function.TheVariants.{PrintString, ChangeMeta, Halt}
 use Rattle.trac_language.specs.declared.fate.Fate.TheVariants.{Halted, OutputFailed}
@@ -11,8 +11,9 @@ use Rattle.trac_devices.specs.Devices.{Stream}
 use Rattle.trac_functions.specs.Flat.{mode_at, arguments_at}
 use Rattle.trac_functions.specs.Calls.{world}
 use Rattle.trac_core.specs.Machine.{ending}
-use Rattle.trac_core.specs.Attempts.{scene, TriedCall, IsCall}
-use Rattle.trac_core.proofs.Performing.{closed, delivered-null, tried-answer, tried-quiet, tried-end, tried-broken}
+use Rattle.trac_functions.specs.declared.arguments.Made.TheVariants.{Value, Over}
+use Rattle.trac_core.specs.Attempts.{scene, IsCall, settled, AnswersCall}
+use Rattle.trac_core.proofs.Performing.{settled-null, tried-answer, tried-quiet, tried-end, tried-broken}
 
 -- the first argument after the name
 pub argument-one : (args rest : List Text) → rest ≡ drop 1 args → argument rest 0 ≡ argument args 1
@@ -21,48 +22,48 @@ argument-one args rest e = ap (λ l. argument l 0) e ∙ get_or-drop 1 args 0 []
 pub some-same : {a b : ℕ} → Some a ≡ Some b → a ≡ b
 some-same e = cc
 
-module _ (w : Contents) (place needed : ℕ) where
-  pub tried-print : (new : Contents) → IsCall w place (Some PrintString) → new ≡ closed w place → needed ≡ used w → (meta : ℕ) (source : Stream) (written : Text) → TriedCall place (scene w meta source written) None needed (scene new meta source (written ++ argument (arguments_at w.neutral place) 1))
+module _ (w : Contents) (place : ℕ) where
+  pub answers-print : IsCall w place (Some PrintString) → (meta : ℕ) (source : Stream) (written : Text) → AnswersCall place (scene w meta source written) Value (scene w meta source (written ++ argument (arguments_at w.neutral place) 1))
   unfolding meaning_of
-  tried-print new call new_is needs meta source written =
+  answers-print call meta source written =
       let fits = call.sound.fits in
-      tried-answer w new place (Some PrintString) meta meta source source written (argument (arguments_at w.neutral place) 1) needed [] false w.forms call.names
+      tried-answer w (settled Value place (length w.neutral) w) place (Some PrintString) meta meta source source written (argument (arguments_at w.neutral place) 1) (used w + (length w.neutral - length w.neutral)) [] false w.forms call.names
       (record {
         means = refl;
-        stands = new_is ∙ sym (delivered-null (mode_at w.neutral place) place w);
+        stands = settled-null w place call.innermost;
         needs = omega arith;
         fits = omega arith;
         stays_ended = λ e. e;
         read_all = λ e. absurd cc;
       })
 
-  pub tried-print-broken : IsCall w place (Some PrintString) → needed ≡ used w → (meta : ℕ) (source : Stream) (written put rest : Text) → argument (arguments_at w.neutral place) 1 ≡ put ++ rest → put ++ rest ≢ [] → TriedCall place (scene w meta source written) (Some OutputFailed) needed (scene w meta source (written ++ put))
+  pub answers-print-broken : IsCall w place (Some PrintString) → (meta : ℕ) (source : Stream) (written put rest : Text) → argument (arguments_at w.neutral place) 1 ≡ put ++ rest → put ++ rest ≢ [] → AnswersCall place (scene w meta source written) (Over OutputFailed) (scene w meta source (written ++ put))
   unfolding meaning_of
-  tried-print-broken call needs meta source written put rest parts some =
+  answers-print-broken call meta source written put rest parts some =
       let fits = call.sound.fits in
-      tried-broken w w place (Some PrintString) meta source written put rest needed _ call.names refl parts some (omega arith) (omega arith)
+      tried-broken w w place (Some PrintString) meta source written put rest (used w) _ call.names refl parts some (omega arith) (omega arith)
 
-  pub tried-halt : IsCall w place (Some Halt) → needed ≡ used w → (meta : ℕ) (source : Stream) (written : Text) → TriedCall place (scene w meta source written) (Some Halted) needed (scene w meta source written)
+  pub answers-halt : IsCall w place (Some Halt) → (meta : ℕ) (source : Stream) (written : Text) → AnswersCall place (scene w meta source written) (Over Halted) (scene w meta source written)
   unfolding meaning_of
-  tried-halt call needs meta source written = λ old p m room_is memory_is allowed.
+  answers-halt call meta source written = λ old p m room_is memory_is allowed.
       let fits = call.sound.fits in
-      tried-end Halted w w place (Some Halt) meta source source written needed call.names refl (omega arith) (omega arith) refl old p m room_is memory_is allowed _ refl refl
+      tried-end Halted w w place (Some Halt) meta source source written (used w) call.names refl (omega arith) (omega arith) refl old p m room_is memory_is allowed _ refl refl
 
   -- the meta character after a text was given
   first-meta : (meta meta' : ℕ) (text : Text) → ((c : ℕ) → slice_get text 0 ≡ Some c → meta' ≡ c) → (slice_get text 0 ≡ None → meta' ≡ meta) → (world' : World) → change_meta text (record world' { meta = meta }) ≡ silent (record world' { meta = meta' })
   first-meta meta meta' [] some none world' = ap (λ m. silent (record world' { meta = m })) (sym (none refl))
   first-meta meta meta' (c ∷ text) some none world' = ap (λ m. silent (record world' { meta = m })) (sym (some c refl))
 
-  pub tried-meta : (new : Contents) (meta meta' : ℕ) → IsCall w place (Some ChangeMeta) → new ≡ closed w place → needed ≡ used w → ((c : ℕ) → slice_get (argument (arguments_at w.neutral place) 1) 0 ≡ Some c → meta' ≡ c) → (slice_get (argument (arguments_at w.neutral place) 1) 0 ≡ None → meta' ≡ meta) → (source : Stream) (written : Text) → TriedCall place (scene w meta source written) None needed (scene new meta' source written)
+  pub answers-meta : (meta meta' : ℕ) → IsCall w place (Some ChangeMeta) → ((c : ℕ) → slice_get (argument (arguments_at w.neutral place) 1) 0 ≡ Some c → meta' ≡ c) → (slice_get (argument (arguments_at w.neutral place) 1) 0 ≡ None → meta' ≡ meta) → (source : Stream) (written : Text) → AnswersCall place (scene w meta source written) Value (scene w meta' source written)
   unfolding meaning_of
-  tried-meta new meta meta' call new_is needs some none source written =
+  answers-meta meta meta' call some none source written =
       let fits = call.sound.fits in
       let args = arguments_at w.neutral place in
       let means = first-meta meta meta' (argument args 1) some none (world w.forms meta (ending source.bytes)) in
-      tried-quiet w new place (Some ChangeMeta) meta meta' source source written needed [] false w.forms call.names
+      tried-quiet w (settled Value place (length w.neutral) w) place (Some ChangeMeta) meta meta' source source written (used w + (length w.neutral - length w.neutral)) [] false w.forms call.names
       (record {
         means = means;
-        stands = new_is ∙ sym (delivered-null (mode_at w.neutral place) place w);
+        stands = settled-null w place call.innermost;
         needs = let none_built = ap value_length means in omega arith;
         fits = omega arith;
         stays_ended = λ e. e;

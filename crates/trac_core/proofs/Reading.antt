@@ -1,5 +1,5 @@
 -- The calls that read.
-use Rattle.std.proofs.Common.{◌≡◌, ℕ, ◌+◌, ◌<◌, ◌≤◌, Bool, true, false, not, ◌||◌, List, [], ◌∷◌, ◌++◌, length, take, drop, Some, None, refl, sym, ap, ◌∙◌, subst, arith, append_assoc, length-append, All, ⊎_elim, eq-eqb}
+use Rattle.std.proofs.Common.{◌≡◌, ℕ, ◌+◌, ◌-◌, ◌<◌, ◌≤◌, Bool, true, false, not, ◌||◌, List, [], ◌∷◌, ◌++◌, length, take, drop, Some, None, refl, sym, ap, ◌∙◌, subst, arith, append_assoc, length-append, All, ⊎_elim, eq-eqb}
 use Rattle.std.specs.Prelude.{◌==◌}
 use Rattle.std.specs.List.{before_first, position_or_len, list_any}
 use Rattle.std.proofs.lemmas.List.{length-map}
@@ -18,9 +18,10 @@ use Rattle.trac_functions.specs.Flat.{mode_at, arguments_at}
 use Rattle.trac_functions.specs.Calls.{world}
 use Rattle.trac_functions.proofs.ArgumentLemmas.{bytes-flat}
 use Rattle.trac_core.specs.Machine.{ending, failing}
-use Rattle.trac_core.specs.Attempts.{scene, TriedCall, IsCall, delivered, TakesFrom}
+use Rattle.trac_functions.specs.declared.arguments.Made.TheVariants.{Full, Value, Over}
+use Rattle.trac_core.specs.Attempts.{scene, IsCall, settled, AnswersCall, IsValueFrom, TakesFrom}
 use Rattle.trac_core.proofs.MetaCharacters.{position-past, before-none, from-none, before-at, from-at, length-before, any-at}
-use Rattle.trac_core.proofs.Performing.{tried-quiet, tried-full, tried-end, tried-failed, delivered-value}
+use Rattle.trac_core.proofs.Performing.{tried-quiet, tried-full, tried-end, tried-failed, delivered-value, text-stands}
 
 -- the cells that are used after a text was read
 pub used-reads : (meta : ℕ) (w mid : Contents) (text : Text) → Reads meta w mid text → used mid ≡ used w + length text
@@ -35,6 +36,10 @@ room-reads meta w mid text reads = ap (λ (w : Contents). w.room) reads.pushed
 pub neutral-reads : (meta : ℕ) (w mid : Contents) (text : Text) → Reads meta w mid text → length mid.neutral ≡ length w.neutral + length text
 neutral-reads meta w mid text reads = ap (λ (w : Contents). length w.neutral) reads.pushed ∙ length-append w.neutral (flat_text text) ∙ ap (λ n. length w.neutral + n) (length-map text Byte)
 
+-- the same, as a settled value counts them
+put-reads : (meta : ℕ) (w mid : Contents) (text : Text) → Reads meta w mid text → used w + (length mid.neutral - length w.neutral) ≡ used w + length text
+put-reads meta w mid text reads = omega (arith, neutral-reads meta w mid text reads)
+
 is-same : (meta : ℕ) → (meta == meta) ≡ true
 is-same meta = eq-eqb meta meta refl
 
@@ -43,41 +48,41 @@ module _ (w mid : Contents) (place meta : ℕ) (text : Text) (call : IsCall w pl
   args = arguments_at w.neutral place
 
   -- the meta character followed
-  pub read-to-meta : (new : Contents) (from : ℕ) (source source' : Stream) (written : Text) → from ≡ length w.neutral → new ≡ delivered (mode_at mid.neutral place) false (text_of_cells (drop from mid.neutral)) place (record mid { neutral = take from mid.neutral }) → source.bytes ≡ text ++ meta ∷ source'.bytes → source.ended ≡ false → TriedCall place (scene w meta source written) None (used mid) (scene new meta source' written)
+  pub read-to-meta : (source source' : Stream) (written : Text) → source.bytes ≡ text ++ meta ∷ source'.bytes → source.ended ≡ false → AnswersCall place (scene w meta source written) Value (scene mid meta source' written)
   unfolding meaning_of
-  read-to-meta new from source source' written from_is new_is gave open_still =
+  read-to-meta source source' written gave open_still =
       let p = λ (c : ℕ). c == meta in
       let here = world w.forms meta (ending source.bytes) in
       let before : before_meta here ≡ text = ap (before_first p) gave ∙ before-at p text meta source'.bytes reads.no_meta (is-same meta) in
       let after : from_meta here ≡ meta ∷ source'.bytes = ap (λ t. drop (position_or_len p t) t) gave ∙ from-at p text meta source'.bytes reads.no_meta (is-same meta) in
       let fits = sound.fits in
       let room = room-reads meta w mid text reads in
-      tried-quiet w new place (Some ReadString) meta meta source source' written (used mid) text false w.forms call.names
+      tried-quiet w (settled Value place (length w.neutral) mid) place (Some ReadString) meta meta source source' written (used w + (length mid.neutral - length w.neutral)) text false w.forms call.names
       (record {
         means = ap (λ t. read_string t (from_meta here) here) before ∙ ap (λ t. read_string text t here) after;
-        stands = delivered-value w mid new place from text false w.forms call.innermost reads.pushed from_is new_is;
-        needs = used-reads meta w mid text reads ∙ ap (λ t. used w + length t) (sym before);
-        fits = omega arith;
+        stands = delivered-value w mid _ place (length w.neutral) text false w.forms call.innermost reads.pushed refl refl;
+        needs = put-reads meta w mid text reads ∙ ap (λ t. used w + length t) (sym before);
+        fits = omega (arith, put-reads meta w mid text reads, used-reads meta w mid text reads);
         stays_ended = λ e. absurd cc;
         read_all = λ e. absurd (let any = ap (list_any p) gave ∙ any-at p text meta source'.bytes (is-same meta) in let n = ap not any in cc);
       })
 
   -- the source ended after some bytes
-  pub read-some : (new : Contents) (from : ℕ) (source source' : Stream) (written : Text) → from ≡ length w.neutral → new ≡ delivered (mode_at mid.neutral place) false (text_of_cells (drop from mid.neutral)) place (record mid { neutral = take from mid.neutral }) → 0 < length text → source.bytes ≡ text → source'.bytes ≡ [] → source'.ended ≡ true → TriedCall place (scene w meta source written) None (used mid) (scene new meta source' written)
+  pub read-some : (source source' : Stream) (written : Text) → 0 < length text → source.bytes ≡ text → source'.bytes ≡ [] → source'.ended ≡ true → AnswersCall place (scene w meta source written) Value (scene mid meta source' written)
   unfolding meaning_of
-  read-some new from source source' written from_is new_is some gave none_left ended =
+  read-some source source' written some gave none_left ended =
       let p = λ (c : ℕ). c == meta in
       let here = world w.forms meta (ending source.bytes) in
       let before : before_meta here ≡ text = ap (before_first p) gave ∙ before-none p text reads.no_meta in
       let after : from_meta here ≡ [] = ap (λ t. drop (position_or_len p t) t) gave ∙ from-none p text reads.no_meta in
       let fits = sound.fits in
       let room = room-reads meta w mid text reads in
-      tried-quiet w new place (Some ReadString) meta meta source source' written (used mid) text false w.forms call.names
+      tried-quiet w (settled Value place (length w.neutral) mid) place (Some ReadString) meta meta source source' written (used w + (length mid.neutral - length w.neutral)) text false w.forms call.names
       (record {
         means = ap (λ t. read_string t (from_meta here) here) before ∙ ap (λ t. read_string text t here) after ∙ all text some here ∙ ap (λ t. valued text (with_input t here)) (sym none_left);
-        stands = delivered-value w mid new place from text false w.forms call.innermost reads.pushed from_is new_is;
-        needs = used-reads meta w mid text reads ∙ ap (λ t. used w + length t) (sym before);
-        fits = omega arith;
+        stands = delivered-value w mid _ place (length w.neutral) text false w.forms call.innermost reads.pushed refl refl;
+        needs = put-reads meta w mid text reads ∙ ap (λ t. used w + length t) (sym before);
+        fits = omega (arith, put-reads meta w mid text reads, used-reads meta w mid text reads);
         stays_ended = λ e. ended;
         read_all = λ e. ended;
       })
@@ -87,7 +92,7 @@ module _ (w mid : Contents) (place meta : ℕ) (text : Text) (call : IsCall w pl
       all (c ∷ text) some here = refl
 
   -- the source ended at once
-  pub read-none : (source source' : Stream) (written : Text) → length text ≡ 0 → source.bytes ≡ text → source'.bytes ≡ [] → TriedCall place (scene w meta source written) (Some InputEnded) (used mid) (scene mid meta source' written)
+  pub read-none : (source source' : Stream) (written : Text) → length text ≡ 0 → source.bytes ≡ text → source'.bytes ≡ [] → AnswersCall place (scene w meta source written) (Over InputEnded) (scene mid meta source' written)
   unfolding meaning_of
   read-none source source' written none gave none_left = λ old p m room_is memory_is allowed.
       let here = world w.forms meta (ending source.bytes) in
@@ -105,7 +110,7 @@ module _ (w mid : Contents) (place meta : ℕ) (text : Text) (call : IsCall w pl
       nothing (c ∷ text) e = absurd (omega arith)
 
   -- the source failed
-  pub read-failed : (source source' : Stream) (written : Text) → source.bytes ≡ text ++ source'.bytes → source.ended ≡ false → TriedCall place (scene w meta source written) (Some InputFailed) (used mid) (scene mid meta source' written)
+  pub read-failed : (source source' : Stream) (written : Text) → source.bytes ≡ text ++ source'.bytes → source.ended ≡ false → AnswersCall place (scene w meta source written) (Over InputFailed) (scene mid meta source' written)
   unfolding meaning_of
   read-failed source source' written gave open_still =
       let p = λ (c : ℕ). c == meta in
@@ -120,15 +125,15 @@ module _ (w mid : Contents) (place meta : ℕ) (text : Text) (call : IsCall w pl
       (omega arith) gave open_still
 
   -- no cell was free for the next byte
-  pub read-full : (source source' : Stream) (written : Text) (next needed : ℕ) → mid.room ≤ used mid → source.bytes ≡ text ++ next ∷ source'.bytes → has_byte meta (next ∷ []) ≡ false → TriedCall place (scene w meta source written) (Some Workspace) needed (scene mid meta source' written)
-  read-full source source' written next needed full gave differs =
+  pub read-full : (source source' : Stream) (written : Text) (next : ℕ) → mid.room ≤ used mid → source.bytes ≡ text ++ next ∷ source'.bytes → has_byte meta (next ∷ []) ≡ false → AnswersCall place (scene w meta source written) Full (scene mid meta source' written)
+  read-full source source' written next full gave differs =
       let p = λ (c : ℕ). c == meta in
       let here = world w.forms meta (ending source.bytes) in
       let more = position-past p text next source'.bytes reads.no_meta (alone next differs) in
       let long : length (before_meta here) ≡ position_or_len p (text ++ next ∷ source'.bytes) = ap (λ t. length (before_first p t)) gave ∙ length-before p (text ++ next ∷ source'.bytes) in
       let room = room-reads meta w mid text reads in
       let cells = used-reads meta w mid text reads in
-      tried-full w mid place (Some ReadString) meta source source' written needed call.names (omega arith)
+      tried-full w mid place (Some ReadString) meta source source' written 0 call.names (omega arith)
     where
       alone : (c : ℕ) → has_byte meta (c ∷ []) ≡ false → (c == meta) ≡ false
       alone c h = go (c == meta) h
@@ -148,33 +153,34 @@ reads-take meta w mid text last source source' reads sound short gave =
 -- ---- rc
 
 module _ (w : Contents) (place meta : ℕ) (call : IsCall w place (Some ReadCharacter)) where
-  pub character-read : (mid new : Contents) (from byte : ℕ) (source source' : Stream) (written : Text) → IsSound mid → mid ≡ record w { neutral = w.neutral ++ Byte byte ∷ [] } → from ≡ length w.neutral → new ≡ delivered (mode_at mid.neutral place) false (text_of_cells (drop from mid.neutral)) place (record mid { neutral = take from mid.neutral }) → source.bytes ≡ byte ∷ source'.bytes → source.ended ≡ false → TriedCall place (scene w meta source written) None (used mid) (scene new meta source' written)
+  pub character-read : (mid : Contents) (byte : ℕ) (source source' : Stream) (written : Text) → IsSound mid → mid ≡ record w { neutral = w.neutral ++ Byte byte ∷ [] } → source.bytes ≡ byte ∷ source'.bytes → source.ended ≡ false → AnswersCall place (scene w meta source written) Value (scene mid meta source' written)
   unfolding meaning_of
-  character-read mid new from byte source source' written sound pushed from_is new_is gave open_still =
+  character-read mid byte source source' written sound pushed gave open_still =
       let args = arguments_at w.neutral place in
       let means = ap (λ bytes. meaning_of ReadCharacter args (world w.forms meta (ending bytes))) gave in
       let long = length-append w.neutral (Byte byte ∷ []) in
       let fits = sound.fits in
       let room = ap (λ (w : Contents). w.room) pushed in
       let cells : used mid ≡ used w + 1 = ap used pushed ∙ omega arith in
-      tried-quiet w new place (Some ReadCharacter) meta meta source source' written (used mid) (byte ∷ []) false w.forms call.names
+      let one : length mid.neutral ≡ length w.neutral + 1 = ap (λ (w : Contents). length w.neutral) pushed ∙ long in
+      tried-quiet w (settled Value place (length w.neutral) mid) place (Some ReadCharacter) meta meta source source' written (used w + (length mid.neutral - length w.neutral)) (byte ∷ []) false w.forms call.names
       (record {
         means = means;
-        stands = delivered-value w mid new place from (byte ∷ []) false w.forms call.innermost pushed from_is new_is;
-        needs = cells ∙ ap (λ bytes. used w + built (Some ReadCharacter) args (world w.forms meta (ending bytes))) (sym gave);
+        stands = delivered-value w mid _ place (length w.neutral) (byte ∷ []) false w.forms call.innermost pushed refl refl;
+        needs = (let more : used w + (length mid.neutral - length w.neutral) ≡ used w + 1 = omega arith in more) ∙ ap (λ bytes. used w + built (Some ReadCharacter) args (world w.forms meta (ending bytes))) (sym gave);
         fits = omega arith;
         stays_ended = λ e. absurd cc;
         read_all = λ e. absurd cc;
       })
 
-  pub character-full : (new : Contents) (byte needed : ℕ) (source source' : Stream) (written : Text) → w.room ≤ used w → source.bytes ≡ byte ∷ source'.bytes → TriedCall place (scene w meta source written) (Some Workspace) needed (scene new meta source' written)
+  pub character-full : (new : Contents) (byte : ℕ) (source source' : Stream) (written : Text) → w.room ≤ used w → source.bytes ≡ byte ∷ source'.bytes → AnswersCall place (scene w meta source written) Full (scene new meta source' written)
   unfolding meaning_of
-  character-full new byte needed source source' written full gave =
+  character-full new byte source source' written full gave =
       let args = arguments_at w.neutral place in
       let one : built (Some ReadCharacter) args (world w.forms meta (ending source.bytes)) ≡ 1 = ap (λ bytes. built (Some ReadCharacter) args (world w.forms meta (ending bytes))) gave in
-      tried-full w new place (Some ReadCharacter) meta source source' written needed call.names (omega arith)
+      tried-full w new place (Some ReadCharacter) meta source source' written 0 call.names (omega arith)
 
-  pub character-ended : (source source' : Stream) (written : Text) → source.bytes ≡ [] → source'.bytes ≡ [] → TriedCall place (scene w meta source written) (Some InputEnded) (used w) (scene w meta source' written)
+  pub character-ended : (source source' : Stream) (written : Text) → source.bytes ≡ [] → source'.bytes ≡ [] → AnswersCall place (scene w meta source written) (Over InputEnded) (scene w meta source' written)
   unfolding meaning_of
   character-ended source source' written none none_left = λ old p m room_is memory_is allowed.
       let args = arguments_at w.neutral place in
@@ -184,18 +190,26 @@ module _ (w : Contents) (place meta : ℕ) (call : IsCall w place (Some ReadChar
       (ap (λ bytes. meaning_of ReadCharacter args (world w.forms meta (ending bytes))) none)
       (omega arith) (omega arith) (none_left ∙ sym none) old p m room_is memory_is allowed _ refl refl
 
-  pub character-failed : (source source' : Stream) (written : Text) → source'.bytes ≡ source.bytes → source.ended ≡ false → TriedCall place (scene w meta source written) (Some InputFailed) (used w) (scene w meta source' written)
+  pub character-failed : (source source' : Stream) (written : Text) → source'.bytes ≡ source.bytes → source.ended ≡ false → AnswersCall place (scene w meta source written) (Over InputFailed) (scene w meta source' written)
   unfolding meaning_of
   character-failed source source' written same open_still =
       let fits = call.sound.fits in
       tried-failed w w place (Some ReadCharacter) meta source source' written [] (used w) call.names refl (omega arith) (omega arith) (sym same) open_still
 
+-- a byte that was read stands as a value
+pub character-stands : (w mid : Contents) (byte : ℕ) → IsSound mid → mid ≡ record w { neutral = w.neutral ++ Byte byte ∷ [] } → IsValueFrom (used w) (length w.neutral) mid
+character-stands w mid byte sound pushed =
+    let long = length-append w.neutral (Byte byte ∷ []) in
+    let fits = sound.fits in
+    let room = ap (λ (w : Contents). w.room) pushed in
+    let cells : used mid ≡ used w + 1 = ap used pushed ∙ omega arith in
+    text-stands w mid w.forms (byte ∷ []) pushed (omega arith)
+
 pub not-less : (a b : ℕ) → (a < b → false ≡ true) → b ≤ a
 not-less a b h = ⊎_elim (λ lt. absurd (let e = h lt in cc)) (λ le. le) (cases_lt a b)
 
--- what was read are characters
-pub reads-bytes : (meta : ℕ) (w mid : Contents) (text : Text) (from : ℕ) → Reads meta w mid text → from ≡ length w.neutral → All IsByte (drop from mid.neutral)
-reads-bytes meta w mid text from reads from_is =
-    subst (All IsByte)
-    (sym (drop-append_seam w.neutral (flat_text text)) ∙ ap (λ k. drop k (w.neutral ++ flat_text text)) (sym from_is) ∙ sym (ap (λ (w : Contents). drop from w.neutral) reads.pushed))
-    (bytes-flat text)
+-- what was read stands as a value
+pub reads-stands : (meta : ℕ) (w mid : Contents) (text : Text) → IsSound mid → Reads meta w mid text → IsValueFrom (used w) (length w.neutral) mid
+reads-stands meta w mid text sound reads =
+    let fits = sound.fits in
+    text-stands w mid w.forms text reads.pushed (omega (arith, used-reads meta w mid text reads, room-reads meta w mid text reads))

@@ -1,6 +1,6 @@
 -- What a try of one step over the contents of a workspace says of each machine that holds them.
-use Rattle.std.specs.Prelude.{◌≡◌, ℕ, ◌+◌, ◌<◌, ◌≤◌, Bool, true, false, List, ◌∷◌, ◌++◌}
-use Rattle.std.specs.Prelude.{length, ◌≢◌, drop, take, Option, Some, None, slice_get}
+use Rattle.std.specs.Prelude.{◌≡◌, ℕ, ◌+◌, ◌-◌, ◌<◌, ◌≤◌, Bool, true, false, List, ◌∷◌, ◌++◌}
+use Rattle.std.specs.Prelude.{length, ◌≢◌, drop, take, All, Option, Some, None, slice_get, ⊤}
 use Rattle.trac_language.specs.declared.mode.Mode.{Mode}
 use Rattle.trac_language.specs.declared.mode.Mode.TheVariants.{Active, Neutral}
 use Rattle.trac_language.specs.declared.function.Function.{Function}
@@ -16,10 +16,15 @@ use Rattle.trac_space.specs.declared.cell.Cell.{Cell}
 use Rattle.trac_space.specs.declared.cell.Cell.TheVariants.{Byte}
 use Rattle.trac_space.specs.Cells.{NoCall}
 use Rattle.trac_space.specs.Calls.{IsLastCall}
-use Rattle.trac_space.specs.Texts.{flat_text, text_of_cells}
+use Rattle.trac_space.specs.Texts.{flat_text, text_of_cells, IsByte}
 use Rattle.trac_forms.specs.Contents.{Contents, used, IsSound}
 use Rattle.trac_devices.specs.Devices.{Stream}
+use Rattle.trac_functions.specs.declared.arguments.Arguments.{Arguments}
+use Rattle.trac_functions.specs.declared.arguments.Made.{Made}
+use Rattle.trac_functions.specs.declared.arguments.Made.TheVariants.{Full, Value, Forced, Defined}
+use Rattle.trac_functions.specs.declared.arguments.Made.TheVariants.{Over}
 use Rattle.trac_functions.specs.Flat.{memory_of, mode_at, arguments_at}
+use Rattle.trac_functions.specs.Calls.{texts}
 use Rattle.trac_core.specs.Machine.{MachineState, moment, state_with, Answers, counted}
 
 -- the contents of a workspace, a meta character, a source and what a sink holds
@@ -88,12 +93,6 @@ TriedCall place w answer needed new =
     (old : Contents) → ClosesCall old w.contents place →
     Tried (record w { contents = old }) answer needed new
 
--- the same for whatever meta character, source and sink, which stay as they are
-abbrev pub TriedOnContents : ℕ → Contents → Option Fate → ℕ → Contents → Type 0
-TriedOnContents place old answer needed new =
-    (meta : ℕ) (source : Stream) (written : Text) →
-    TriedCall place (scene old meta source written) answer needed (scene new meta source written)
-
 -- the function of the call whose mark stands at the place
 abbrev pub function_at : List Cell → ℕ → Option Function
 function_at neutral place = function_named (argument (arguments_at neutral place) 0)
@@ -113,6 +112,66 @@ abbrev pub value_delivered : (place from : ℕ) → Bool → Contents → Conten
 value_delivered place from forced w =
     delivered (mode_at w.neutral place) forced (text_of_cells (drop from w.neutral)) place
     (record w { neutral = take from w.neutral })
+
+-- what a function's answer comes to: the call whose mark stands at the place leaves, and the value,
+-- which stands from another place on, is delivered; a step that isn't done, or that ends the run,
+-- leaves all as it is
+abbrev pub settled : Made → (place from : ℕ) → Contents → Contents
+settled Full place from w = w
+settled Value place from w = value_delivered place from false w
+settled Forced place from w = value_delivered place from true w
+settled (Defined cells) place from w = record w { neutral = take place w.neutral }
+settled (Over fate) place from w = w
+
+-- how the step ends
+abbrev pub fate_after : Made → Option Fate
+fate_after Full = Some Workspace
+fate_after Value = None
+fate_after Forced = None
+fate_after (Defined cells) = None
+fate_after (Over fate) = Some fate
+
+-- the cells that it needed, where so many were used before and the value stands from a place on
+abbrev pub need_after : Made → (before from : ℕ) → Contents → ℕ
+need_after Full before from w = 0
+need_after Value before from w = before + (length w.neutral - from)
+need_after Forced before from w = before + (length w.neutral - from)
+need_after (Defined cells) before from w = before + cells
+need_after (Over fate) before from w = used w
+
+-- a text stands in neutral from a place on, and with the cells that were used before it fits
+pub record IsValueFrom (before from : ℕ) (w : Contents) : Type 0 where
+  pub within : from ≤ length w.neutral
+  pub text : All IsByte (drop from w.neutral)
+  pub fits : before + (length w.neutral - from) ≤ w.room
+
+-- what was built of forms fits, and neutral is no shorter than a place
+pub record IsBuilt (before from cells : ℕ) (w : Contents) : Type 0 where
+  pub within : from ≤ length w.neutral
+  pub fits : before + cells ≤ w.room
+
+-- what the answer says of a value or of what was built stands there
+abbrev pub Stands : Made → (before from : ℕ) → Contents → Type 0
+Stands Full before from w = ⊤
+Stands Value before from w = IsValueFrom before from w
+Stands Forced before from w = IsValueFrom before from w
+Stands (Defined cells) before from w = IsBuilt before from cells w
+Stands (Over fate) before from w = ⊤
+
+-- for each machine that is to perform this call, the function's answer comes to what is right
+abbrev pub AnswersCall : ℕ → Scene → Made → Scene → Type 0
+AnswersCall place old made new =
+    let before = used old.contents in
+    let from = length old.contents.neutral in
+    TriedCall place old (fate_after made) (need_after made before from new.contents)
+    (record new { contents = settled made place from new.contents })
+
+-- a call of this function is to be performed, whose mark stands at
+-- the place, and these are its arguments, but for the name
+pub record HasArguments (w : Contents) (place : ℕ) (function : Function) (arguments : Arguments)
+    : Type 0 where
+  pub call : IsCall w place (Some function)
+  pub rest : texts w arguments ≡ drop 1 (arguments_at w.neutral place)
 
 -- these bytes left the source, at most two more than the
 -- free cells of a workspace with one cell more

@@ -6,18 +6,16 @@ ghost use Rattle.trac_space.specs.Calls.{IsLastCall};
 ghost use Rattle.trac_space.specs.Texts.{text_of_cells, IsByte};
 ghost use Rattle.trac_forms.specs.Contents.{IsSound, used};
 ghost use Rattle.trac_devices.specs.Devices.{Sent};
-ghost use Rattle.trac_functions.specs.Flat.{memory_of, mode_of, mode_at, is_active_mode};
-ghost use Rattle.trac_functions.specs.Flat.{arguments_at};
-ghost use Rattle.trac_functions.specs.Calls.{AreArguments, texts, Performs};
+ghost use Rattle.trac_functions.specs.Flat.{memory_of};
+ghost use Rattle.trac_functions.specs.Calls.{AreArguments, Performs};
 ghost use Rattle.trac_core.specs.Performed.{is_plain, performs, reads_input, prints_output};
 ghost use Rattle.trac_core.specs.Machine.{input_failures, output_failures};
-ghost use Rattle.trac_core.specs.Attempts.{scene, Tried, TriedCall, IsCall, function_at, delivered};
-ghost use Rattle.trac_core.specs.Attempts.{TakesFrom, TakesAtMost, TriedOnContents, NoneFailed};
-ghost use Rattle.trac_core.specs.Attempts.{value_delivered};
+ghost use Rattle.trac_core.specs.Attempts.{scene, Tried, TriedCall, function_at, TakesFrom};
+ghost use Rattle.trac_core.specs.Attempts.{TakesAtMost, AnswersCall, Stands, fate_after};
 
-use crate::delivery::deliver;
+use crate::delivery::settle;
 use crate::display::print_form;
-use crate::input_output::{change_meta, halt, print_string, read_character, read_string};
+use crate::input_output::{change_meta, print_string, read_character, read_string};
 use crate::scan::{Attempt, is_at, scan};
 use trac_devices::{Sink, Source};
 use trac_forms::Work;
@@ -144,84 +142,72 @@ fn perform<I: Source, O: Sink>(
     ensures room { work.new.room ≡ work.old.room }
     ensures sound { IsSound work.new }
 {
+    let before = work.used();
+    let end = work.neutral_len();
+    let made = answer(work, place, meta, source, sink);
+    settle(work, (place, end), before, made)
+}
+
+/// What the function of the call whose mark stands at the place answers. A call of a name that is
+/// no function has a null value (this processor's own choice).
+fn answer<I: Source, O: Sink>(
+    work: &mut Work,
+    place: u32,
+    meta: &mut u8,
+    source: &mut I,
+    sink: &mut O,
+) -> Made
+    requires innermost { IsLastCall work.old.neutral place }
+    requires source_counts { I.failure_count source.old < 2 ^ 64 - 1 }
+    requires sink_counts { O.failure_count sink.old < 2 ^ 64 - 1 }
+    requires sound { IsSound work.old }
+    ensures answers { I.tells source.old → O.tells sink.old →
+        AnswersCall place (scene work.old meta.old (I.stream source.old) (O.written sink.old))
+        result (scene work.new meta.new (I.stream source.new) (O.written sink.new)) }
+    ensures stands { Stands result (used work.old) (length work.old.neutral) work.new }
+    ensures input_failed { I.failure_count source.new ≡
+        I.failure_count source.old + input_failures None (fate_after result) }
+    ensures output_failed { O.failure_count sink.new ≡
+        O.failure_count sink.old + output_failures None (fate_after result) }
+    ensures sent { result ≢ Made.Over Fate.OutputFailed →
+        Sent O.tells O.flushed O.written sink.old sink.new }
+    ensures unspent { result ≢ Made.Over Fate.Steps }
+    ensures unread { reads_input (function_at work.old.neutral place) ≡ false →
+        source.new ≡ source.old }
+    ensures unprinted { prints_output (function_at work.old.neutral place) ≡ false →
+        sink.new ≡ sink.old }
+    ensures takes { I.tells source.old → (taken : Text) ×
+        TakesFrom work.old (I.stream source.old) (I.stream source.new) taken }
+    ensures told_source { I.tells source.old → I.tells source.new }
+    ensures told_sink { O.tells sink.old → O.tells sink.new }
+    ensures room { work.new.room ≡ work.old.room }
+    ensures sound { IsSound work.new }
+{
     let mut arguments = Arguments {
         from: place + 1,
         end: work.neutral_len(),
     };
     let name = arguments.next(work);
-    match function_named(text(work, name)) {
-        None => skip(work, place),
-        Some(function) => match function {
-            Function::ReadString => read_string(work, place, *meta, source),
-            Function::ReadCharacter => read_character(work, place, source),
-            Function::PrintString => print_string(work, place, arguments, sink),
-            Function::PrintForm => print_form(work, place, arguments, sink),
-            Function::ChangeMeta => change_meta(work, place, arguments, meta),
-            Function::Halt => halt(work, place),
-            _ => evaluate(work, place, function, arguments),
-        },
+    let Some(function) = function_named(text(work, name)) else {
+        return Made::Value;
+    };
+    match function {
+        Function::ReadString => read_string(work, *meta, source),
+        Function::ReadCharacter => read_character(work, source),
+        Function::PrintString => print_string(work, arguments, sink),
+        Function::PrintForm => print_form(work, arguments, sink),
+        Function::ChangeMeta => change_meta(work, arguments, meta),
+        Function::Halt => Made::Over(Fate::Halted),
+        _ => value_of(work, function, arguments),
     }
 }
 
-/// A call of a name that is no function has a null value (this processor's own choice).
-fn skip(work: &mut Work, place: u32) -> Attempt
-    requires { IsCall work.old place None }
-    ensures tried { TriedOnContents place work.old result.fate result.need work.new }
-    ensures fate { result.fate ≡ None }
-    ensures fits { result.need ≤ work.old.room }
-    ensures room { work.new.room ≡ work.old.room }
-    ensures sound { IsSound work.new }
-{
-    let need = work.used();
-    work.cut_neutral(place);
-    Attempt { fate: None, need }
-}
-
-/// A call of a function that neither reads nor prints, nor
-/// changes the meta character, nor ends the run.
-fn evaluate(work: &mut Work, place: u32, function: Function, arguments: Arguments) -> Attempt
-    requires call { IsCall work.old place (Some function) }
-    requires plain { is_plain function ≡ true }
-    requires arguments { AreArguments work.old arguments }
-    requires rest { texts work.old arguments ≡ drop 1 (arguments_at work.old.neutral place) }
-    ensures tried { TriedOnContents place work.old result.fate result.need work.new }
-    ensures fate { NoneFailed result.fate }
-    ensures fits { result.need ≤ work.old.room }
-    ensures room { work.new.room ≡ work.old.room }
-    ensures sound { IsSound work.new }
-{
-    let before = work.used();
-    let end = work.neutral_len();
-    match value_of(work, function, arguments) {
-        Made::Full => Attempt {
-            fate: Some(Fate::Workspace),
-            need: 0,
-        },
-        Made::Defined(cells) => {
-            work.cut_neutral(place);
-            Attempt {
-                fate: None,
-                need: before + cells,
-            }
-        }
-        Made::Value => {
-            let need = before + (work.neutral_len() - end);
-            deliver(work, place, end, false);
-            Attempt { fate: None, need }
-        }
-        Made::Forced => {
-            let need = before + (work.neutral_len() - end);
-            deliver(work, place, end, true);
-            Attempt { fate: None, need }
-        }
-    }
-}
-
-/// What the function makes of the arguments that follow its name.
+/// What the function makes of the arguments that follow its name; a null
+/// value of those that touch a device or the meta character, or end the run.
 fn value_of(work: &mut Work, function: Function, arguments: Arguments) -> Made
-    requires plain { is_plain function ≡ true }
     requires arguments { AreArguments work.old arguments }
-    ensures makes { Performs function work.old arguments result work.new }
+    ensures makes { is_plain function ≡ true →
+        Performs function work.old arguments result work.new }
     ensures room { work.new.room ≡ work.old.room }
     ensures sound { IsSound work.new }
 {
@@ -250,6 +236,6 @@ fn value_of(work: &mut Work, function: Function, arguments: Arguments) -> Made
         | Function::PrintString
         | Function::PrintForm
         | Function::ChangeMeta
-        | Function::Halt => unreachable!(),
+        | Function::Halt => Made::Value,
     }
 }

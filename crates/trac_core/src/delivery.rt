@@ -1,18 +1,52 @@
-//! Where the value of a call goes.
+//! What a function's answer comes to: the count of what the call needed, and where its value goes.
 ghost use Rattle.std.specs.Prelude.{◌≡◌, ◌<◌, ◌≤◌, ◌||◌, length, drop, All};
 ghost use Rattle.trac_space.specs.Texts.{IsByte};
 ghost use Rattle.trac_forms.specs.Contents.{IsSound};
 ghost use Rattle.trac_functions.specs.Flat.{mode_of, mode_at, is_active_mode};
-ghost use Rattle.trac_core.specs.Attempts.{value_delivered};
+ghost use Rattle.trac_core.specs.Attempts.{value_delivered, settled, fate_after, need_after};
+ghost use Rattle.trac_core.specs.Attempts.{Stands};
 
+use crate::scan::Attempt;
 use trac_forms::Work;
-use trac_language::Mode;
+use trac_functions::arguments::Made;
+use trac_language::{Fate, Mode};
 use trac_space::Cell;
+
+/// The call whose mark stands at the first place leaves, and what its function answered comes to
+/// its end: a value, which stands from the second place on, is delivered. So many cells were used
+/// before.
+pub(crate) fn settle(work: &mut Work, places: (u32, u32), before: u32, made: Made) -> Attempt
+    requires order { places.0 < places.1 }
+    requires stands { Stands made before places.1 work.old }
+    requires sound { IsSound work.old }
+    ensures settled { work.new ≡ settled made places.0 places.1 work.old }
+    ensures fate { result.fate ≡ fate_after made }
+    ensures need { result.need ≡ need_after made before places.1 work.old }
+    ensures fits { result.need ≤ work.old.room }
+    ensures room { work.new.room ≡ work.old.room }
+    ensures sound { IsSound work.new }
+{
+    let (place, from) = places;
+    let (fate, need) = match made {
+        Made::Full => (Some(Fate::Workspace), 0),
+        Made::Over(fate) => (Some(fate), work.used()),
+        Made::Defined(cells) => {
+            work.cut_neutral(place);
+            (None, before + cells)
+        }
+        Made::Value | Made::Forced => {
+            let need = before + (work.neutral_len() - from);
+            deliver(work, place, from, matches!(made, Made::Forced));
+            (None, need)
+        }
+    };
+    Attempt { fate, need }
+}
 
 /// The call whose mark stands at the place leaves, and its value, which stands from another place
 /// on, goes before the active string or stays.
 #[inline]
-pub(crate) fn deliver(work: &mut Work, place: u32, from: u32, forced: bool)
+fn deliver(work: &mut Work, place: u32, from: u32, forced: bool)
     requires order { place < from }
     requires within { from ≤ length work.old.neutral }
     requires value { All IsByte (drop from work.old.neutral) }

@@ -1,22 +1,20 @@
 //! The function that displays a form: `pf`.
 ghost use Rattle.std.specs.Prelude.{◌≡◌, ◌≢◌, ◌+◌, ◌-◌, ◌<◌, ◌≤◌, ◌^◌, [], ◌∷◌};
-ghost use Rattle.std.specs.Prelude.{◌++◌, ℕ, drop, length, Some, slice_range, OnErr, OnOk, codes};
+ghost use Rattle.std.specs.Prelude.{◌++◌, ℕ, length, None, slice_range, OnErr, OnOk, codes};
 ghost use Rattle.std.specs.Prelude.{decimal};
 ghost use Rattle.trac_language.specs.Meaning.{show, show_form};
-ghost use Rattle.trac_forms.specs.Contents.{form_at, body_at, IsTextPart, IsSound};
+ghost use Rattle.trac_forms.specs.Contents.{form_at, body_at, used, IsTextPart, IsSound};
 ghost use Rattle.trac_devices.specs.Devices.{Stream, failures_of, Prints, Sent};
-ghost use Rattle.trac_functions.specs.Flat.{arguments_at};
-ghost use Rattle.trac_functions.specs.Calls.{AreArguments, texts};
+ghost use Rattle.trac_functions.specs.Calls.{AreArguments};
 ghost use Rattle.trac_core.specs.Machine.{output_failures};
-ghost use Rattle.trac_core.specs.Attempts.{scene, TriedCall, IsCall};
+ghost use Rattle.trac_core.specs.Attempts.{scene, HasArguments, AnswersCall, Stands, fate_after};
 ghost use Rattle.trac_core.specs.Display.{display_named};
 
-use crate::scan::Attempt;
 use crate::text_io::print_bytes;
 use itoa::Buffer;
 use trac_devices::{Sink, SinkFailed};
 use trac_forms::{FormId, Work};
-use trac_functions::arguments::Arguments;
+use trac_functions::arguments::{Arguments, Made};
 use trac_language::{Fate, Function, Item};
 
 /// `pf,N`: the form N is displayed, and the sink flushed once: its characters as they are, each gap
@@ -24,38 +22,28 @@ use trac_language::{Fate, Function, Item};
 /// nothing. The display is this processor's own choice.
 pub(crate) fn print_form<O: Sink>(
     work: &mut Work,
-    place: u32,
     mut arguments: Arguments,
     sink: &mut O,
-) -> Attempt
-    requires call { IsCall work.old place (Some Function.PrintForm) }
+) -> Made
     requires arguments { AreArguments work.old arguments }
-    requires rest { texts work.old arguments ≡ drop 1 (arguments_at work.old.neutral place) }
     requires counts { O.failure_count sink.old < 2 ^ 64 - 1 }
-    ensures tried { O.tells sink.old → (meta : ℕ) (source : Stream) →
-        TriedCall place (scene work.old meta source (O.written sink.old)) result.fate result.need
+    ensures answers { O.tells sink.old → (place meta : ℕ) (source : Stream) →
+        HasArguments work.old place Function.PrintForm arguments →
+        AnswersCall place (scene work.old meta source (O.written sink.old)) result
         (scene work.new meta source (O.written sink.new)) }
-    ensures fate { (result.fate ≢ Some Fate.InputFailed) × (result.fate ≢ Some Fate.Steps) }
+    ensures same { work.new ≡ work.old }
+    ensures stands { Stands result (used work.old) (length work.old.neutral) work.new }
+    ensures over { (result ≢ Made.Over Fate.InputFailed) × (result ≢ Made.Over Fate.Steps) }
     ensures output_failed { O.failure_count sink.new ≡
-        O.failure_count sink.old + output_failures None result.fate }
-    ensures sent { result.fate ≢ Some Fate.OutputFailed →
+        O.failure_count sink.old + output_failures None (fate_after result) }
+    ensures sent { result ≢ Made.Over Fate.OutputFailed →
         Sent O.tells O.flushed O.written sink.old sink.new }
     ensures told { O.tells sink.old → O.tells sink.new }
-    ensures fits { result.need ≤ work.old.room }
-    ensures room { work.new.room ≡ work.old.room }
-    ensures sound { IsSound work.new }
 {
-    let need = work.used();
     let name = arguments.next(work);
     match show_named(work, name, sink) {
-        Ok(()) => {
-            work.cut_neutral(place);
-            Attempt { fate: None, need }
-        }
-        Err(_) => Attempt {
-            fate: Some(Fate::OutputFailed),
-            need,
-        },
+        Ok(()) => Made::Value,
+        Err(_) => Made::Over(Fate::OutputFailed),
     }
 }
 

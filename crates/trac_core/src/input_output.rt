@@ -1,201 +1,128 @@
-//! The functions that read, print, change the meta
-//! character and stop: `rs`, `rc`, `ps`, `cm`, `hl`.
+//! The functions that read, print and change the meta
+//! character: `rs`, `rc`, `ps`, `cm`.
 ghost use Rattle.std.specs.Prelude.{◌≡◌, ◌≢◌, ◌+◌, ◌-◌, ◌<◌, ◌≤◌, ◌^◌, ℕ, None};
-ghost use Rattle.std.specs.Prelude.{Some, drop, length, All, false, slice_get};
+ghost use Rattle.std.specs.Prelude.{Some, length, slice_get};
 ghost use Rattle.trac_language.specs.Text.{Text};
-ghost use Rattle.trac_space.specs.Texts.{text_of_cells, IsByte};
+ghost use Rattle.trac_space.specs.Texts.{text_of_cells};
 ghost use Rattle.trac_forms.specs.Contents.{IsSound, used};
 ghost use Rattle.trac_devices.specs.Devices.{Stream, Sent};
-ghost use Rattle.trac_functions.specs.Flat.{arguments_at};
-ghost use Rattle.trac_functions.specs.Calls.{AreArguments, texts};
+ghost use Rattle.trac_functions.specs.Calls.{AreArguments};
 ghost use Rattle.trac_core.specs.Machine.{input_failures, output_failures};
-ghost use Rattle.trac_core.specs.Attempts.{scene, TriedCall, IsCall, delivered, TakesFrom};
-ghost use Rattle.trac_core.specs.Attempts.{TriedOnContents, value_delivered};
+ghost use Rattle.trac_core.specs.Attempts.{scene, IsCall, HasArguments, AnswersCall, Stands};
+ghost use Rattle.trac_core.specs.Attempts.{TakesFrom, fate_after};
 
-use crate::delivery::deliver;
-use crate::scan::Attempt;
 use crate::text_io::{ReadEnd, print_text, read_text};
 use trac_devices::{Next, Sink, Source};
 use trac_forms::Work;
-use trac_functions::arguments::{Arguments, text};
+use trac_functions::arguments::{Arguments, Made, text};
 use trac_language::{Fate, Function};
 use trac_space::{Cell, character_of};
 
 /// `rs`: the input up to the meta character, which is consumed (Mooers 1966).
 /// A last string that no meta character follows is a value too, and the end
 /// of the input with no byte read ends the run (this processor's own choice).
-pub(crate) fn read_string<I: Source>(
-    work: &mut Work,
-    place: u32,
-    meta: u8,
-    source: &mut I,
-) -> Attempt
-    requires call { IsCall work.old place (Some Function.ReadString) }
+pub(crate) fn read_string<I: Source>(work: &mut Work, meta: u8, source: &mut I) -> Made
     requires counts { I.failure_count source.old < 2 ^ 64 - 1 }
-    ensures tried { I.tells source.old → (written : Text) →
-        TriedCall place (scene work.old meta (I.stream source.old) written) result.fate result.need
+    requires sound { IsSound work.old }
+    ensures answers { I.tells source.old → (place : ℕ) (written : Text) →
+        IsCall work.old place (Some Function.ReadString) →
+        AnswersCall place (scene work.old meta (I.stream source.old) written) result
         (scene work.new meta (I.stream source.new) written) }
-    ensures fate { (result.fate ≢ Some Fate.OutputFailed) × (result.fate ≢ Some Fate.Steps) }
+    ensures stands { Stands result (used work.old) (length work.old.neutral) work.new }
+    ensures over { (result ≢ Made.Over Fate.OutputFailed) × (result ≢ Made.Over Fate.Steps) }
     ensures input_failed { I.failure_count source.new ≡
-        I.failure_count source.old + input_failures None result.fate }
+        I.failure_count source.old + input_failures None (fate_after result) }
     ensures takes { I.tells source.old → (taken : Text) ×
         TakesFrom work.old (I.stream source.old) (I.stream source.new) taken }
     ensures told { I.tells source.old → I.tells source.new }
-    ensures fits { result.need ≤ work.old.room }
     ensures room { work.new.room ≡ work.old.room }
     ensures sound { IsSound work.new }
 {
     let from = work.neutral_len();
     match read_text(work, meta, source) {
-        ReadEnd::Meta => give_back(work, place, from),
-        ReadEnd::Ended => {
-            if work.neutral_len() == from {
-                stop(work, Fate::InputEnded)
-            } else {
-                give_back(work, place, from)
-            }
-        }
-        ReadEnd::Failed => stop(work, Fate::InputFailed),
-        ReadEnd::Full => stop(work, Fate::Workspace),
+        ReadEnd::Meta => Made::Value,
+        ReadEnd::Ended if work.neutral_len() == from => Made::Over(Fate::InputEnded),
+        ReadEnd::Ended => Made::Value,
+        ReadEnd::Failed => Made::Over(Fate::InputFailed),
+        ReadEnd::Full => Made::Full,
     }
-}
-
-/// A step that ends the run with its cells as they are.
-fn stop(work: &Work, fate: Fate) -> Attempt
-    ensures fate { result.fate ≡ Some fate }
-    ensures need { result.need ≡ used work.now }
-    ensures fits { result.need ≤ work.now.room }
-    ensures sound { IsSound work.now }
-{
-    Attempt {
-        fate: Some(fate),
-        need: work.used(),
-    }
-}
-
-/// The text that was read, from a place on, is the value of the call.
-fn give_back(work: &mut Work, place: u32, from: u32) -> Attempt
-    requires order { place < from }
-    requires within { from ≤ length work.old.neutral }
-    requires value { All IsByte (drop from work.old.neutral) }
-    ensures delivered { work.new ≡ value_delivered place from false work.old }
-    ensures fate { result.fate ≡ None }
-    ensures need { result.need ≡ used work.old }
-    ensures fits { result.need ≤ work.old.room }
-    ensures sound { IsSound work.new }
-{
-    let need = work.used();
-    deliver(work, place, from, false);
-    Attempt { fate: None, need }
 }
 
 /// `rc`: the next byte of the input, whatever it is (Mooers 1966). At
 /// the end of the input the run ends (this processor's own choice).
-pub(crate) fn read_character<I: Source>(work: &mut Work, place: u32, source: &mut I) -> Attempt
-    requires call { IsCall work.old place (Some Function.ReadCharacter) }
+pub(crate) fn read_character<I: Source>(work: &mut Work, source: &mut I) -> Made
     requires counts { I.failure_count source.old < 2 ^ 64 - 1 }
-    ensures tried { I.tells source.old → (meta : ℕ) (written : Text) →
-        TriedCall place (scene work.old meta (I.stream source.old) written) result.fate result.need
+    requires sound { IsSound work.old }
+    ensures answers { I.tells source.old → (place meta : ℕ) (written : Text) →
+        IsCall work.old place (Some Function.ReadCharacter) →
+        AnswersCall place (scene work.old meta (I.stream source.old) written) result
         (scene work.new meta (I.stream source.new) written) }
-    ensures fate { (result.fate ≢ Some Fate.OutputFailed) × (result.fate ≢ Some Fate.Steps) }
+    ensures stands { Stands result (used work.old) (length work.old.neutral) work.new }
+    ensures over { (result ≢ Made.Over Fate.OutputFailed) × (result ≢ Made.Over Fate.Steps) }
     ensures input_failed { I.failure_count source.new ≡
-        I.failure_count source.old + input_failures None result.fate }
+        I.failure_count source.old + input_failures None (fate_after result) }
     ensures takes { I.tells source.old → (taken : Text) ×
         TakesFrom work.old (I.stream source.old) (I.stream source.new) taken }
     ensures told { I.tells source.old → I.tells source.new }
-    ensures fits { result.need ≤ work.old.room }
     ensures room { work.new.room ≡ work.old.room }
     ensures sound { IsSound work.new }
 {
-    let from = work.neutral_len();
     match source.next() {
         Next::Byte(byte) => {
             if work.push_neutral(Cell::Byte(byte)) {
-                give_back(work, place, from)
+                Made::Value
             } else {
-                stop(work, Fate::Workspace)
+                Made::Full
             }
         }
-        Next::End => stop(work, Fate::InputEnded),
-        Next::Failed => stop(work, Fate::InputFailed),
+        Next::End => Made::Over(Fate::InputEnded),
+        Next::Failed => Made::Over(Fate::InputFailed),
     }
 }
 
 /// `ps,X`: X is printed, and the sink flushed once where X isn't null (Mooers 1966).
 pub(crate) fn print_string<O: Sink>(
-    work: &mut Work,
-    place: u32,
+    work: &Work,
     mut arguments: Arguments,
     sink: &mut O,
-) -> Attempt
-    requires call { IsCall work.old place (Some Function.PrintString) }
-    requires arguments { AreArguments work.old arguments }
-    requires rest { texts work.old arguments ≡ drop 1 (arguments_at work.old.neutral place) }
+) -> Made
+    requires arguments { AreArguments work.now arguments }
     requires counts { O.failure_count sink.old < 2 ^ 64 - 1 }
-    ensures tried { O.tells sink.old → (meta : ℕ) (source : Stream) →
-        TriedCall place (scene work.old meta source (O.written sink.old)) result.fate result.need
-        (scene work.new meta source (O.written sink.new)) }
-    ensures fate { (result.fate ≢ Some Fate.InputFailed) × (result.fate ≢ Some Fate.Steps) }
+    ensures answers { O.tells sink.old → (place meta : ℕ) (source : Stream) →
+        HasArguments work.now place Function.PrintString arguments →
+        AnswersCall place (scene work.now meta source (O.written sink.old)) result
+        (scene work.now meta source (O.written sink.new)) }
+    ensures stands { Stands result (used work.now) (length work.now.neutral) work.now }
+    ensures over { (result ≢ Made.Over Fate.InputFailed) × (result ≢ Made.Over Fate.Steps) }
     ensures output_failed { O.failure_count sink.new ≡
-        O.failure_count sink.old + output_failures None result.fate }
-    ensures sent { result.fate ≢ Some Fate.OutputFailed →
+        O.failure_count sink.old + output_failures None (fate_after result) }
+    ensures sent { result ≢ Made.Over Fate.OutputFailed →
         Sent O.tells O.flushed O.written sink.old sink.new }
     ensures told { O.tells sink.old → O.tells sink.new }
-    ensures fits { result.need ≤ work.old.room }
-    ensures room { work.new.room ≡ work.old.room }
-    ensures sound { IsSound work.new }
 {
-    let need = work.used();
     let part = arguments.next(work);
     match print_text(text(work, part), sink) {
-        Ok(()) => {
-            work.cut_neutral(place);
-            Attempt { fate: None, need }
-        }
-        Err(_) => Attempt {
-            fate: Some(Fate::OutputFailed),
-            need,
-        },
+        Ok(()) => Made::Value,
+        Err(_) => Made::Over(Fate::OutputFailed),
     }
 }
 
 /// `cm,X`: the first character of X becomes the meta character (Mooers
 /// 1966); a null X changes nothing (this processor's own choice).
-pub(crate) fn change_meta(
-    work: &mut Work,
-    place: u32,
-    mut arguments: Arguments,
-    meta: &mut u8,
-) -> Attempt
-    requires call { IsCall work.old place (Some Function.ChangeMeta) }
-    requires arguments { AreArguments work.old arguments }
-    requires rest { texts work.old arguments ≡ drop 1 (arguments_at work.old.neutral place) }
-    ensures tried { (source : Stream) (written : Text) →
-        TriedCall place (scene work.old meta.old source written) result.fate result.need
-        (scene work.new meta.new source written) }
-    ensures fate { result.fate ≡ None }
-    ensures fits { result.need ≤ work.old.room }
-    ensures room { work.new.room ≡ work.old.room }
-    ensures sound { IsSound work.new }
+pub(crate) fn change_meta(work: &Work, mut arguments: Arguments, meta: &mut u8) -> Made
+    requires arguments { AreArguments work.now arguments }
+    ensures answers { (place : ℕ) (source : Stream) (written : Text) →
+        HasArguments work.now place Function.ChangeMeta arguments →
+        AnswersCall place (scene work.now meta.old source written) result
+        (scene work.now meta.new source written) }
+    ensures value { result ≡ Made.Value }
+    ensures stands { Stands result (used work.now) (length work.now.neutral) work.now }
 {
-    let need = work.used();
     let part = arguments.next(work);
     if let Some(first) = first_character(text(work, part)) {
         *meta = first;
     }
-    work.cut_neutral(place);
-    Attempt { fate: None, need }
-}
-
-/// `hl`: the run ends (Mooers 1966).
-pub(crate) fn halt(work: &Work, place: u32) -> Attempt
-    requires { IsCall work.now place (Some Function.Halt) }
-    ensures tried { TriedOnContents place work.now result.fate result.need work.now }
-    ensures fate { result.fate ≡ Some Fate.Halted }
-    ensures fits { result.need ≤ work.now.room }
-    ensures sound { IsSound work.now }
-{
-    stop(work, Fate::Halted)
+    Made::Value
 }
 
 /// The first character of a text.

@@ -1,0 +1,68 @@
+use Rattle.std.proofs.Common.{◌+◌, arith, drop, Some, sym, ap, ◌∙◌}
+use Rattle.trac_language.specs.State.{argument}
+use Rattle.trac_language.specs.Function.{function_named}
+use Rattle.trac_functions.specs.Flat.{arguments_at}
+use Rattle.trac_functions.specs.Calls.{texts_from, texts}
+use Rattle.trac_core.proofs.Performing.{texts-all, plain-rest, answers-nothing, answers-made, stands-made, no-failure-made}
+use Rattle.trac_core.proofs.Printing.{answers-halt}
+use Rattle.trac_core.proofs.call.answer.Goals as goal
+
+pub returns-in_default-clause-answers : goal.returns-in_default-clause-answers
+returns-in_default-clause-answers g c = λ told_source told_sink.
+    let w = c.args.work.now in
+    let place = c.args.place in
+    let all = ap (texts_from w.neutral (place + 1)) c.neutral_len.ensures.value ∙ texts-all w.neutral place c.requires.innermost.mark.0 in
+    let name = c.text.ensures.text ∙ c.next-name.ensures.text ∙ ap (λ l. argument l 0) all in
+    answers-nothing w place (sym (sym c.in_default.is ∙ c.function_named.ensures ∙ ap function_named name)) c.requires.innermost c.requires.sound c.args.meta.now _ _
+
+pub returns-in-Halt-clause-answers : goal.returns-in-Halt-clause-answers
+returns-in-Halt-clause-answers g c = λ told_source told_sink.
+    let w = c.args.work.now in
+    let place = c.args.place in
+    let all = ap (texts_from w.neutral (place + 1)) c.neutral_len.ensures.value ∙ texts-all w.neutral place c.requires.innermost.mark.0 in
+    let name = c.text.ensures.text ∙ c.next-name.ensures.text ∙ ap (λ l. argument l 0) all in
+    answers-halt w place
+    (record { sound = c.requires.sound; innermost = c.requires.innermost; names = sym (sym c.in-Some.is ∙ c.function_named.ensures ∙ ap function_named name) ∙ ap Some c.in-Halt.is })
+    c.args.meta.now _ _
+
+pub returns-in_default-function-clause-answers : goal.returns-in_default-function-clause-answers
+returns-in_default-function-clause-answers g c = λ told_source told_sink.
+    let w = c.args.work.now in
+    let place = c.args.place in
+    let d = c.in_default-function in
+    let all = ap (texts_from w.neutral (place + 1)) c.neutral_len.ensures.value ∙ texts-all w.neutral place c.requires.innermost.mark.0 in
+    let name = c.text.ensures.text ∙ c.next-name.ensures.text ∙ ap (λ l. argument l 0) all in
+    let plain = plain-rest c.in-Some.function d.not-ReadString d.not-ReadCharacter d.not-ChangeMeta d.not-PrintString d.not-PrintForm d.not-Halt in
+    answers-made w c.value_of.new.work place c.in-Some.function (texts w c.next-name.new.self) (sym (sym c.in-Some.is ∙ c.function_named.ensures ∙ ap function_named name)) c.requires.innermost plain
+    (c.next-name.ensures.rest ∙ ap (drop 1) all) c.value_of.result (c.value_of.ensures.makes plain (argument (arguments_at w.neutral place) 0)) c.args.meta.now _ _
+
+pub returns-in_default-function-clause-stands : goal.returns-in_default-function-clause-stands
+returns-in_default-function-clause-stands g c =
+    let w = c.args.work.now in
+    let d = c.in_default-function in
+    let plain = plain-rest c.in-Some.function d.not-ReadString d.not-ReadCharacter d.not-ChangeMeta d.not-PrintString d.not-PrintForm d.not-Halt in
+    stands-made c.in-Some.function _ w c.value_of.new.work c.value_of.result (c.value_of.ensures.makes plain (argument (arguments_at w.neutral c.args.place) 0))
+
+pub returns-in_default-function-clause-input_failed : goal.returns-in_default-function-clause-input_failed
+returns-in_default-function-clause-input_failed g c =
+    let w = c.args.work.now in
+    let d = c.in_default-function in
+    let plain = plain-rest c.in-Some.function d.not-ReadString d.not-ReadCharacter d.not-ChangeMeta d.not-PrintString d.not-PrintForm d.not-Halt in
+    let none = no-failure-made c.in-Some.function _ w c.value_of.new.work c.value_of.result (c.value_of.ensures.makes plain (argument (arguments_at w.neutral c.args.place) 0)) in
+    omega (arith, none.0)
+
+pub returns-in_default-function-clause-output_failed : goal.returns-in_default-function-clause-output_failed
+returns-in_default-function-clause-output_failed g c =
+    let w = c.args.work.now in
+    let d = c.in_default-function in
+    let plain = plain-rest c.in-Some.function d.not-ReadString d.not-ReadCharacter d.not-ChangeMeta d.not-PrintString d.not-PrintForm d.not-Halt in
+    let none = no-failure-made c.in-Some.function _ w c.value_of.new.work c.value_of.result (c.value_of.ensures.makes plain (argument (arguments_at w.neutral c.args.place) 0)) in
+    omega (arith, none.1.0)
+
+pub returns-in_default-function-clause-unspent : goal.returns-in_default-function-clause-unspent
+returns-in_default-function-clause-unspent g c =
+    let w = c.args.work.now in
+    let d = c.in_default-function in
+    let plain = plain-rest c.in-Some.function d.not-ReadString d.not-ReadCharacter d.not-ChangeMeta d.not-PrintString d.not-PrintForm d.not-Halt in
+    let none = no-failure-made c.in-Some.function _ w c.value_of.new.work c.value_of.result (c.value_of.ensures.makes plain (argument (arguments_at w.neutral c.args.place) 0)) in
+    none.1.1
