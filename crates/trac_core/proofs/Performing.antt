@@ -369,8 +369,8 @@ text-stands w mid forms text stands fits =
     record {
       within = omega arith;
       text = subst (All IsByte)
-        (sym (drop-append_seam w.neutral (flat_text text)) ∙ sym (ap (λ (c : Contents). drop (length w.neutral) c.neutral) stands))
-        (bytes-flat text);
+          (sym (drop-append_seam w.neutral (flat_text text)) ∙ sym (ap (λ (c : Contents). drop (length w.neutral) c.neutral) stands))
+          (bytes-flat text);
       fits = omega arith;
     }
 

@@ -26,7 +26,7 @@ use Rattle.trac_functions.specs.Flat.{Neutral, with_cell, neutral_of, memory_wit
 use Rattle.trac_functions.proofs.FlatLemmas.{with_cells-append, neutral_of-push, neutral_of-innermost, size-used, with_cells-text, calls-none}
 use Rattle.trac_functions.proofs.ArgumentLemmas.{flat-bytes}
 use Rattle.trac_core.specs.Machine.{state_with}
-use Rattle.trac_core.specs.Attempts.{Scans, ClosesNone}
+use Rattle.trac_core.specs.Attempts.{Scans}
 
 -- ---- texts
 
@@ -84,10 +84,10 @@ scans-layout old c first layout =
     (λ meta input output. size-used meta old)
     (λ meta input output. refl)
 
-pub scans-parenthesis : (old : Contents) → slice_get (text_of_cells old.active) 0 ≡ Some 41 → ClosesNone old → Scans old (record old { active = drop 1 old.active }) (used old)
+pub scans-parenthesis : (old : Contents) → slice_get (text_of_cells old.active) 0 ≡ Some 41 → NoCall old.neutral → Scans old (record old { active = drop 1 old.active }) (used old)
 scans-parenthesis old first none =
     let t = text_of_cells old.active in
-    let calls = calls-none old.neutral (none first) in
+    let calls = calls-none old.neutral none in
     scans-by old (record old { active = drop 1 old.active }) (EndCall (drop 1 t)) (used old)
     (ap rule (first-rest t 41 first) ∙ rule_end (drop 1 t))
     (λ meta input output.

@@ -1,20 +1,25 @@
 -- Steps in a row: ordinary characters are added one by one, layout characters deleted, and the steps of any rule that
 -- performs no call follow one another.
-use Rattle.std.proofs.Common.{◌≡◌, ◌≢◌, ℕ, zero, suc, ◌≤◌, ◌+◌, Bool, true, false, ◌||◌, max, List, [], ◌∷◌, ◌++◌, length, take, drop, All, Some, slice_get, refl, sym, ap, ◌∙◌, subst, arith, append_assoc, append-nil, length-append}
+use Rattle.std.proofs.Common.{◌≡◌, ◌≢◌, ℕ, zero, suc, ◌<◌, ◌≤◌, ◌+◌, Bool, true, false, ◌||◌, max, List, [], ◌∷◌, ◌++◌, length, take, drop, All, Some, None, slice_get, refl, sym, ap, ◌∙◌, subst, arith, append_assoc, append-nil, length-append}
 use Rattle.std.specs.Prelude.{◌==◌}
-use Rattle.std.proofs.lemmas.List.{length-drop}
-use Rattle.std.proofs.lemmas.List.Elements.{All-head, All-tail}
+use Rattle.std.proofs.lemmas.List.{length-drop, take-take}
+use Rattle.std.proofs.lemmas.List.Elements.{All-head, All-tail, All-cons}
+use Rattle.trac_language.specs.Text.{Text}
 use Rattle.trac_language.specs.State.{Memory}
 use Rattle.trac_language.specs.Rule.{is_layout}
+use Rattle.trac_language.specs.Step.{step, need}
+use Rattle.trac_laws.specs.LastRead.{reads_to_end}
 use Rattle.trac_space.specs.declared.cell.Cell.{Cell}
 use Rattle.trac_space.specs.declared.cell.Cell.TheVariants.{Byte, Call, Comma, Gap, Head}
 use Rattle.trac_space.specs.Texts.{text_of_cells, IsByte}
-use Rattle.trac_forms.specs.Contents.{Contents, used}
+use Rattle.trac_forms.specs.Contents.{Contents, used, IsSound}
+use Rattle.trac_devices.specs.Devices.{Stream}
 use Rattle.trac_functions.specs.Flat.{memory_of}
 use Rattle.trac_functions.proofs.FlatLemmas.{size-used}
-use Rattle.trac_core.specs.Attempts.{Scans}
-use Rattle.trac_core.specs.StepsInRow.{is_special, IsOrdinary, IsLayout, Passes, PassesTimes, peak_after}
-use Rattle.trac_core.proofs.Scanning.{scans-other, scans-layout}
+use Rattle.trac_core.specs.Machine.{moment, ending, state_with, state_of}
+use Rattle.trac_core.specs.Attempts.{Scans, scene, Tried}
+use Rattle.trac_core.specs.StepsInRow.{is_special, IsOrdinary, IsLayout, Passes, PassesTimes, SomeSteps, peak_after}
+use Rattle.trac_core.proofs.Scanning.{scans-other, scans-layout, first-rest}
 
 -- no rule of its own
 ordinary-layout : (c : ℕ) → IsOrdinary c → is_layout c ≡ false
@@ -103,6 +108,19 @@ layouts-pass meta (suc n) w bytes within layout = go w.active refl (layouts-pass
 pub passes-once : (old new : Memory) → Passes old new → PassesTimes 1 old new
 passes-once old new pass = (new, (pass, refl))
 
+pub one-step : (old new : Contents) (most : ℕ) → Scans old new (used old) → used new ≤ used old → length new.active < length old.active → 0 < most → SomeSteps 1 most old new
+one-step old new most scans same shorter some =
+    record { passes = λ meta. passes-once _ _ (passes-scans meta old new scans same); some = omega arith; few = omega arith; shorter = shorter }
+
+-- the first character, which the rule was found by, and those of the same kind that follow it
+pub All-after : (P : ℕ → Type 0) (n : ℕ) (text cells : Text) (c : ℕ) → slice_get text 0 ≡ Some c → P c → n ≤ length cells → cells ≡ take (length cells) (drop 1 text) → All P (take n cells) → All P (take (1 + n) text)
+All-after P n text cells c first is within part rest =
+    let same : take n cells ≡ take n (drop 1 text) = ap (take n) part ∙ take-take n (length cells) (drop 1 text) within in
+    let one : 1 + n ≡ suc n = omega arith in
+    subst (λ k. All P (take k text)) (sym one)
+    (subst (λ t. All P (take (suc n) t)) (sym (first-rest text c first))
+    (All-cons P c (take n (drop 1 text)) is (subst (All P) same rest)))
+
 pub passes-then : (n k : ℕ) (old middle new : Memory) → PassesTimes n old middle → PassesTimes k middle new → PassesTimes (n + k) old new
 passes-then zero k old middle new first second =
     let none : 0 + k ≡ k = omega arith in
@@ -118,3 +136,23 @@ peak_after-some (suc n) needed peak some = refl
 pub peak_after-le : (n needed peak room : ℕ) → peak ≤ room → needed ≤ room → peak_after n needed peak ≤ room
 peak_after-le zero needed peak room a b = a
 peak_after-le (suc n) needed peak room a b = omega arith
+
+-- one step that performs no call, as a try of a step
+pub tried-passed : (old new : Contents) (n needed : ℕ) → SomeSteps n 1 old new → IsSound old → needed ≡ used old → (meta : ℕ) (source : Stream) (written : Text) → Tried (scene old meta source written) None needed (scene new meta source written)
+tried-passed old new n needed steps sound needs meta source written = λ m room_is memory_is allowed.
+    let first = steps.some in
+    let last = steps.few in
+    let one : n ≡ 1 = omega arith in
+    let once = subst (λ k. PassesTimes k (memory_of meta old) (memory_of meta new)) one (steps.passes meta) in
+    let pass : Passes (memory_of meta old) (memory_of meta new) = subst (Passes (memory_of meta old)) once.1.1 once.1.0 in
+    let input = ending source.bytes in
+    let here : state_of (moment m source written) ≡ state_with (memory_of meta old) input written = ap (λ memory. state_with memory input written) memory_is in
+    let need_is : need (state_with (memory_of meta old) input written) ≡ needed = pass.needs input written ∙ size-used meta old ∙ sym needs in
+    let fits = sound.fits in
+    record {
+      may = record { allowed = allowed; fits = rw here (omega arith) };
+      goes = ap step here ∙ pass.goes input written;
+      counts = record { steps = refl; peak = rw (here, need_is) refl };
+      stays_ended = λ e. e;
+      read_all = λ reads. absurd (let none = pass.reads input written in let some = sym (ap reads_to_end here) ∙ reads in cc);
+    }

@@ -1,6 +1,6 @@
 -- What a try of one step over the contents of a workspace says of each machine that holds them.
 use Rattle.std.specs.Prelude.{◌≡◌, ℕ, ◌+◌, ◌-◌, ◌<◌, ◌≤◌, Bool, true, false, List, ◌∷◌, ◌++◌}
-use Rattle.std.specs.Prelude.{length, ◌≢◌, drop, take, All, Option, Some, None, slice_get, ⊤}
+use Rattle.std.specs.Prelude.{length, ◌≢◌, drop, take, All, Option, Some, None, ⊤}
 use Rattle.trac_language.specs.declared.mode.Mode.{Mode}
 use Rattle.trac_language.specs.declared.mode.Mode.TheVariants.{Active, Neutral}
 use Rattle.trac_language.specs.declared.function.Function.{Function}
@@ -14,7 +14,6 @@ use Rattle.trac_language.specs.Step.{Next, step, need}
 use Rattle.trac_laws.specs.LastRead.{reads_to_end}
 use Rattle.trac_space.specs.declared.cell.Cell.{Cell}
 use Rattle.trac_space.specs.declared.cell.Cell.TheVariants.{Byte}
-use Rattle.trac_space.specs.Cells.{NoCall}
 use Rattle.trac_space.specs.Calls.{IsLastCall}
 use Rattle.trac_space.specs.Texts.{flat_text, text_of_cells, IsByte}
 use Rattle.trac_forms.specs.Contents.{Contents, used, IsSound}
@@ -70,10 +69,6 @@ Scanned (Some _) needed old new = ⊥
 -- neither device failed, and the allowance was not used up
 abbrev pub NoneFailed : Option Fate → Type 0
 NoneFailed fate = (fate ≢ Some InputFailed) × (fate ≢ Some OutputFailed) × (fate ≢ Some Steps)
-
--- a right parenthesis that closes no call, if one begins the active string
-abbrev pub ClosesNone : Contents → Type 0
-ClosesNone w = slice_get (text_of_cells w.active) 0 ≡ Some 41 → NoCall w.neutral
 
 -- the innermost call, whose mark stands at the place, is performed by the right parenthesis that
 -- active begins with; w has that parenthesis no more

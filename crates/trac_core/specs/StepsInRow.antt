@@ -1,12 +1,17 @@
 -- Steps that perform no call in a row, which are done at once.
-use Rattle.std.specs.Prelude.{◌≡◌, ℕ, zero, suc, max, Bool, true, false, ◌||◌, ◌==◌, ◌+◌, ◌≤◌}
+use Rattle.std.specs.Prelude.{◌≡◌, ℕ, zero, suc, max, Bool, true, false, ◌||◌, ◌==◌, ◌+◌, ◌<◌, ◌≤◌}
+use Rattle.std.specs.Prelude.{length, [], Some, slice_get}
 use Rattle.trac_language.specs.Text.{Text}
 use Rattle.trac_language.specs.State.{Input, Memory, size}
 use Rattle.trac_language.specs.Rule.{is_layout}
 use Rattle.trac_language.specs.Step.{Next, step, need}
 use Rattle.trac_laws.specs.LastRead.{reads_to_end}
+use Rattle.trac_space.specs.Calls.{IsLastCall}
+use Rattle.trac_space.specs.Texts.{text_of_cells}
 use Rattle.trac_forms.specs.Contents.{Contents}
 use Rattle.trac_functions.specs.Flat.{memory_of}
+use Rattle.trac_core.specs.declared.scan.Front.{Front}
+use Rattle.trac_core.specs.declared.scan.Front.TheVariants.{Passed, Empty, Closes}
 use Rattle.trac_core.specs.Machine.{MachineState, state_with}
 
 -- a character that has a rule of its own
@@ -38,6 +43,22 @@ PassesTimes (suc n) old new = (middle : Memory) × (Passes old middle × PassesT
 -- so many of them lead from contents to contents, whatever the meta character
 abbrev pub Advances : ℕ → Contents → Contents → Type 0
 Advances n old new = (meta : ℕ) → PassesTimes n (memory_of meta old) (memory_of meta new)
+
+-- at least one of them and at most so many, each of which takes from the active string
+pub record SomeSteps (n most : ℕ) (old new : Contents) : Type 0 where
+  pub passes : Advances n old new
+  pub some : 0 < n
+  pub few : n ≤ most
+  pub shorter : length new.active < length old.active
+
+-- what the rule that fits the beginning of the active string comes to: some of them; or none, since
+-- that string is empty, or since a right parenthesis that begins it closes a call
+abbrev pub ComesTo : Front → ℕ → Contents → Contents → Type 0
+ComesTo (Passed n) most old new = SomeSteps n most old new
+ComesTo Empty most old new = (new ≡ old) × (old.active ≡ [])
+ComesTo (Closes place) most old new =
+    (new ≡ old)
+    × ((slice_get (text_of_cells old.active) 0 ≡ Some 41) × IsLastCall old.neutral place)
 
 -- the peak after so many steps, of which the first needs this many cells and none needs more
 abbrev pub peak_after : ℕ → ℕ → ℕ → ℕ

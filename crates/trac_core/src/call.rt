@@ -16,7 +16,7 @@ ghost use Rattle.trac_core.specs.Attempts.{TakesAtMost, AnswersCall, Stands, fat
 use crate::delivery::settle;
 use crate::display::print_form;
 use crate::input_output::{change_meta, print_string, read_character, read_string};
-use crate::scan::{Attempt, is_at, scan};
+use crate::scan::{Attempt, Front, load_idling, pass};
 use trac_devices::{Sink, Source};
 use trac_forms::Work;
 use trac_functions::arguments::{Arguments, Made, text};
@@ -57,12 +57,12 @@ pub(crate) fn advance<I: Source, O: Sink>(
     ensures room { work.new.room ≡ work.old.room }
     ensures sound { IsSound work.new }
 {
-    if is_at(work, 0, b')') {
-        if let Some(place) = work.last_call() {
-            return close(work, place, meta, source, sink);
-        }
+    let need = work.used();
+    match pass(work, 1) {
+        Front::Passed(_) => Attempt { fate: None, need },
+        Front::Empty => load_idling(work),
+        Front::Closes(place) => close(work, place, meta, source, sink),
     }
-    scan(work)
 }
 
 /// The right parenthesis is deleted, and the innermost

@@ -20,11 +20,7 @@ use trac_language::{Fate, Function, Item};
 /// `pf,N`: the form N is displayed, and the sink flushed once: its characters as they are, each gap
 /// as its ordinal in angle brackets, and `<^>` at the pointer. A form that isn't defined prints
 /// nothing. The display is this processor's own choice.
-pub(crate) fn print_form<O: Sink>(
-    work: &mut Work,
-    mut arguments: Arguments,
-    sink: &mut O,
-) -> Made
+pub(crate) fn print_form<O: Sink>(work: &mut Work, mut arguments: Arguments, sink: &mut O) -> Made
     requires arguments { AreArguments work.old arguments }
     requires counts { O.failure_count sink.old < 2 ^ 64 - 1 }
     ensures answers { O.tells sink.old → (place meta : ℕ) (source : Stream) →

@@ -6,8 +6,9 @@ ghost use Rattle.trac_language.specs.Protected.{protected};
 ghost use Rattle.trac_language.specs.Rule.{is_layout};
 ghost use Rattle.trac_space.specs.Texts.{character_of, text_of_cells, IsByte};
 ghost use Rattle.trac_forms.specs.Contents.{used, IsSound};
-ghost use Rattle.trac_core.specs.Attempts.{Scans, Scanned, ClosesNone, NoneFailed};
-ghost use Rattle.trac_core.specs.StepsInRow.{is_special, IsOrdinary, IsLayout, Advances};
+ghost use Rattle.trac_core.specs.Attempts.{Scans, Scanned, NoneFailed};
+ghost use Rattle.trac_core.specs.StepsInRow.{is_special, IsOrdinary, IsLayout, Advances, SomeSteps};
+ghost use Rattle.trac_core.specs.StepsInRow.{ComesTo};
 
 use trac_forms::Work;
 use trac_language::{Fate, Mode};
@@ -47,27 +48,15 @@ pub(crate) fn is_at(work: &Work, place: u32, byte: u8) -> bool
     }
 }
 
-/// One step by the rule that fits the beginning of the active string, where that performs no call.
-pub(crate) fn scan(work: &mut Work) -> Attempt
-    requires sound { IsSound work.old }
-    requires closes_none { ClosesNone work.old }
-    ensures scanned { Scanned result.fate result.need work.old work.new }
-    ensures fate { NoneFailed result.fate }
-    ensures fits { result.need ≤ work.old.room }
-    ensures room { work.new.room ≡ work.old.room }
-    ensures sound { IsSound work.new }
-{
-    let need = work.used();
-    match character(work, 0) {
-        None => return load_idling(work),
-        Some(b'\t' | b'\n' | b'\r') => delete_layout(work),
-        Some(b'(') => protect(work),
-        Some(b')') => delete_parenthesis(work),
-        Some(b',') => begin_argument(work),
-        Some(b'#') => number_sign(work),
-        Some(byte) => add_character(work, byte),
-    }
-    Attempt { fate: None, need }
+/// What the rule that fits the beginning of the active string came to.
+#[derive(Clone, Copy, Debug, PartialEq, Eq)]
+pub(crate) enum Front {
+    /// So many steps that perform no call.
+    Passed(u64),
+    /// No step: the active string is empty.
+    Empty,
+    /// No step: a right parenthesis closes the call whose mark stands at this place.
+    Closes(u32),
 }
 
 /// Steps that perform no call, one after the other, at most so many. Gives how many they were. It
@@ -80,59 +69,53 @@ pub(crate) fn scan_on(work: &mut Work, most: u64) -> u64
     ensures sound { IsSound work.new }
 {
     let mut count = 0;
-    loop {
-        let more = pass(work, most - count);
-        if more == 0 {
-            return count;
+    while count < most {
+        match pass(work, most - count) {
+            Front::Passed(more) => count += more,
+            Front::Empty | Front::Closes(_) => return count,
         }
-        count += more;
     }
+    count
 }
 
-/// The steps of the rule that fits the beginning of the active string, at most so many: all of a
-/// run of ordinary characters, or of layout characters, at once, and one of another rule. Gives how
-/// many they were, none where that rule performs a call.
+/// The table of the rules of scanning (Mooers 1966). Makes the steps of the rule that fits the
+/// beginning of the active string, at most so many: all of a run of ordinary characters, or of
+/// layout characters, at once, and one of another rule that performs no call.
 #[inline]
-fn pass(work: &mut Work, most: u64) -> u64
+pub(crate) fn pass(work: &mut Work, most: u64) -> Front
+    requires some { 0 < most }
     requires sound { IsSound work.old }
-    ensures passes { Advances result work.old work.new }
-    ensures few { result ≤ most }
-    ensures shorter { result ≢ 0 → length work.new.active < length work.old.active }
+    ensures comes { ComesTo result most work.old work.new }
     ensures room { work.new.room ≡ work.old.room }
     ensures sound { IsSound work.new }
 {
-    if most == 0 {
-        return 0;
-    }
     match character(work, 0) {
-        None => return 0,
-        Some(b'\t' | b'\n' | b'\r') => return delete_layouts(work, most),
+        None => return Front::Empty,
+        Some(b'\t' | b'\n' | b'\r') => return Front::Passed(delete_layout(work, most)),
         Some(b'(') => protect(work),
-        Some(b')') => return close_none(work),
+        Some(b')') => return end_call(work),
         Some(b',') => begin_argument(work),
         Some(b'#') => number_sign(work),
-        Some(_) => return add_characters(work, most),
+        Some(_) => return Front::Passed(add_characters(work, most)),
     }
-    1
+    Front::Passed(1)
 }
 
-/// The step by which a right parenthesis is deleted that
-/// closes no call. Gives 1, and 0 where it closes one.
+/// A right parenthesis closes the innermost call, or, where none is
+/// open, is deleted (this processor's own choice).
 #[inline]
-fn close_none(work: &mut Work) -> u64
+fn end_call(work: &mut Work) -> Front
     requires closes { slice_get (text_of_cells work.old.active) 0 ≡ Some 41 }
     requires sound { IsSound work.old }
-    ensures passes { Advances result work.old work.new }
-    ensures few { result ≤ 1 }
-    ensures shorter { result ≢ 0 → length work.new.active < length work.old.active }
+    ensures comes { ComesTo result 1 work.old work.new }
     ensures room { work.new.room ≡ work.old.room }
     ensures sound { IsSound work.new }
 {
     match work.last_call() {
-        Some(_) => 0,
+        Some(place) => Front::Closes(place),
         None => {
-            delete_parenthesis(work);
-            1
+            work.drop_active(1);
+            Front::Passed(1)
         }
     }
 }
@@ -141,14 +124,15 @@ fn close_none(work: &mut Work) -> u64
 /// so many, all at once. Gives how many they were.
 #[inline]
 fn add_characters(work: &mut Work, most: u64) -> u64
+    requires some { 0 < most }
+    requires first { (c : ℕ) ×
+        ((slice_get (text_of_cells work.old.active) 0 ≡ Some c) × IsOrdinary c) }
     requires sound { IsSound work.old }
-    ensures passes { Advances result work.old work.new }
-    ensures few { result ≤ most }
-    ensures shorter { result ≢ 0 → length work.new.active < length work.old.active }
+    ensures passes { SomeSteps result most work.old work.new }
     ensures room { work.new.room ≡ work.old.room }
     ensures sound { IsSound work.new }
 {
-    let count = ordinary_characters(front(work, most));
+    let count = 1 + ordinary_characters(after_first(work, most));
     work.active_to_neutral(count);
     u64::from(count)
 }
@@ -156,32 +140,35 @@ fn add_characters(work: &mut Work, most: u64) -> u64
 /// The steps by which the layout characters at the front of the active string are deleted, at most
 /// so many, all at once. Gives how many they were.
 #[inline]
-fn delete_layouts(work: &mut Work, most: u64) -> u64
+fn delete_layout(work: &mut Work, most: u64) -> u64
+    requires some { 0 < most }
+    requires first { (c : ℕ) ×
+        ((slice_get (text_of_cells work.old.active) 0 ≡ Some c) × IsLayout c) }
     requires sound { IsSound work.old }
-    ensures passes { Advances result work.old work.new }
-    ensures few { result ≤ most }
-    ensures shorter { result ≢ 0 → length work.new.active < length work.old.active }
+    ensures passes { SomeSteps result most work.old work.new }
     ensures room { work.new.room ≡ work.old.room }
     ensures sound { IsSound work.new }
 {
-    let count = layout_characters(front(work, most));
+    let count = 1 + layout_characters(after_first(work, most));
     work.drop_active(count);
     u64::from(count)
 }
 
-/// The first cells of the active string, at most so many.
+/// The cells of the active string after the first, as far as so many characters of it reach.
 #[inline]
-fn front<'a>(work: &'a Work, most: u64) -> &'a [Cell]
+fn after_first<'a>(work: &'a Work, most: u64) -> &'a [Cell]
+    requires some { 0 < most }
+    requires within { 0 < length work.now.active }
     requires sound { IsSound work.now }
     ensures text { text_of_cells result.now ≡
-        take (length result.now) (text_of_cells work.now.active) }
-    ensures few { length result.now ≤ most }
-    ensures within { length result.now ≤ length work.now.active }
-    ensures bounded { length result.now ≤ 16777216 }
+        take (length result.now) (drop 1 (text_of_cells work.now.active)) }
+    ensures few { length result.now + 1 ≤ most }
+    ensures short { length result.now + 1 ≤ length work.now.active }
+    ensures bounded { length result.now + 1 ≤ 16777216 }
     ensures bytes { All IsByte result.now }
 {
     let all = work.active_len();
-    work.active_part(0, most.min(u64::from(all)) as u32)
+    work.active_part(1, most.min(u64::from(all)) as u32)
 }
 
 /// How many layout characters begin the cells.
@@ -241,7 +228,7 @@ fn is_special(character: u8) -> bool
 
 /// The active string is empty: the neutral string is cleared,
 /// and the idling procedure becomes the active string.
-fn load_idling(work: &mut Work) -> Attempt
+pub(crate) fn load_idling(work: &mut Work) -> Attempt
     requires { work.old.active ≡ [] }
     ensures scanned { Scanned result.fate result.need work.old work.new }
     ensures fate { NoneFailed result.fate }
@@ -261,32 +248,6 @@ fn load_idling(work: &mut Work) -> Attempt
             need: 0,
         }
     }
-}
-
-/// A tab, a line feed or a carriage return is deleted.
-fn delete_layout(work: &mut Work)
-    requires { (c : ℕ) ×
-        ((slice_get (text_of_cells work.old.active) 0 ≡ Some c) × (is_layout c ≡ true)) }
-    ensures scans { Scans work.old work.new (used work.old) }
-    ensures no_larger { used work.new ≤ used work.old }
-    ensures shorter { length work.new.active < length work.old.active }
-    ensures room { work.new.room ≡ work.old.room }
-    ensures sound { IsSound work.new }
-{
-    work.drop_active(1);
-}
-
-/// A right parenthesis is deleted where no call is open (this processor's own choice).
-fn delete_parenthesis(work: &mut Work)
-    requires closes { slice_get (text_of_cells work.old.active) 0 ≡ Some 41 }
-    requires none { ClosesNone work.old }
-    ensures scans { Scans work.old work.new (used work.old) }
-    ensures no_larger { used work.new ≤ used work.old }
-    ensures shorter { length work.new.active < length work.old.active }
-    ensures room { work.new.room ≡ work.old.room }
-    ensures sound { IsSound work.new }
-{
-    work.drop_active(1);
 }
 
 /// The text between a left parenthesis and its match is added unscanned; where there is no match
@@ -402,17 +363,4 @@ fn put_first(work: &mut Work, byte: u8)
     ensures sound { IsSound work.new }
 {
     work.active_to_cell(1, Cell::Byte(byte));
-}
-
-/// Any other character is added.
-fn add_character(work: &mut Work, byte: u8)
-    requires sound { IsSound work.old }
-    requires first { slice_get (text_of_cells work.old.active) 0 ≡ Some byte }
-    requires layout { is_layout byte ≡ false }
-    requires other { (byte ≢ 40) × (byte ≢ 41) × (byte ≢ 44) × (byte ≢ 35) }
-    ensures scans { Scans work.old work.new (used work.old) }
-    ensures room { work.new.room ≡ work.old.room }
-    ensures sound { IsSound work.new }
-{
-    put_first(work, byte);
 }

@@ -1,6 +1,6 @@
-use Rattle.trac_core.proofs.Performing.{tried-scanned}
+use Rattle.trac_core.proofs.StepsInRow.{tried-passed}
 use Rattle.trac_core.proofs.call.advance.Goals as goal
 
-pub returns-clause-tried : goal.returns-clause-tried
-returns-clause-tried g c = λ told_source told_sink.
-    tried-scanned c.args.work.now c.scan.new.work c.scan.result.fate c.scan.result.need c.scan.ensures.scanned c.scan.ensures.fits c.args.meta.now _ _
+pub returns-in-Passed-clause-tried : goal.returns-in-Passed-clause-tried
+returns-in-Passed-clause-tried g c = λ told_source told_sink.
+    tried-passed c.args.work.now c.pass.new.work c.in-Passed.field-0 c.used-need.result c.in-Passed.ensures.comes c.requires.sound c.used-need.ensures.value c.args.meta.now _ _

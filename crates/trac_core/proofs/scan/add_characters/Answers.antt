@@ -1,20 +1,31 @@
-use Rattle.std.proofs.Common.{◌≡◌, ◌≤◌, length, take, All, sym, ap, ◌∙◌, subst, arith}
-use Rattle.std.proofs.lemmas.List.{take-take}
-use Rattle.trac_space.specs.Texts.{text_of_cells}
+use Rattle.std.proofs.Common.{◌≡◌, ◌+◌, ◌≤◌, length, take, drop, All, sym, ap, ◌∙◌, subst, arith}
+use Rattle.std.proofs.lemmas.List.{length-map, length-drop}
+use Rattle.trac_space.specs.Texts.{text_of_cells, character_of}
 use Rattle.trac_functions.specs.Flat.{memory_of}
 use Rattle.trac_core.specs.StepsInRow.{IsOrdinary, PassesTimes}
-use Rattle.trac_core.proofs.StepsInRow.{characters-pass}
+use Rattle.trac_core.proofs.Scanning.{some-active}
+use Rattle.trac_core.proofs.StepsInRow.{characters-pass, All-after}
 use Rattle.trac_core.proofs.scan.add_characters.Goals as goal
 
+pub after_first-requires-clause-within : goal.after_first-requires-clause-within
+after_first-requires-clause-within c = some-active c.args.work.now.active c.requires.first.0 c.requires.first.1.0
+
 pub returns-clause-passes : goal.returns-clause-passes
-returns-clause-passes c = λ meta.
+returns-clause-passes c =
     let old = c.args.work.now in
     let n = c.ordinary_characters-count.result in
-    let cells = c.front.result.now in
-    let front = c.front.ensures in
-    let within : n ≤ length cells = c.ordinary_characters-count.ensures.within in
-    let inside : n ≤ length old.active = omega (arith, within, front.within) in
-    let same : take n (text_of_cells cells) ≡ take n (text_of_cells old.active) = ap (take n) front.text ∙ take-take n (length cells) (text_of_cells old.active) within in
-    subst (λ k. PassesTimes k (memory_of meta old) (memory_of meta c.active_to_neutral.new.self)) (sym c.from.ensures)
-    (subst (λ w. PassesTimes n (memory_of meta old) (memory_of meta w)) (sym c.active_to_neutral.ensures.moved)
-    (characters-pass meta n old c.requires.sound.active inside (subst (All IsOrdinary) same c.ordinary_characters-count.ensures.ordinary)))
+    let cells = text_of_cells c.after_first.result.now in
+    let after = c.after_first.ensures in
+    let long : length cells ≡ length c.after_first.result.now = length-map c.after_first.result.now character_of in
+    let text = after.text ∙ ap (λ k. take k (drop 1 (text_of_cells old.active))) (sym long) in
+    let some = some-active old.active c.requires.first.0 c.requires.first.1.0 in
+    let less = length-drop (1 + n) old.active in
+    let within = c.ordinary_characters-count.ensures.within in
+    let all = All-after IsOrdinary n (text_of_cells old.active) cells c.requires.first.0 c.requires.first.1.0 c.requires.first.1.1 (omega arith) text c.ordinary_characters-count.ensures.ordinary in
+    rw (c.from.ensures, c.active_to_neutral.ensures.moved)
+    (record {
+      passes = λ meta. characters-pass meta (1 + n) old c.requires.sound.active (omega arith) all;
+      some = omega arith;
+      few = omega arith;
+      shorter = omega arith;
+    })

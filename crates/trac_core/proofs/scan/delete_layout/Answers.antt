@@ -1,6 +1,31 @@
-use Rattle.trac_core.proofs.Scanning.{scans-layout}
+use Rattle.std.proofs.Common.{◌≡◌, ◌+◌, ◌≤◌, length, take, drop, All, sym, ap, ◌∙◌, subst, arith}
+use Rattle.std.proofs.lemmas.List.{length-map, length-drop}
+use Rattle.trac_space.specs.Texts.{text_of_cells, character_of}
+use Rattle.trac_functions.specs.Flat.{memory_of}
+use Rattle.trac_core.specs.StepsInRow.{IsLayout, PassesTimes}
+use Rattle.trac_core.proofs.Scanning.{some-active}
+use Rattle.trac_core.proofs.StepsInRow.{layouts-pass, All-after}
 use Rattle.trac_core.proofs.scan.delete_layout.Goals as goal
 
-pub returns-clause-scans : goal.returns-clause-scans
-returns-clause-scans c =
-    rw c.drop_active.ensures.rest (scans-layout c.args.work.now c.requires.0 c.requires.1.0 c.requires.1.1)
+pub after_first-requires-clause-within : goal.after_first-requires-clause-within
+after_first-requires-clause-within c = some-active c.args.work.now.active c.requires.first.0 c.requires.first.1.0
+
+pub returns-clause-passes : goal.returns-clause-passes
+returns-clause-passes c =
+    let old = c.args.work.now in
+    let n = c.layout_characters-count.result in
+    let cells = text_of_cells c.after_first.result.now in
+    let after = c.after_first.ensures in
+    let long : length cells ≡ length c.after_first.result.now = length-map c.after_first.result.now character_of in
+    let text = after.text ∙ ap (λ k. take k (drop 1 (text_of_cells old.active))) (sym long) in
+    let some = some-active old.active c.requires.first.0 c.requires.first.1.0 in
+    let less = length-drop (1 + n) old.active in
+    let within = c.layout_characters-count.ensures.within in
+    let all = All-after IsLayout n (text_of_cells old.active) cells c.requires.first.0 c.requires.first.1.0 c.requires.first.1.1 (omega arith) text c.layout_characters-count.ensures.layout in
+    rw (c.from.ensures, c.drop_active.ensures.rest)
+    (record {
+      passes = λ meta. layouts-pass meta (1 + n) old c.requires.sound.active (omega arith) all;
+      some = omega arith;
+      few = omega arith;
+      shorter = omega arith;
+    })

@@ -5,8 +5,8 @@ use Rattle.trac_core.specs.StepsInRow.{PassesTimes}
 use Rattle.trac_core.proofs.scan.scan_on.Given as goal
 
 -- the steps so far
-abbrev pub invariant-loop-most : goal.invariant-loop-most
-invariant-loop-most l =
+abbrev pub invariant-loop-count : goal.invariant-loop-count
+invariant-loop-count l =
     record {
       passes : (meta : ℕ) → PassesTimes l.count (memory_of meta l.fn.work) (memory_of meta l.work);
       few : l.count ≤ l.most;
@@ -15,5 +15,5 @@ invariant-loop-most l =
     }
 
 -- the active string
-abbrev pub decreases-loop-most : goal.decreases-loop-most
-decreases-loop-most l = length l.work.active
+abbrev pub decreases-loop-count : goal.decreases-loop-count
+decreases-loop-count l = length l.work.active
