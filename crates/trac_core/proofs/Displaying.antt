@@ -15,7 +15,7 @@ use Rattle.trac_language.specs.Meaning.{World, on_form, printing, show, show_for
 use Rattle.trac_forms.specs.Search.{item_at}
 use Rattle.trac_forms.specs.Contents.{Contents, used}
 use Rattle.trac_devices.specs.Devices.{Stream, Breaks, Prints}
-use Rattle.trac_functions.specs.Flat.{mode_at, arguments_at}
+use Rattle.trac_functions.specs.Flat.{arguments_at}
 use Rattle.trac_functions.specs.Calls.{world}
 use Rattle.trac_core.specs.Machine.{ending}
 use Rattle.trac_functions.specs.declared.arguments.Made.TheVariants.{Value, Over}

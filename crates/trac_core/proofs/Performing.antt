@@ -35,7 +35,7 @@ use Rattle.trac_functions.proofs.FlatLemmas.{with_cells-append, with_cells-text,
 use Rattle.trac_functions.proofs.ArgumentLemmas.{bytes-flat}
 use Rattle.trac_core.specs.Performed.{is_plain, performed_by, performs}
 use Rattle.trac_core.specs.Machine.{MachineState, moment, ending, failing, state_with, state_of, failing_state_of, EndsRun, input_failures, output_failures}
-use Rattle.trac_core.specs.Attempts.{scene, Tried, TriedCall, ClosesCall, Scanned, function_at, delivered, settled, AnswersCall, IsValueFrom, IsBuilt, Stands, fate_after}
+use Rattle.trac_core.specs.Attempts.{scene, Tried, TriedCall, ClosesCall, Scanned, function_at, delivered, settled, AnswersCall, IsValueFrom, Stands, fate_after}
 
 -- the contents without the innermost call
 abbrev pub closed : Contents → ℕ → Contents

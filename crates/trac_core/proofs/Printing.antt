@@ -8,7 +8,7 @@ use Rattle.trac_language.specs.State.{argument}
 use Rattle.trac_language.specs.Meaning.{World, change_meta, silent, meaning_of, value_length}
 use Rattle.trac_forms.specs.Contents.{Contents, used}
 use Rattle.trac_devices.specs.Devices.{Stream}
-use Rattle.trac_functions.specs.Flat.{mode_at, arguments_at}
+use Rattle.trac_functions.specs.Flat.{arguments_at}
 use Rattle.trac_functions.specs.Calls.{world}
 use Rattle.trac_core.specs.Machine.{ending}
 use Rattle.trac_functions.specs.declared.arguments.Made.TheVariants.{Value, Over}

@@ -1,7 +1,5 @@
-use Rattle.std.proofs.Common.{◌<◌, ◌≤◌, length, arith}
-use Rattle.trac_forms.specs.Contents.{used}
+use Rattle.std.proofs.Common.{arith}
 use Rattle.std.proofs.lemmas.List.{length-drop}
-use Rattle.trac_core.specs.Attempts.{Scans}
 use Rattle.trac_core.proofs.Scanning.{scans-parenthesis, some-active}
 use Rattle.trac_core.proofs.StepsInRow.{one-step}
 use Rattle.trac_core.proofs.scan.end_call.Goals as goal
