@@ -18,7 +18,7 @@ use Rattle.trac_functions.specs.Flat.{memory_of}
 use Rattle.trac_functions.proofs.FlatLemmas.{size-used}
 use Rattle.trac_core.specs.Machine.{moment, ending, state_with, state_of}
 use Rattle.trac_core.specs.Attempts.{Scans, scene, Tried}
-use Rattle.trac_core.specs.StepsInRow.{is_special, IsOrdinary, IsLayout, Passes, PassesTimes, SomeSteps, peak_after}
+use Rattle.trac_core.specs.StepsInRow.{is_special, IsOrdinary, IsLayout, Passes, PassesTimes, Advances, SomeSteps, peak_after}
 use Rattle.trac_core.proofs.Scanning.{scans-other, scans-layout, first-rest}
 
 -- no rule of its own
@@ -138,12 +138,9 @@ peak_after-le zero needed peak room a b = a
 peak_after-le (suc n) needed peak room a b = omega arith
 
 -- one step that performs no call, as a try of a step
-pub tried-passed : (old new : Contents) (n needed : ℕ) → SomeSteps n 1 old new → IsSound old → needed ≡ used old → (meta : ℕ) (source : Stream) (written : Text) → Tried (scene old meta source written) None needed (scene new meta source written)
-tried-passed old new n needed steps sound needs meta source written = λ m room_is memory_is allowed.
-    let first = steps.some in
-    let last = steps.few in
-    let one : n ≡ 1 = omega arith in
-    let once = subst (λ k. PassesTimes k (memory_of meta old) (memory_of meta new)) one (steps.passes meta) in
+pub tried-passed : (old new : Contents) (n needed : ℕ) → Advances n old new → n ≡ 1 → IsSound old → needed ≡ used old → (meta : ℕ) (source : Stream) (written : Text) → Tried (scene old meta source written) None needed (scene new meta source written)
+tried-passed old new n needed passes one sound needs meta source written = λ m room_is memory_is allowed.
+    let once = subst (λ k. PassesTimes k (memory_of meta old) (memory_of meta new)) one (passes meta) in
     let pass : Passes (memory_of meta old) (memory_of meta new) = subst (Passes (memory_of meta old)) once.1.1 once.1.0 in
     let input = ending source.bytes in
     let here : state_of (moment m source written) ≡ state_with (memory_of meta old) input written = ap (λ memory. state_with memory input written) memory_is in

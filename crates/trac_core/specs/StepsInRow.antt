@@ -1,6 +1,6 @@
 -- Steps that perform no call in a row, which are done at once.
 use Rattle.std.specs.Prelude.{◌≡◌, ℕ, zero, suc, max, Bool, true, false, ◌||◌, ◌==◌, ◌+◌, ◌<◌, ◌≤◌}
-use Rattle.std.specs.Prelude.{length, [], Some, slice_get}
+use Rattle.std.specs.Prelude.{length, [], Option, Some, None, Result, Ok, Err, slice_get}
 use Rattle.trac_language.specs.Text.{Text}
 use Rattle.trac_language.specs.State.{Input, Memory, size}
 use Rattle.trac_language.specs.Rule.{is_layout}
@@ -11,7 +11,7 @@ use Rattle.trac_space.specs.Texts.{text_of_cells}
 use Rattle.trac_forms.specs.Contents.{Contents}
 use Rattle.trac_functions.specs.Flat.{memory_of}
 use Rattle.trac_core.specs.declared.scan.Front.{Front}
-use Rattle.trac_core.specs.declared.scan.Front.TheVariants.{Passed, Empty, Closes}
+use Rattle.trac_core.specs.declared.scan.Front.TheVariants.{Empty, Closes}
 use Rattle.trac_core.specs.Machine.{MachineState, state_with}
 
 -- a character that has a rule of its own
@@ -51,14 +51,24 @@ pub record SomeSteps (n most : ℕ) (old new : Contents) : Type 0 where
   pub few : n ≤ most
   pub shorter : length new.active < length old.active
 
--- what the rule that fits the beginning of the active string comes to: some of them; or none, since
--- that string is empty, or since a right parenthesis that begins it closes a call
-abbrev pub ComesTo : Front → ℕ → Contents → Contents → Type 0
-ComesTo (Passed n) most old new = SomeSteps n most old new
-ComesTo Empty most old new = (new ≡ old) × (old.active ≡ [])
-ComesTo (Closes place) most old new =
-    (new ≡ old)
-    × ((slice_get (text_of_cells old.active) 0 ≡ Some 41) × IsLastCall old.neutral place)
+-- what the next step asks for: the idling procedure, since the active string is empty, or a call,
+-- since a right parenthesis begins that string, which closes the call whose mark stands at the place
+abbrev pub AsksFor : Front → Contents → Type 0
+AsksFor Empty w = w.active ≡ []
+AsksFor (Closes place) w =
+    (slice_get (text_of_cells w.active) 0 ≡ Some 41) × IsLastCall w.neutral place
+
+-- what the rule that fits the beginning of the active string comes to: some of those steps, at most
+-- so many, or none
+abbrev pub ComesTo : Result ℕ Front → ℕ → Contents → Contents → Type 0
+ComesTo (Ok n) most old new = SomeSteps n most old new
+ComesTo (Err front) most old new = (new ≡ old) × AsksFor front old
+
+-- so many of those steps were made of at most so many, all of
+-- them or up to a step that asks for something else
+abbrev pub StopsAt : Option Front → ℕ → ℕ → Contents → Type 0
+StopsAt None n most w = n ≡ most
+StopsAt (Some front) n most w = (n < most) × AsksFor front w
 
 -- the peak after so many steps, of which the first needs this many cells and none needs more
 abbrev pub peak_after : ℕ → ℕ → ℕ → ℕ
@@ -70,7 +80,8 @@ abbrev pub passed : ℕ → Memory → MachineState → MachineState
 passed n memory m =
     record m { memory = memory; steps = m.steps + n; peak = peak_after n (size m.memory) m.peak }
 
--- a machine did some steps that perform no call
+-- a machine did some steps that perform no call, which were allowed
 abbrev pub PassesSome : MachineState → MachineState → Type 0
 PassesSome old new =
-    (n : ℕ) × ((memory : Memory) × PassesTimes n old.memory memory × (new ≡ passed n memory old))
+    (n : ℕ) × ((memory : Memory) × PassesTimes n old.memory memory × (new ≡ passed n memory old)
+    × (new.steps ≤ new.allowance))

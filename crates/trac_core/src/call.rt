@@ -12,11 +12,12 @@ ghost use Rattle.trac_core.specs.Performed.{is_plain, performs, reads_input, pri
 ghost use Rattle.trac_core.specs.Machine.{input_failures, output_failures};
 ghost use Rattle.trac_core.specs.Attempts.{scene, Tried, TriedCall, function_at, TakesFrom};
 ghost use Rattle.trac_core.specs.Attempts.{TakesAtMost, AnswersCall, Stands, fate_after};
+ghost use Rattle.trac_core.specs.StepsInRow.{AsksFor};
 
 use crate::delivery::settle;
 use crate::display::print_form;
 use crate::input_output::{change_meta, print_string, read_character, read_string};
-use crate::scan::{Attempt, Front, load_idling, pass};
+use crate::scan::{Attempt, Front, load_idling, scan_on};
 use trac_devices::{Sink, Source};
 use trac_forms::Work;
 use trac_functions::arguments::{Arguments, Made, text};
@@ -58,8 +59,48 @@ pub(crate) fn advance<I: Source, O: Sink>(
     ensures sound { IsSound work.new }
 {
     let need = work.used();
-    match pass(work, 1) {
-        Front::Passed(_) => Attempt { fate: None, need },
+    match scan_on(work, 1).1 {
+        None => Attempt { fate: None, need },
+        Some(front) => carry_out(work, front, meta, source, sink),
+    }
+}
+
+/// The step that the beginning of the active string asks for, where no rule fits that only scans.
+pub(crate) fn carry_out<I: Source, O: Sink>(
+    work: &mut Work,
+    front: Front,
+    meta: &mut u8,
+    source: &mut I,
+    sink: &mut O,
+) -> Attempt
+    requires source_counts { I.failure_count source.old < 2 ^ 64 - 1 }
+    requires sink_counts { O.failure_count sink.old < 2 ^ 64 - 1 }
+    requires sound { IsSound work.old }
+    requires asks { AsksFor front work.old }
+    ensures tried { I.tells source.old → O.tells sink.old →
+        Tried (scene work.old meta.old (I.stream source.old) (O.written sink.old))
+        result.fate result.need
+        (scene work.new meta.new (I.stream source.new) (O.written sink.new)) }
+    ensures input_failed { I.failure_count source.new ≡
+        I.failure_count source.old + input_failures None result.fate }
+    ensures output_failed { O.failure_count sink.new ≡
+        O.failure_count sink.old + output_failures None result.fate }
+    ensures sent { result.fate ≢ Some Fate.OutputFailed →
+        Sent O.tells O.flushed O.written sink.old sink.new }
+    ensures unspent { result.fate ≢ Some Fate.Steps }
+    ensures unread { reads_input (performs (memory_of meta.old work.old)) ≡ false →
+        source.new ≡ source.old }
+    ensures unprinted { prints_output (performs (memory_of meta.old work.old)) ≡ false →
+        sink.new ≡ sink.old }
+    ensures takes { I.tells source.old → (taken : Text) ×
+        TakesAtMost work.old (I.stream source.old) (I.stream source.new) taken }
+    ensures told_source { I.tells source.old → I.tells source.new }
+    ensures told_sink { O.tells sink.old → O.tells sink.new }
+    ensures fits { result.need ≤ work.old.room }
+    ensures room { work.new.room ≡ work.old.room }
+    ensures sound { IsSound work.new }
+{
+    match front {
         Front::Empty => load_idling(work),
         Front::Closes(place) => close(work, place, meta, source, sink),
     }

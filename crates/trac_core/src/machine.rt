@@ -1,5 +1,5 @@
 //! The machine: one step, and a run to the end.
-ghost use Rattle.std.specs.Prelude.{◌≡◌, ◌≢◌, ◌+◌, ◌-◌, ◌^◌, ◌<◌, ◌≤◌, length, false};
+ghost use Rattle.std.specs.Prelude.{◌≡◌, ◌≢◌, ◌+◌, ◌-◌, ◌^◌, ◌<◌, ◌≤◌, ◌++◌, length, false};
 ghost use Rattle.std.specs.Prelude.{true, None, Some, IsSome};
 ghost use Rattle.trac_language.specs.Text.{Text};
 ghost use Rattle.trac_devices.specs.Devices.{Sent};
@@ -7,10 +7,10 @@ ghost use Rattle.trac_core.specs.Performed.{performs, reads_input, prints_output
 ghost use Rattle.trac_core.specs.Machine.{made, KeepsLimits, moment, Answers, Takes, StaysOver};
 ghost use Rattle.trac_core.specs.Machine.{input_failures, output_failures, reported_input_failures};
 ghost use Rattle.trac_core.specs.Machine.{reported_output_failures, Reports, course, counted};
-ghost use Rattle.trac_core.specs.Machine.{counts_as_step};
+ghost use Rattle.trac_core.specs.Machine.{MachineState, counts_as_step};
 ghost use Rattle.trac_core.specs.StepsInRow.{peak_after, PassesSome};
 
-use crate::call::advance;
+use crate::call::{advance, carry_out};
 use crate::scan::{Attempt, scan_on};
 use std::marker::Model;
 use trac_devices::{Sink, Source};
@@ -154,19 +154,46 @@ impl<'a> Machine<'a> {
         self.count(attempt)
     }
 
-    /// Makes steps that perform no call, as far as the allowance goes.
-    fn scan_on(&mut self)
-        ensures passes { PassesSome self.old self.new }
+    /// Makes the steps that perform no call, as far as the allowance goes, and the step after them.
+    /// None: it was done, and the run goes on. Some: the run is over with this fate.
+    fn go_on<I: Source, O: Sink>(&mut self, source: &mut I, sink: &mut O) -> Option<Fate>
+        requires not_over { self.old.fate ≡ None }
+        requires source_counts { I.failure_count source.old < 2 ^ 64 - 1 }
+        requires sink_counts { O.failure_count sink.old < 2 ^ 64 - 1 }
+        ensures answers { (middle : MachineState) × (PassesSome self.old middle ×
+            (I.tells source.old → O.tells sink.old →
+            Answers (moment middle (I.stream source.old) (O.written sink.old)) result
+            (moment self.new (I.stream source.new) (O.written sink.new)))) }
+        ensures fate { self.new.fate ≡ result }
+        ensures proceeds { result ≡ None → self.old.steps < self.new.steps }
+        ensures input_failed { I.failure_count source.new ≡
+            I.failure_count source.old + input_failures None result }
+        ensures output_failed { O.failure_count sink.new ≡
+            O.failure_count sink.old + output_failures None result }
+        ensures sent { result ≢ Some Fate.OutputFailed →
+            Sent O.tells O.flushed O.written sink.old sink.new }
+        ensures takes { I.tells source.old → (taken : Text) ×
+            ((I.stream source.old).bytes ≡ taken ++ (I.stream source.new).bytes) }
+        ensures told_source { I.tells source.old → I.tells source.new }
+        ensures told_sink { O.tells sink.old → O.tells sink.new }
+        ensures room { self.new.room ≡ self.old.room }
+        ensures allowance { self.new.allowance ≡ self.old.allowance }
         ensures limits { KeepsLimits self.new }
     {
         let need = self.work.used();
-        let left = self.allowance - self.steps;
-        let count = scan_on(&mut self.work, left);
-        if count == 0 {
-            return;
-        }
+        let (count, front) = scan_on(&mut self.work, self.allowance - self.steps);
         self.steps += count;
         self.peak = peak_after(count, need, self.peak);
+        let Some(front) = front else {
+            return self.count(Attempt {
+                fate: Some(Fate::Steps),
+                need: 0,
+            });
+        };
+        let mut meta = self.meta;
+        let attempt = carry_out(&mut self.work, front, &mut meta, source, sink);
+        self.meta = meta;
+        self.count(attempt)
     }
 
     /// Counts a step that came to this.
@@ -216,8 +243,7 @@ impl<'a> Machine<'a> {
         ensures peak { result.peak ≤ self.entry.room }
     {
         loop {
-            self.scan_on();
-            if let Some(fate) = self.step(source, sink) {
+            if let Some(fate) = self.go_on(source, sink) {
                 return Report {
                     fate,
                     steps: self.steps(),

@@ -8,7 +8,7 @@ ghost use Rattle.trac_space.specs.Texts.{character_of, text_of_cells, IsByte};
 ghost use Rattle.trac_forms.specs.Contents.{used, IsSound};
 ghost use Rattle.trac_core.specs.Attempts.{Scans, Scanned, NoneFailed};
 ghost use Rattle.trac_core.specs.StepsInRow.{is_special, IsOrdinary, IsLayout, Advances, SomeSteps};
-ghost use Rattle.trac_core.specs.StepsInRow.{ComesTo};
+ghost use Rattle.trac_core.specs.StepsInRow.{ComesTo, StopsAt};
 
 use trac_forms::Work;
 use trac_language::{Fate, Mode};
@@ -48,41 +48,41 @@ pub(crate) fn is_at(work: &Work, place: u32, byte: u8) -> bool
     }
 }
 
-/// What the rule that fits the beginning of the active string came to.
+/// What the beginning of the active string asks for where no rule fits that only scans.
 #[derive(Clone, Copy, Debug, PartialEq, Eq)]
 pub(crate) enum Front {
-    /// So many steps that perform no call.
-    Passed(u64),
-    /// No step: the active string is empty.
+    /// It is empty: the idling procedure.
     Empty,
-    /// No step: a right parenthesis closes the call whose mark stands at this place.
+    /// A right parenthesis: the call whose mark stands at this place.
     Closes(u32),
 }
 
-/// Steps that perform no call, one after the other, at most so many. Gives how many they were. It
-/// stops where a right parenthesis closes a call, and where the active string is empty.
-pub(crate) fn scan_on(work: &mut Work, most: u64) -> u64
+/// Steps that perform no call, one after the other, at most so many. Gives how many they were, and
+/// what the next step asks for where they are fewer.
+#[inline]
+pub(crate) fn scan_on(work: &mut Work, most: u64) -> (u64, Option<Front>)
     requires sound { IsSound work.old }
-    ensures passes { Advances result work.old work.new }
-    ensures few { result ≤ most }
+    ensures passes { Advances result.0 work.old work.new }
+    ensures stops { StopsAt result.1 result.0 most work.new }
+    ensures none { result.0 ≡ 0 → work.new ≡ work.old }
     ensures room { work.new.room ≡ work.old.room }
     ensures sound { IsSound work.new }
 {
     let mut count = 0;
     while count < most {
         match pass(work, most - count) {
-            Front::Passed(more) => count += more,
-            Front::Empty | Front::Closes(_) => return count,
+            Ok(more) => count += more,
+            Err(front) => return (count, Some(front)),
         }
     }
-    count
+    (count, None)
 }
 
 /// The table of the rules of scanning (Mooers 1966). Makes the steps of the rule that fits the
 /// beginning of the active string, at most so many: all of a run of ordinary characters, or of
 /// layout characters, at once, and one of another rule that performs no call.
 #[inline]
-pub(crate) fn pass(work: &mut Work, most: u64) -> Front
+fn pass(work: &mut Work, most: u64) -> Result<u64, Front>
     requires some { 0 < most }
     requires sound { IsSound work.old }
     ensures comes { ComesTo result most work.old work.new }
@@ -90,21 +90,21 @@ pub(crate) fn pass(work: &mut Work, most: u64) -> Front
     ensures sound { IsSound work.new }
 {
     match character(work, 0) {
-        None => return Front::Empty,
-        Some(b'\t' | b'\n' | b'\r') => return Front::Passed(delete_layout(work, most)),
+        None => return Err(Front::Empty),
+        Some(b'\t' | b'\n' | b'\r') => return Ok(delete_layout(work, most)),
         Some(b'(') => protect(work),
         Some(b')') => return end_call(work),
         Some(b',') => begin_argument(work),
         Some(b'#') => number_sign(work),
-        Some(_) => return Front::Passed(add_characters(work, most)),
+        Some(_) => return Ok(add_characters(work, most)),
     }
-    Front::Passed(1)
+    Ok(1)
 }
 
 /// A right parenthesis closes the innermost call, or, where none is
 /// open, is deleted (this processor's own choice).
 #[inline]
-fn end_call(work: &mut Work) -> Front
+fn end_call(work: &mut Work) -> Result<u64, Front>
     requires closes { slice_get (text_of_cells work.old.active) 0 ≡ Some 41 }
     requires sound { IsSound work.old }
     ensures comes { ComesTo result 1 work.old work.new }
@@ -112,10 +112,10 @@ fn end_call(work: &mut Work) -> Front
     ensures sound { IsSound work.new }
 {
     match work.last_call() {
-        Some(place) => Front::Closes(place),
+        Some(place) => Err(Front::Closes(place)),
         None => {
             work.drop_active(1);
-            Front::Passed(1)
+            Ok(1)
         }
     }
 }

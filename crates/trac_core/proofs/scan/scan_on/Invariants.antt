@@ -10,6 +10,7 @@ invariant-loop-count l =
     record {
       passes : (meta : ℕ) → PassesTimes l.count (memory_of meta l.fn.work) (memory_of meta l.work);
       few : l.count ≤ l.most;
+      none : l.count ≡ 0 → l.work ≡ l.fn.work;
       room : l.work.room ≡ l.fn.work.room;
       sound : IsSound l.work;
     }
