@@ -1,4 +1,4 @@
-use Rattle.std.proofs.Common.{sym, subst}
+use Rattle.std.proofs.Common.{subst}
 use Rattle.trac_core.specs.StepsInRow.{StopsAt}
 use Rattle.trac_core.proofs.StepsInRow.{tried-passed}
 use Rattle.trac_core.proofs.call.advance.Goals as goal

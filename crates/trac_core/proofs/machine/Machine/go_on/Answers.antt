@@ -1,4 +1,4 @@
-use Rattle.std.proofs.Common.{◌≡◌, ◌+◌, ◌-◌, ◌<◌, None, Some, refl, sym, ap, ◌∙◌, subst, arith}
+use Rattle.std.proofs.Common.{◌≡◌, ◌-◌, ◌<◌, refl, sym, ap, ◌∙◌, subst, arith}
 use Rattle.trac_language.specs.State.{size}
 use Rattle.trac_functions.specs.Flat.{memory_of}
 use Rattle.trac_functions.proofs.FlatLemmas.{size-used}
@@ -47,6 +47,6 @@ returns-clause-answers g c =
       (
         (n, (memory, c.scan_on-count.ensures.passes i.meta, refl, omega (arith, stops.0))),
         λ told_source told_sink. rw (c.count-2.ensures.answer, c.count-2.ensures.after, c.carry_out-attempt.ensures.room, c.scan_on-count.ensures.room, peak)
-        (c.carry_out-attempt.ensures.tried told_source told_sink m (sym c.scan_on-count.ensures.room) refl allowed),
+            (c.carry_out-attempt.ensures.tried told_source told_sink m (sym c.scan_on-count.ensures.room) refl allowed),
       ),
     )

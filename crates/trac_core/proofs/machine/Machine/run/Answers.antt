@@ -1,4 +1,4 @@
-use Rattle.std.proofs.Common.{◌≡◌, None, ◌∙◌, arith, sym, ap, subst, refl, inl}
+use Rattle.std.proofs.Common.{◌∙◌, arith, sym, ap, subst, refl, inl}
 use Rattle.trac_core.specs.Machine.{MachineState, KeepsLimits, moment}
 use Rattle.trac_core.proofs.Moments.{SomeAlong, along-none, along-more, along-passes}
 use Rattle.trac_core.proofs.Reported.{reported}
