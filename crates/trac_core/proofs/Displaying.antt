@@ -15,13 +15,13 @@ use Rattle.trac_language.specs.Meaning.{World, on_form, printing, show, show_for
 use Rattle.trac_forms.specs.Search.{item_at}
 use Rattle.trac_forms.specs.Contents.{Contents, used}
 use Rattle.trac_devices.specs.Devices.{Stream, Breaks, Prints}
-use Rattle.trac_functions.specs.Flat.{arguments_at}
+use Rattle.trac_functions.specs.Flat.{mode_at, arguments_at}
 use Rattle.trac_functions.specs.Calls.{world}
 use Rattle.trac_core.specs.Machine.{ending}
-use Rattle.trac_functions.specs.declared.arguments.Made.TheVariants.{Value, Over}
-use Rattle.trac_core.specs.Attempts.{scene, IsCall, settled, AnswersCall}
+use Rattle.trac_functions.specs.declared.arguments.Made.TheVariants.{Defined, Over}
+use Rattle.trac_core.specs.Attempts.{scene, IsCall, AnswersCall}
 use Rattle.trac_core.specs.Display.{display}
-use Rattle.trac_core.proofs.Performing.{settled-null, tried-answer, tried-broken}
+use Rattle.trac_core.proofs.Performing.{closed, delivered-null, tried-answer, tried-broken}
 
 pub show-append : (xs ys : List Item) → show (xs ++ ys) ≡ show xs ++ show ys
 show-append [] ys = refl
@@ -123,15 +123,15 @@ displays None w = refl
 displays (Some form) w = refl
 
 module _ (w : Contents) (place : ℕ) where
-  pub answers-display : IsCall w place (Some PrintForm) → (meta : ℕ) (source : Stream) (written : Text) → AnswersCall place (scene w meta source written) Value (scene w meta source (written ++ display (form_named (argument (arguments_at w.neutral place) 1) w.forms)))
+  pub answers-display : IsCall w place (Some PrintForm) → (meta : ℕ) (source : Stream) (written : Text) → AnswersCall place (scene w meta source written) (Defined 0) (scene w meta source (written ++ display (form_named (argument (arguments_at w.neutral place) 1) w.forms)))
   unfolding meaning_of
   answers-display call meta source written =
       let fits = call.sound.fits in
       let means = displays (form_named (argument (arguments_at w.neutral place) 1) w.forms) (world w.forms meta (ending source.bytes)) in
-      tried-answer w (settled Value place (length w.neutral) w) place (Some PrintForm) meta meta source source written (display (form_named (argument (arguments_at w.neutral place) 1) w.forms)) (used w + (length w.neutral - length w.neutral)) [] false w.forms call.names
+      tried-answer w (closed w place) place (Some PrintForm) meta meta source source written (display (form_named (argument (arguments_at w.neutral place) 1) w.forms)) (used w + 0) [] false w.forms call.names
       (record {
         means = means;
-        stands = settled-null w place call.innermost;
+        stands = sym (delivered-null (mode_at w.neutral place) place w);
         needs = let none_built = ap value_length means in omega arith;
         fits = omega arith;
         stays_ended = λ e. e;

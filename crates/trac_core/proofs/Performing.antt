@@ -4,7 +4,7 @@ use Rattle.std.specs.Prelude.{◌==◌, slice_get, unwrap_or, nat_le}
 use Rattle.std.proofs.lemmas.Option.{unwrap_or-slice_get}
 use Rattle.std.specs.List.{list_any}
 use Rattle.std.proofs.lemmas.List.{length-map, length-drop, get_or_append_left}
-use Rattle.std.proofs.Math.Seq.{drop-append_seam, take-append_seam, take-length, drop-length}
+use Rattle.std.proofs.Math.Seq.{drop-append_seam, take-append_seam, take-length}
 use Rattle.trac_language.specs.declared.mode.Mode.{Mode}
 use Rattle.trac_language.specs.declared.mode.Mode.TheVariants.{Active, Neutral as NeutralMode}
 use Rattle.trac_language.specs.declared.function.Function.{Function}
@@ -333,20 +333,14 @@ module _ (w mid : Contents) (place : ℕ) (f : Function) (rest : List Text) (nam
   answers-made (Defined cells) is meta source written = tried-defined (closed mid place) (used w + cells) cells is refl refl meta source written
   answers-made (Over fate) is meta source written = absurd is
 
--- a null value, which is put nowhere
-pub settled-null : (w : Contents) (place : ℕ) → IsLastCall w.neutral place → settled Value place (length w.neutral) w ≡ delivered (mode_at w.neutral place) false [] place w
-settled-null w place innermost =
-    delivered-value w w (settled Value place (length w.neutral) w) place (length w.neutral) [] false w.forms innermost
-    (ap (λ n. record w { neutral = n }) (sym (append-nil w.neutral))) refl refl
-
 -- a call of no function
-pub answers-nothing : (w : Contents) (place : ℕ) → function_named (argument (arguments_at w.neutral place) 0) ≡ None → IsLastCall w.neutral place → IsSound w → (meta : ℕ) (source : Stream) (written : Text) → AnswersCall place (scene w meta source written) Value (scene w meta source written)
-answers-nothing w place names innermost sound meta source written =
+pub answers-nothing : (w : Contents) (place : ℕ) → function_named (argument (arguments_at w.neutral place) 0) ≡ None → IsSound w → (meta : ℕ) (source : Stream) (written : Text) → AnswersCall place (scene w meta source written) (Defined 0) (scene w meta source written)
+answers-nothing w place names sound meta source written =
     let fits = sound.fits in
-    tried-quiet w (settled Value place (length w.neutral) w) place None meta meta source source written (used w + (length w.neutral - length w.neutral)) [] false w.forms names
+    tried-quiet w (closed w place) place None meta meta source source written (used w + 0) [] false w.forms names
     (record {
       means = refl;
-      stands = settled-null w place innermost;
+      stands = sym (delivered-null (mode_at w.neutral place) place w);
       needs = omega arith;
       fits = omega arith;
       stays_ended = λ e. e;
@@ -398,14 +392,8 @@ no-failure-made f args w mid (Defined cells) is = (refl, (refl, λ e. absurd cc)
 no-failure-made f args w mid (Over fate) is = absurd is
 
 -- a null value stands anywhere
-pub stands-null : (w : Contents) → IsSound w → Stands Value (used w) (length w.neutral) w
-stands-null w sound =
-    let fits = sound.fits in
-    record {
-      within = omega arith;
-      text = subst (All IsByte) (sym (drop-length w.neutral)) (bytes-flat []);
-      fits = omega arith;
-    }
+pub stands-null : (w : Contents) → IsSound w → Stands (Defined 0) (used w) (length w.neutral) w
+stands-null w sound = let fits = sound.fits in record { within = omega arith; fits = omega arith }
 
 -- ---- the parenthesis
 

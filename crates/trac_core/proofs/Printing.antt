@@ -1,5 +1,5 @@
 -- The calls that print, change the meta character and stop.
-use Rattle.std.proofs.Common.{◌≡◌, ◌≢◌, ℕ, ◌+◌, ◌-◌, false, List, [], ◌∷◌, ◌++◌, length, drop, Some, None, refl, sym, ap, ◌∙◌, arith, slice_get}
+use Rattle.std.proofs.Common.{◌≡◌, ◌≢◌, ℕ, ◌+◌, false, List, [], ◌∷◌, ◌++◌, drop, Some, None, refl, sym, ap, ◌∙◌, arith, slice_get}
 use Rattle.std.proofs.lemmas.List.{get_or-drop}
 use Rattle.trac_language.specs.declared.function.Function.TheVariants.{PrintString, ChangeMeta, Halt}
 use Rattle.trac_language.specs.declared.fate.Fate.TheVariants.{Halted, OutputFailed}
@@ -8,12 +8,12 @@ use Rattle.trac_language.specs.State.{argument}
 use Rattle.trac_language.specs.Meaning.{World, change_meta, silent, meaning_of, value_length}
 use Rattle.trac_forms.specs.Contents.{Contents, used}
 use Rattle.trac_devices.specs.Devices.{Stream}
-use Rattle.trac_functions.specs.Flat.{arguments_at}
+use Rattle.trac_functions.specs.Flat.{mode_at, arguments_at}
 use Rattle.trac_functions.specs.Calls.{world}
 use Rattle.trac_core.specs.Machine.{ending}
-use Rattle.trac_functions.specs.declared.arguments.Made.TheVariants.{Value, Over}
-use Rattle.trac_core.specs.Attempts.{scene, IsCall, settled, AnswersCall}
-use Rattle.trac_core.proofs.Performing.{settled-null, tried-answer, tried-quiet, tried-end, tried-broken}
+use Rattle.trac_functions.specs.declared.arguments.Made.TheVariants.{Defined, Over}
+use Rattle.trac_core.specs.Attempts.{scene, IsCall, AnswersCall}
+use Rattle.trac_core.proofs.Performing.{closed, delivered-null, tried-answer, tried-quiet, tried-end, tried-broken}
 
 -- the first argument after the name
 pub argument-one : (args rest : List Text) → rest ≡ drop 1 args → argument rest 0 ≡ argument args 1
@@ -23,14 +23,14 @@ pub some-same : {a b : ℕ} → Some a ≡ Some b → a ≡ b
 some-same e = cc
 
 module _ (w : Contents) (place : ℕ) where
-  pub answers-print : IsCall w place (Some PrintString) → (meta : ℕ) (source : Stream) (written : Text) → AnswersCall place (scene w meta source written) Value (scene w meta source (written ++ argument (arguments_at w.neutral place) 1))
+  pub answers-print : IsCall w place (Some PrintString) → (meta : ℕ) (source : Stream) (written : Text) → AnswersCall place (scene w meta source written) (Defined 0) (scene w meta source (written ++ argument (arguments_at w.neutral place) 1))
   unfolding meaning_of
   answers-print call meta source written =
       let fits = call.sound.fits in
-      tried-answer w (settled Value place (length w.neutral) w) place (Some PrintString) meta meta source source written (argument (arguments_at w.neutral place) 1) (used w + (length w.neutral - length w.neutral)) [] false w.forms call.names
+      tried-answer w (closed w place) place (Some PrintString) meta meta source source written (argument (arguments_at w.neutral place) 1) (used w + 0) [] false w.forms call.names
       (record {
         means = refl;
-        stands = settled-null w place call.innermost;
+        stands = sym (delivered-null (mode_at w.neutral place) place w);
         needs = omega arith;
         fits = omega arith;
         stays_ended = λ e. e;
@@ -54,16 +54,16 @@ module _ (w : Contents) (place : ℕ) where
   first-meta meta meta' [] some none world' = ap (λ m. silent (record world' { meta = m })) (sym (none refl))
   first-meta meta meta' (c ∷ text) some none world' = ap (λ m. silent (record world' { meta = m })) (sym (some c refl))
 
-  pub answers-meta : (meta meta' : ℕ) → IsCall w place (Some ChangeMeta) → ((c : ℕ) → slice_get (argument (arguments_at w.neutral place) 1) 0 ≡ Some c → meta' ≡ c) → (slice_get (argument (arguments_at w.neutral place) 1) 0 ≡ None → meta' ≡ meta) → (source : Stream) (written : Text) → AnswersCall place (scene w meta source written) Value (scene w meta' source written)
+  pub answers-meta : (meta meta' : ℕ) → IsCall w place (Some ChangeMeta) → ((c : ℕ) → slice_get (argument (arguments_at w.neutral place) 1) 0 ≡ Some c → meta' ≡ c) → (slice_get (argument (arguments_at w.neutral place) 1) 0 ≡ None → meta' ≡ meta) → (source : Stream) (written : Text) → AnswersCall place (scene w meta source written) (Defined 0) (scene w meta' source written)
   unfolding meaning_of
   answers-meta meta meta' call some none source written =
       let fits = call.sound.fits in
       let args = arguments_at w.neutral place in
       let means = first-meta meta meta' (argument args 1) some none (world w.forms meta (ending source.bytes)) in
-      tried-quiet w (settled Value place (length w.neutral) w) place (Some ChangeMeta) meta meta' source source written (used w + (length w.neutral - length w.neutral)) [] false w.forms call.names
+      tried-quiet w (closed w place) place (Some ChangeMeta) meta meta' source source written (used w + 0) [] false w.forms call.names
       (record {
         means = means;
-        stands = settled-null w place call.innermost;
+        stands = sym (delivered-null (mode_at w.neutral place) place w);
         needs = let none_built = ap value_length means in omega arith;
         fits = omega arith;
         stays_ended = λ e. e;

@@ -230,7 +230,7 @@ fn answer<I: Source, O: Sink>(
     };
     let name = arguments.next(work);
     let Some(function) = function_named(text(work, name)) else {
-        return Made::Value;
+        return Made::Defined(0);
     };
     match function {
         Function::ReadString => read_string(work, *meta, source),

@@ -38,7 +38,7 @@ pub(crate) fn print_form<O: Sink>(work: &mut Work, mut arguments: Arguments, sin
 {
     let name = arguments.next(work);
     match show_named(work, name, sink) {
-        Ok(()) => Made::Value,
+        Ok(()) => Made::Defined(0),
         Err(_) => Made::Over(Fate::OutputFailed),
     }
 }

@@ -98,7 +98,7 @@ pub(crate) fn print_string<O: Sink>(work: &Work, mut arguments: Arguments, sink:
 {
     let part = arguments.next(work);
     match print_text(text(work, part), sink) {
-        Ok(()) => Made::Value,
+        Ok(()) => Made::Defined(0),
         Err(_) => Made::Over(Fate::OutputFailed),
     }
 }
@@ -111,14 +111,14 @@ pub(crate) fn change_meta(work: &Work, mut arguments: Arguments, meta: &mut u8) 
         HasArguments work.now place Function.ChangeMeta arguments →
         AnswersCall place (scene work.now meta.old source written) result
         (scene work.now meta.new source written) }
-    ensures value { result ≡ Made.Value }
+    ensures value { result ≡ Made.Defined 0 }
     ensures stands { Stands result (used work.now) (length work.now.neutral) work.now }
 {
     let part = arguments.next(work);
     if let Some(first) = first_character(text(work, part)) {
         *meta = first;
     }
-    Made::Value
+    Made::Defined(0)
 }
 
 /// The first character of a text.

@@ -13,7 +13,7 @@ returns-in_default-clause-answers g c = λ told_source told_sink.
     let place = c.args.place in
     let all = ap (texts_from w.neutral (place + 1)) c.neutral_len.ensures.value ∙ texts-all w.neutral place c.requires.innermost.mark.0 in
     let name = c.text.ensures.text ∙ c.next-name.ensures.text ∙ ap (λ l. argument l 0) all in
-    answers-nothing w place (sym (sym c.in_default.is ∙ c.function_named.ensures ∙ ap function_named name)) c.requires.innermost c.requires.sound c.args.meta.now _ _
+    answers-nothing w place (sym (sym c.in_default.is ∙ c.function_named.ensures ∙ ap function_named name)) c.requires.sound c.args.meta.now _ _
 
 pub returns-in-Halt-clause-answers : goal.returns-in-Halt-clause-answers
 returns-in-Halt-clause-answers g c = λ told_source told_sink.

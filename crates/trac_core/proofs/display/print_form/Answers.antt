@@ -1,7 +1,7 @@
 use Rattle.std.proofs.Common.{sym, ap, ◌∙◌, subst, length}
 use Rattle.trac_language.specs.Store.{form_named}
 use Rattle.trac_forms.specs.Contents.{Contents, used, part_text}
-use Rattle.trac_functions.specs.declared.arguments.Made.TheVariants.{Value}
+use Rattle.trac_functions.specs.declared.arguments.Made.TheVariants.{Defined}
 use Rattle.trac_functions.specs.Flat.{arguments_at}
 use Rattle.trac_functions.specs.Calls.{texts}
 use Rattle.trac_core.specs.Attempts.{Stands}
@@ -22,7 +22,7 @@ returns-in-Ok-clause-answers g c = λ told place meta source has.
 pub returns-in-Ok-clause-stands : goal.returns-in-Ok-clause-stands
 returns-in-Ok-clause-stands g c =
     let w = c.args.work.now in
-    subst (λ (new : Contents). Stands Value (used w) (length w.neutral) new) (sym c.in-Ok.ensures.same) (stands-null w c.requires.arguments.sound)
+    subst (λ (new : Contents). Stands (Defined 0) (used w) (length w.neutral) new) (sym c.in-Ok.ensures.same) (stands-null w c.requires.arguments.sound)
 
 pub returns-in-Err-clause-answers : goal.returns-in-Err-clause-answers
 returns-in-Err-clause-answers g c = λ told place meta source has.
