@@ -17,7 +17,7 @@ def read(name):
 class Examples(unittest.TestCase):
     def test_outputs(self):
         scripts = sorted(glob.glob('*.trac', root_dir=FOLDER))
-        self.assertGreaterEqual(len(scripts), 12)
+        self.assertGreaterEqual(len(scripts), 21)
         self.assertEqual([script[:-5] + '.out' for script in scripts],
                          sorted(glob.glob('*.out', root_dir=FOLDER)))
         for script in scripts:
