@@ -1,0 +1,44 @@
+"""The cases of conformance/, tried on the built program by the runner that stands beside them; and the
+runner on programs that do something else."""
+import os
+import subprocess
+import sys
+import unittest
+
+from trac import PROGRAM, TOP
+
+FOLDER = os.path.join(TOP, 'conformance')
+
+
+def tried(*words):
+    """The misses that the runner tells of a program, its last line, and its status."""
+    done = subprocess.run([sys.executable, os.path.join(FOLDER, 'try.py'), *words],
+                          capture_output=True, text=True, timeout=600)
+    *missed, last = done.stdout.splitlines()
+    return missed, last, done.returncode
+
+
+def changed(change):
+    """The words that run the program and change by sed what it says on standard error."""
+    script = f'{PROGRAM} "$@" 2>&1 >&3 3>&- | sed "{change}" >&2'
+    return 'bash', '-c', f'set -o pipefail; {{ {script}; }} 3>&1', 'bash'
+
+
+class Conformance(unittest.TestCase):
+    def test_the_program_meets_all_cases(self):
+        self.assertEqual(tried(PROGRAM), ([], '385 cases, 0 missed', 0))
+
+    def test_without_accounting(self):
+        missed, last, status = tried('--plain', PROGRAM)
+        self.assertRegex(last, r'^3\d\d cases, 0 missed$')
+        self.assertEqual((missed, status), ([], 0))
+
+    def test_what_a_program_does_otherwise_is_told(self):
+        for words, key in [(('--plain', 'cat'), 'output'), (('false',), 'status'),
+                           (changed('s/: 29 steps/: 30 steps/'), 'steps'),
+                           (changed('s/peak 19/peak 20/'), 'peak'),
+                           (changed('s/full at/full before/'), 'line')]:
+            with self.subTest(key=key):
+                missed, _, status = tried(*words)
+                self.assertEqual(status, 1)
+                self.assertTrue([line for line in missed if f': {key} is ' in line])
