@@ -53,5 +53,7 @@ class Exercises(unittest.TestCase):
                 output, lines, status = run(script)
                 self.assertEqual((output.decode().strip('\n'), lines, status),
                                  (blocks['output'], '', 0))
+                if 'trac' in blocks:
+                    self.assertEqual(run(blocks['trac']), (b'', '', 0))
                 solved.append(name)
         self.assertEqual(solved, sorted(glob.glob('exercises/*.trac', root_dir=FOLDER)))
