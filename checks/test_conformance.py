@@ -12,7 +12,7 @@ FOLDER = os.path.join(TOP, 'conformance')
 
 def tried(*words):
     """The misses that the runner tells of a program, its last line, and its status."""
-    done = subprocess.run([sys.executable, os.path.join(FOLDER, 'try.py'), *words],
+    done = subprocess.run([sys.executable, os.path.join(FOLDER, 'run.py'), *words],
                           capture_output=True, text=True, timeout=600)
     *missed, last = done.stdout.splitlines()
     return missed, last, done.returncode
@@ -26,12 +26,14 @@ def changed(change):
 
 class Conformance(unittest.TestCase):
     def test_the_program_meets_all_cases(self):
-        self.assertEqual(tried(PROGRAM), ([], '385 cases, 0 missed', 0))
+        missed, last, status = tried(PROGRAM)
+        self.assertEqual((missed, status), ([], 0))
+        self.assertGreaterEqual(int(last.split()[0]), 385)
 
     def test_without_accounting(self):
         missed, last, status = tried('--plain', PROGRAM)
-        self.assertRegex(last, r'^3\d\d cases, 0 missed$')
         self.assertEqual((missed, status), ([], 0))
+        self.assertGreaterEqual(int(last.split()[0]), 353)
 
     def test_what_a_program_does_otherwise_is_told(self):
         for words, key in [(('--plain', 'cat'), 'output'), (('false',), 'status'),
