@@ -36,11 +36,11 @@ class Conformance(unittest.TestCase):
         self.assertGreaterEqual(int(last.split()[0]), 353)
 
     def test_what_a_program_does_otherwise_is_told(self):
-        for words, key in [(('--plain', 'cat'), 'output'), (('false',), 'status'),
-                           (changed('s/: 29 steps/: 30 steps/'), 'steps'),
-                           (changed('s/peak 19/peak 20/'), 'peak'),
-                           (changed('s/full at/full before/'), 'line')]:
-            with self.subTest(key=key):
-                missed, _, status = tried(*words)
-                self.assertEqual(status, 1)
-                self.assertTrue([line for line in missed if f': {key} is ' in line])
+        other = changed('s/: 29 steps/: 30 steps/; s/peak 19/peak 20/; s/full at/full before/')
+        for words, keys in [(('--plain', 'cat'), ['output']), (('false',), ['status']),
+                            (other, ['steps', 'peak', 'line'])]:
+            missed, _, status = tried(*words)
+            self.assertEqual(status, 1)
+            for key in keys:
+                with self.subTest(key=key):
+                    self.assertTrue([line for line in missed if f': {key} is ' in line])
