@@ -1,12 +1,16 @@
-"""Each script of examples/, through the built program: it writes what stands beside it, and ends
-well."""
+"""Each script of examples/, through the built program: it writes what stands beside it, or what
+docs/EXERCISES.md says of it, and ends well."""
 import glob
 import os
+import re
 import unittest
 
 from trac import TOP, run
 
 FOLDER = os.path.join(TOP, 'examples')
+EXERCISE = re.compile(r'^### (\d+)\. .*\n((?:(?!###? ).*\n)*)', re.MULTILINE)
+BLOCK = re.compile(r'^```(\w+)\n((?:(?!```).*\n)*)```$', re.MULTILINE)
+SOLUTION = re.compile(r'\]\(\.\./examples/(exercises/(\d+)-\S+\.trac)\)')
 
 
 def read(name):
@@ -17,7 +21,7 @@ def read(name):
 class Examples(unittest.TestCase):
     def test_outputs(self):
         scripts = sorted(glob.glob('*.trac', root_dir=FOLDER))
-        self.assertGreaterEqual(len(scripts), 12)
+        self.assertGreaterEqual(len(scripts), 21)
         self.assertEqual([script[:-5] + '.out' for script in scripts],
                          sorted(glob.glob('*.out', root_dir=FOLDER)))
         for script in scripts:
@@ -31,3 +35,25 @@ class Examples(unittest.TestCase):
         described = read('README.md').decode()
         for script in glob.glob('*.trac', root_dir=FOLDER):
             self.assertIn(f'**[{script[:-5]}]({script})**', described)
+
+
+class Exercises(unittest.TestCase):
+    def test_solutions(self):
+        with open(os.path.join(TOP, 'docs', 'EXERCISES.md'), encoding='utf-8') as page:
+            exercises = EXERCISE.findall(page.read())
+        self.assertEqual([int(number) for number, _ in exercises], list(range(1, 21)))
+        solved = []
+        for number, text in exercises:
+            with self.subTest(exercise=number):
+                blocks = {kind: block.strip('\n') for kind, block in BLOCK.findall(text)}
+                [(name, count)] = SOLUTION.findall(text)[:1]
+                script = read(name)
+                self.assertEqual(int(count), int(number))
+                self.assertTrue(script.decode().strip('\n').endswith(blocks.get('input', '')))
+                output, lines, status = run(script)
+                self.assertEqual((output.decode().strip('\n'), lines, status),
+                                 (blocks['output'], '', 0))
+                if 'trac' in blocks:
+                    self.assertEqual(run(blocks['trac']), (b'', '', 0))
+                solved.append(name)
+        self.assertEqual(solved, sorted(glob.glob('exercises/*.trac', root_dir=FOLDER)))

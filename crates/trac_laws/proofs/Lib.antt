@@ -1,6 +1,10 @@
 pub mod TakenInput
 pub mod UnreadInput
 pub mod Examples
+pub mod ScanningCases
+pub mod FunctionsCases
+pub mod CharactersCases
+pub mod LimitsCases
 pub mod Fitting
 pub mod Parentheses
 pub mod Quoting
