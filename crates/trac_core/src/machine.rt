@@ -18,8 +18,10 @@ use trac_forms::Work;
 use trac_language::Fate;
 use trac_space::Cell;
 
+pub(crate) mod session;
 pub(crate) mod view;
 
+pub use session::Awaits;
 pub use view::ScanningRule;
 
 /// What a run came to.
