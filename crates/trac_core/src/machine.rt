@@ -217,16 +217,7 @@ impl<'a> Machine<'a> {
         ensures steps { result.steps ≤ self.entry.allowance }
         ensures peak { result.peak ≤ self.entry.room }
     {
-        loop {
-            self.scan_on();
-            if let Some(fate) = self.step(source, sink) {
-                return Report {
-                    fate,
-                    steps: self.steps(),
-                    peak: self.peak(),
-                };
-            }
-        }
+        self.resume(source, sink)
     }
 }
 

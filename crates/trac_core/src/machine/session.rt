@@ -1,18 +1,22 @@
 //! Sessions: a machine that is looked at, fed in pieces and used again.
-ghost use Rattle.std.specs.Prelude.{◌≡◌, ◌≤◌, ℕ, []};
+ghost use Rattle.std.specs.Prelude.{◌≡◌, ◌≢◌, ◌+◌, ◌-◌, ◌^◌, ◌<◌, ◌≤◌, ℕ, [], None, Some};
+ghost use Rattle.std.specs.Prelude.{IsSome};
 ghost use Rattle.trac_space.specs.Calls.{IsLastCall};
+ghost use Rattle.trac_devices.specs.Devices.{Sent};
 ghost use Rattle.trac_functions.specs.Flat.{memory_of};
 ghost use Rattle.trac_core.specs.Performed.{performs};
-ghost use Rattle.trac_core.specs.Machine.{KeepsLimits};
+ghost use Rattle.trac_core.specs.Machine.{KeepsLimits, Resumes, course, input_failures};
+ghost use Rattle.trac_core.specs.Machine.{output_failures};
 ghost use Rattle.trac_core.specs.Session.{awaited, next_function};
 ghost use Rattle.trac_core.specs.Attempts.{function_at};
 
-use super::Machine;
+use super::{Machine, Report};
 use crate::scan::is_at;
+use trac_devices::{Sink, Source};
 use trac_forms::{Forms, Work};
 use trac_functions::arguments::{Arguments, text};
 use trac_functions::function::function_named;
-use trac_language::Function;
+use trac_language::{Fate, Function};
 
 /// What the next step of a machine reads.
 #[derive(Clone, Copy, Debug, PartialEq, Eq)]
@@ -45,6 +49,67 @@ impl<'a> Machine<'a> {
         self.steps = 0;
         self.peak = 0;
         self.fate = None;
+    }
+
+    /// Makes steps to the end of the run, as `run` does, from wherever the machine stands, and
+    /// leaves it to be looked at: the report has its steps and its peak. With neither device
+    /// failing, what is printed, the fate, the steps and the peak are those of the definition's run
+    /// from there. Where the run is over already, the same fate is reported again, and nothing is
+    /// called.
+    pub fn resume<I: Source, O: Sink>(&mut self, source: &mut I, sink: &mut O) -> Report
+        requires source_counts { I.failure_count source.old < 2 ^ 64 - 1 }
+        requires sink_counts { O.failure_count sink.old < 2 ^ 64 - 1 }
+        ensures reports { self.old.fate ≡ None → I.tells source.old → O.tells sink.old →
+            let course = course self.old (I.stream source.old) (O.written sink.old)
+            (I.stream source.new) (O.written sink.new) in
+            Resumes self.old result.fate course result }
+        // a run that is over stays so, and its devices are not called
+        ensures over { IsSome self.old.fate →
+            (self.new ≡ self.old) × (source.new ≡ source.old) × (sink.new ≡ sink.old) }
+        // the machine after it
+        ensures told { result ≡ record {
+          fate = result.fate;
+          steps = self.new.steps;
+          peak = self.new.peak;
+        } }
+        ensures fate { self.new.fate ≡ Some result.fate }
+        // the failures of the devices are told, and no others
+        ensures input_failed { I.failure_count source.new ≡
+            I.failure_count source.old + input_failures self.old.fate (Some result.fate) }
+        ensures output_failed { O.failure_count sink.new ≡
+            O.failure_count sink.old + output_failures self.old.fate (Some result.fate) }
+        ensures sent { result.fate ≢ Fate.OutputFailed →
+            Sent O.tells O.flushed O.written sink.old sink.new }
+        ensures told_source { I.tells source.old → I.tells source.new }
+        ensures told_sink { O.tells sink.old → O.tells sink.new }
+        ensures room { self.new.room ≡ self.old.room }
+        ensures allowance { self.new.allowance ≡ self.old.allowance }
+        ensures limits { KeepsLimits self.new }
+    {
+        if let Some(fate) = self.fate {
+            return self.report(fate);
+        }
+        loop {
+            self.scan_on();
+            if let Some(fate) = self.step(source, sink) {
+                return self.report(fate);
+            }
+        }
+    }
+
+    /// The report of a run that ended so.
+    fn report(&self, fate: Fate) -> Report
+        ensures { result ≡ record {
+          fate = fate;
+          steps = self.now.steps;
+          peak = self.now.peak;
+        } }
+    {
+        Report {
+            fate,
+            steps: self.steps,
+            peak: self.peak,
+        }
     }
 
     /// The meta character, which ends a string that `rs` reads (Mooers 1966).
