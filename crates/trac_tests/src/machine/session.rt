@@ -134,3 +134,29 @@ fn forms_are_listed(rt: HostRuntime) {
     assert!(rt; matches!(form.item(3), Some(Item::Gap(1))));
     assert!(rt; forms.next().is_none());
 }
+
+/// Makes steps to the end of the script, each after what it prints was told: what is told in all is
+/// what is printed.
+fn told_bytes(rt: &impl Abort, script: &[u8], printed: &[u8]) {
+    let mut block = [Cell::Byte(0); 60];
+    let mut source = SliceSource::new(script, None);
+    let mut room = [0; 20];
+    let mut sink = SliceSink::new(&mut room, None);
+    let mut machine = Machine::over(&mut block, 200);
+    for _ in 0..200 {
+        let told = machine.prints() as usize;
+        let before = sink.written().len();
+        assert!(rt; source.failures() == 0 && sink.failures() == 0);
+        let _ = machine.step(&mut source, &mut sink);
+        assert!(rt; sink.written().len().checked_sub(before) == Some(told));
+    }
+    assert!(rt; sink.written() == printed);
+    assert_eq!(rt; machine.prints(), 0);
+}
+
+#[test]
+fn what_the_next_step_prints(rt: HostRuntime) {
+    told_bytes(&rt, b"#(ps,hello)'", b"hello");
+    told_bytes(&rt, b"#(ds,F,a-b)#(ss,F,-)#(pf,F)'", b"<^>a<1>b");
+    told_bytes(&rt, b"#(pf,G)#(xy)(,)'#(ps)'", b",");
+}
