@@ -55,6 +55,7 @@ pub(crate) fn advance<I: Source, O: Sink>(
         TakesAtMost work.old (I.stream source.old) (I.stream source.new) taken }
     ensures told_source { I.tells source.old → I.tells source.new }
     ensures told_sink { O.tells sink.old → O.tells sink.new }
+    ensures kept { O.lent sink.new ≡ O.lent sink.old }
     ensures fits { result.need ≤ work.old.room }
     ensures room { work.new.room ≡ work.old.room }
     ensures sound { IsSound work.new }
@@ -100,6 +101,7 @@ fn close<I: Source, O: Sink>(
         TakesAtMost work.old (I.stream source.old) (I.stream source.new) taken }
     ensures told_source { I.tells source.old → I.tells source.new }
     ensures told_sink { O.tells sink.old → O.tells sink.new }
+    ensures kept { O.lent sink.new ≡ O.lent sink.old }
     ensures fits { result.need ≤ work.old.room }
     ensures room { work.new.room ≡ work.old.room }
     ensures sound { IsSound work.new }
@@ -140,6 +142,7 @@ fn perform<I: Source, O: Sink>(
         TakesFrom work.old (I.stream source.old) (I.stream source.new) taken }
     ensures told_source { I.tells source.old → I.tells source.new }
     ensures told_sink { O.tells sink.old → O.tells sink.new }
+    ensures kept { O.lent sink.new ≡ O.lent sink.old }
     ensures fits { result.need ≤ work.old.room }
     ensures room { work.new.room ≡ work.old.room }
     ensures sound { IsSound work.new }

@@ -141,6 +141,7 @@ pub(crate) fn print_string<O: Sink>(
     ensures sent { result.fate ≢ Some Fate.OutputFailed →
         Sent O.tells O.flushed O.written sink.old sink.new }
     ensures told { O.tells sink.old → O.tells sink.new }
+    ensures kept { O.lent sink.new ≡ O.lent sink.old }
     ensures fits { result.need ≤ work.old.room }
     ensures room { work.new.room ≡ work.old.room }
     ensures sound { IsSound work.new }

@@ -137,6 +137,7 @@ impl<'a> Machine<'a> {
             Takes self.old (I.stream source.old) (I.stream source.new) taken }
         ensures told_source { I.tells source.old → I.tells source.new }
         ensures told_sink { O.tells sink.old → O.tells sink.new }
+        ensures kept { O.lent sink.new ≡ O.lent sink.old }
         // the limits stay, and are kept
         ensures room { self.new.room ≡ self.old.room }
         ensures allowance { self.new.allowance ≡ self.old.allowance }
@@ -215,6 +216,7 @@ impl<'a> Machine<'a> {
             O.failure_count sink.old + reported_output_failures result.fate }
         ensures sent { result.fate ≢ Fate.OutputFailed →
             Sent O.tells O.flushed O.written sink.old sink.new }
+        ensures kept { O.lent sink.new ≡ O.lent sink.old }
         ensures steps { result.steps ≤ self.entry.allowance }
         ensures peak { result.peak ≤ self.entry.room }
     {

@@ -82,6 +82,7 @@ impl<'a> Machine<'a> {
             Sent O.tells O.flushed O.written sink.old sink.new }
         ensures told_source { I.tells source.old → I.tells source.new }
         ensures told_sink { O.tells sink.old → O.tells sink.new }
+        ensures kept { O.lent sink.new ≡ O.lent sink.old }
         ensures room { self.new.room ≡ self.old.room }
         ensures allowance { self.new.allowance ≡ self.old.allowance }
         ensures limits { KeepsLimits self.new }

@@ -55,6 +55,7 @@ loop-fate-init g c =
           (record { cells = omega (arith, size-used i.meta i.work); steps = c.self.invariant.0; peak = c.self.invariant.1 });
       source_failures = refl;
       sink_failures = refl;
+      kept = refl;
       told_source = λ told. told;
       told_sink = λ told. told;
       sent = inl refl;
@@ -83,6 +84,7 @@ loop-fate-preserved g c =
       limits = h.limits;
       source_failures = omega (arith, i.source_failures, source_failed);
       sink_failures = omega (arith, i.sink_failures, sink_failed);
+      kept = h.kept ∙ i.kept;
       told_source = λ told. h.told_source (i.told_source told);
       told_sink = λ told. h.told_sink (i.told_sink told);
       sent = sent-more g.O.Sink.tells g.O.Sink.flushed g.O.Sink.written c.args.sink.now c.loop-fate.sink c.step.new.sink i.told_sink i.sent (h.sent (λ e. absurd cc));

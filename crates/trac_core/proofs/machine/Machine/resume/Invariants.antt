@@ -14,6 +14,7 @@ invariant-loop-fate g l =
       limits : KeepsLimits l.self;
       source_failures : g.I.Source.failure_count l.source ≡ g.I.Source.failure_count l.initial.source;
       sink_failures : g.O.Sink.failure_count l.sink ≡ g.O.Sink.failure_count l.initial.sink;
+      kept : g.O.Sink.lent l.sink ≡ g.O.Sink.lent l.initial.sink;
       told_source : g.I.Source.tells l.initial.source → g.I.Source.tells l.source;
       told_sink : g.O.Sink.tells l.initial.sink → g.O.Sink.tells l.sink;
       sent : Sent g.O.Sink.tells g.O.Sink.flushed g.O.Sink.written l.initial.sink l.sink;
