@@ -12,3 +12,5 @@ pub mod Reported
 pub mod Displaying
 pub mod RuleRows
 pub mod ReadTexts
+pub mod Sessions
+pub mod Printed

@@ -54,6 +54,7 @@ pub(crate) fn advance<I: Source, O: Sink>(
         TakesAtMost work.old (I.stream source.old) (I.stream source.new) taken }
     ensures told_source { I.tells source.old → I.tells source.new }
     ensures told_sink { O.tells sink.old → O.tells sink.new }
+    ensures kept { O.lent sink.new ≡ O.lent sink.old }
     ensures fits { result.need ≤ work.old.room }
     ensures room { work.new.room ≡ work.old.room }
     ensures sound { IsSound work.new }
@@ -96,6 +97,7 @@ pub(crate) fn carry_out<I: Source, O: Sink>(
         TakesAtMost work.old (I.stream source.old) (I.stream source.new) taken }
     ensures told_source { I.tells source.old → I.tells source.new }
     ensures told_sink { O.tells sink.old → O.tells sink.new }
+    ensures kept { O.lent sink.new ≡ O.lent sink.old }
     ensures fits { result.need ≤ work.old.room }
     ensures room { work.new.room ≡ work.old.room }
     ensures sound { IsSound work.new }
@@ -139,6 +141,7 @@ fn close<I: Source, O: Sink>(
         TakesAtMost work.old (I.stream source.old) (I.stream source.new) taken }
     ensures told_source { I.tells source.old → I.tells source.new }
     ensures told_sink { O.tells sink.old → O.tells sink.new }
+    ensures kept { O.lent sink.new ≡ O.lent sink.old }
     ensures fits { result.need ≤ work.old.room }
     ensures room { work.new.room ≡ work.old.room }
     ensures sound { IsSound work.new }
@@ -179,6 +182,7 @@ fn perform<I: Source, O: Sink>(
         TakesFrom work.old (I.stream source.old) (I.stream source.new) taken }
     ensures told_source { I.tells source.old → I.tells source.new }
     ensures told_sink { O.tells sink.old → O.tells sink.new }
+    ensures kept { O.lent sink.new ≡ O.lent sink.old }
     ensures fits { result.need ≤ work.old.room }
     ensures room { work.new.room ≡ work.old.room }
     ensures sound { IsSound work.new }
@@ -221,6 +225,7 @@ fn answer<I: Source, O: Sink>(
         TakesFrom work.old (I.stream source.old) (I.stream source.new) taken }
     ensures told_source { I.tells source.old → I.tells source.new }
     ensures told_sink { O.tells sink.old → O.tells sink.new }
+    ensures kept { O.lent sink.new ≡ O.lent sink.old }
     ensures room { work.new.room ≡ work.old.room }
     ensures sound { IsSound work.new }
 {

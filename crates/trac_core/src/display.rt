@@ -35,6 +35,7 @@ pub(crate) fn print_form<O: Sink>(work: &mut Work, mut arguments: Arguments, sin
     ensures sent { result ≢ Made.Over Fate.OutputFailed →
         Sent O.tells O.flushed O.written sink.old sink.new }
     ensures told { O.tells sink.old → O.tells sink.new }
+    ensures kept { O.lent sink.new ≡ O.lent sink.old }
 {
     let name = arguments.next(work);
     match show_named(work, name, sink) {
@@ -55,6 +56,7 @@ fn show_named<O: Sink>(work: &mut Work, name: (u32, u32), sink: &mut O) -> Resul
     ensures flushed { OnOk result (display_named work.old name ≢ [] → O.flushed sink.new) }
     ensures same { work.new ≡ work.old }
     ensures told { O.tells sink.old → O.tells sink.new }
+    ensures kept { O.lent sink.new ≡ O.lent sink.old }
     ensures counts { O.failure_count sink.new ≡ O.failure_count sink.old + failures_of result }
 {
     match work.find(name.0, name.1) {
@@ -71,6 +73,7 @@ fn show_form<O: Sink>(work: &Work, form: FormId, sink: &mut O) -> Result<(), Sin
         O.tells sink.old → Prints result (O.written sink.old) text (O.written sink.new) }
     ensures flushed { OnOk result (O.flushed sink.new) }
     ensures told { O.tells sink.old → O.tells sink.new }
+    ensures kept { O.lent sink.new ≡ O.lent sink.old }
     ensures counts { O.failure_count sink.new ≡ O.failure_count sink.old + failures_of result }
 {
     let pointer = work.pointer(form);
@@ -95,6 +98,7 @@ fn show_items<O: Sink>(
     ensures prints { let text = show (slice_range (body_at work.now.forms form.0) from to) in
         O.tells sink.old → Prints result (O.written sink.old) text (O.written sink.new) }
     ensures told { O.tells sink.old → O.tells sink.new }
+    ensures kept { O.lent sink.new ≡ O.lent sink.old }
     ensures counts { O.failure_count sink.new ≡ O.failure_count sink.old + failures_of result }
 {
     for place in from..to {
@@ -109,6 +113,7 @@ fn show_item<O: Sink>(item: Item, sink: &mut O) -> Result<(), SinkFailed>
     ensures prints { O.tells sink.old →
         Prints result (O.written sink.old) (show (item ∷ [])) (O.written sink.new) }
     ensures told { O.tells sink.old → O.tells sink.new }
+    ensures kept { O.lent sink.new ≡ O.lent sink.old }
     ensures counts { O.failure_count sink.new ≡ O.failure_count sink.old + failures_of result }
 {
     match item {
@@ -123,6 +128,7 @@ fn show_gap<O: Sink>(ordinal: u32, sink: &mut O) -> Result<(), SinkFailed>
     ensures prints { let text = codes "<" ++ decimal ordinal ++ codes ">" in
         O.tells sink.old → Prints result (O.written sink.old) text (O.written sink.new) }
     ensures told { O.tells sink.old → O.tells sink.new }
+    ensures kept { O.lent sink.new ≡ O.lent sink.old }
     ensures counts { O.failure_count sink.new ≡ O.failure_count sink.old + failures_of result }
 {
     let mut buffer = Buffer::new();

@@ -95,6 +95,7 @@ pub(crate) fn print_string<O: Sink>(work: &Work, mut arguments: Arguments, sink:
     ensures sent { result ≢ Made.Over Fate.OutputFailed →
         Sent O.tells O.flushed O.written sink.old sink.new }
     ensures told { O.tells sink.old → O.tells sink.new }
+    ensures kept { O.lent sink.new ≡ O.lent sink.old }
 {
     let part = arguments.next(work);
     match print_text(text(work, part), sink) {

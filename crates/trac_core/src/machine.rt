@@ -18,8 +18,11 @@ use trac_forms::Work;
 use trac_language::Fate;
 use trac_space::Cell;
 
+pub(crate) mod printing;
+pub(crate) mod session;
 pub(crate) mod view;
 
+pub use session::Awaits;
 pub use view::ScanningRule;
 
 /// What a run came to.
@@ -134,6 +137,7 @@ impl<'a> Machine<'a> {
             Takes self.old (I.stream source.old) (I.stream source.new) taken }
         ensures told_source { I.tells source.old → I.tells source.new }
         ensures told_sink { O.tells sink.old → O.tells sink.new }
+        ensures kept { O.lent sink.new ≡ O.lent sink.old }
         // the limits stay, and are kept
         ensures room { self.new.room ≡ self.old.room }
         ensures allowance { self.new.allowance ≡ self.old.allowance }
@@ -156,7 +160,7 @@ impl<'a> Machine<'a> {
 
     /// Makes the steps that perform no call, as far as the allowance goes, and the step after them.
     /// None: it was done, and the run goes on. Some: the run is over with this fate.
-    fn go_on<I: Source, O: Sink>(&mut self, source: &mut I, sink: &mut O) -> Option<Fate>
+    pub(crate) fn go_on<I: Source, O: Sink>(&mut self, source: &mut I, sink: &mut O) -> Option<Fate>
         requires not_over { self.old.fate ≡ None }
         requires source_counts { I.failure_count source.old < 2 ^ 64 - 1 }
         requires sink_counts { O.failure_count sink.old < 2 ^ 64 - 1 }
@@ -176,6 +180,7 @@ impl<'a> Machine<'a> {
             ((I.stream source.old).bytes ≡ taken ++ (I.stream source.new).bytes) }
         ensures told_source { I.tells source.old → I.tells source.new }
         ensures told_sink { O.tells sink.old → O.tells sink.new }
+        ensures kept { O.lent sink.new ≡ O.lent sink.old }
         ensures room { self.new.room ≡ self.old.room }
         ensures allowance { self.new.allowance ≡ self.old.allowance }
         ensures limits { KeepsLimits self.new }
@@ -239,18 +244,11 @@ impl<'a> Machine<'a> {
             O.failure_count sink.old + reported_output_failures result.fate }
         ensures sent { result.fate ≢ Fate.OutputFailed →
             Sent O.tells O.flushed O.written sink.old sink.new }
+        ensures kept { O.lent sink.new ≡ O.lent sink.old }
         ensures steps { result.steps ≤ self.entry.allowance }
         ensures peak { result.peak ≤ self.entry.room }
     {
-        loop {
-            if let Some(fate) = self.go_on(source, sink) {
-                return Report {
-                    fate,
-                    steps: self.steps(),
-                    peak: self.peak(),
-                };
-            }
-        }
+        self.resume(source, sink)
     }
 }
 

@@ -66,6 +66,7 @@ pub(crate) fn print_text<O: Sink>(text: &[Cell], sink: &mut O) -> Result<(), Sin
     ensures untouched { text_of_cells text.now ≡ [] → sink.new ≡ sink.old }
     ensures flushed { OnOk result (text_of_cells text.now ≢ [] → O.flushed sink.new) }
     ensures told { O.tells sink.old → O.tells sink.new }
+    ensures kept { O.lent sink.new ≡ O.lent sink.old }
     ensures counts { O.failure_count sink.new ≡ O.failure_count sink.old + failures_of result }
 {
     if text.is_empty() {
@@ -83,6 +84,7 @@ fn put_characters<O: Sink>(text: &[Cell], sink: &mut O) -> Result<(), SinkFailed
     ensures prints { O.tells sink.old →
         Prints result (O.written sink.old) (text_of_cells text.now) (O.written sink.new) }
     ensures told { O.tells sink.old → O.tells sink.new }
+    ensures kept { O.lent sink.new ≡ O.lent sink.old }
     ensures counts { O.failure_count sink.new ≡ O.failure_count sink.old + failures_of result }
 {
     if text.len() < FEW {
@@ -98,6 +100,7 @@ fn put_each<O: Sink>(text: &[Cell], sink: &mut O) -> Result<(), SinkFailed>
     ensures prints { O.tells sink.old →
         Prints result (O.written sink.old) (text_of_cells text.now) (O.written sink.new) }
     ensures told { O.tells sink.old → O.tells sink.new }
+    ensures kept { O.lent sink.new ≡ O.lent sink.old }
     ensures counts { O.failure_count sink.new ≡ O.failure_count sink.old + failures_of result }
 {
     for cell in text {
@@ -112,6 +115,7 @@ pub(crate) fn print_bytes<O: Sink>(bytes: &[u8], sink: &mut O) -> Result<(), Sin
     ensures prints { O.tells sink.old →
         Prints result (O.written sink.old) bytes.now (O.written sink.new) }
     ensures told { O.tells sink.old → O.tells sink.new }
+    ensures kept { O.lent sink.new ≡ O.lent sink.old }
     ensures counts { O.failure_count sink.new ≡ O.failure_count sink.old + failures_of result }
 {
     for byte in bytes {

@@ -3,3 +3,4 @@ pub mod Counted
 pub mod Devices
 pub mod HeldBytes
 pub mod Slices
+pub mod SliceSinks

@@ -1,5 +1,6 @@
 //! What a machine reads from and writes to.
 ghost use Rattle.std.specs.Prelude.{◌≡◌, ℕ, ◌+◌, ◌-◌, ◌^◌, ◌<◌, List, OnOk};
+ghost use Rattle.std.specs.Borrow.{GName};
 ghost use Rattle.trac_language.specs.Text.{Text};
 ghost use Rattle.trac_space.specs.Texts.{text_of_cells};
 ghost use Rattle.trac_forms.specs.Contents.{IsSound};
@@ -80,13 +81,18 @@ pub trait Sink {
     /// The number of failures so far.
     ghost failure_count: { Self → ℕ };
 
+    /// The name by which a proof knows the memory that the sink writes to, 0 where it has none of
+    /// a caller's. Each call keeps it: so who lent the memory knows what it then holds.
+    ghost lent: { Self → GName };
+
     /// Takes a byte. An error appends nothing.
     fn put(&mut self, byte: u8) -> Result<(), SinkFailed>
         requires { failure_count self.old < 2 ^ 64 - 1 }
         ensures writes { tells self.old →
             written self.new ≡ after_put (written self.old) byte result }
         ensures told { tells self.old → tells self.new }
-        ensures counts { failure_count self.new ≡ failure_count self.old + failures_of result };
+        ensures counts { failure_count self.new ≡ failure_count self.old + failures_of result }
+        ensures kept { lent self.new ≡ lent self.old };
 
     /// Takes the characters of cells in their order. An error appends a first part of them.
     fn put_all(&mut self, text: &[Cell]) -> Result<(), SinkFailed>
@@ -95,6 +101,7 @@ pub trait Sink {
             Prints result (written self.old) (text_of_cells text.now) (written self.new) }
         ensures told { tells self.old → tells self.new }
         ensures counts { failure_count self.new ≡ failure_count self.old + failures_of result }
+        ensures kept { lent self.new ≡ lent self.old }
     {
         for cell in text {
             self.put(character_of(cell))?;
@@ -108,7 +115,8 @@ pub trait Sink {
         ensures keeps { tells self.old → written self.new ≡ written self.old }
         ensures flushed { OnOk result (flushed self.new) }
         ensures told { tells self.old → tells self.new }
-        ensures counts { failure_count self.new ≡ failure_count self.old + failures_of result };
+        ensures counts { failure_count self.new ≡ failure_count self.old + failures_of result }
+        ensures kept { lent self.new ≡ lent self.old };
 
     /// The number of failures so far.
     fn failures(&self) -> u64

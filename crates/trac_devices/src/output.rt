@@ -41,6 +41,8 @@ impl<W: Write> Sink for Output<W> {
 
     ghost failure_count = { λ s. s.failures };
 
+    ghost lent = { λ _. 0 };
+
     #[inline]
     fn put(&mut self, byte: u8) -> Result<(), SinkFailed> {
         match self.writer.write(&[byte]) {

@@ -5,7 +5,6 @@ ghost use Rattle.std.specs.Prelude.{nat_lt, true, false};
 ghost use Rattle.trac_devices.specs.Devices.{failures_of, after_put};
 
 use crate::device::{Sink, SinkFailed};
-use std::marker::Model;
 
 /// A sink over memory, for embedding and for tests; it fails where its room is full, and at one
 /// flush that it is told. This processor's own choice.
@@ -17,36 +16,25 @@ pub struct SliceSink<'a> {
     flushes_left: u64,
     failures: u64,
     is_flushed: bool,
-}
-
-impl<'a> Model for SliceSink<'a> {
-    ghost use Rattle.std.specs.Prelude.{◌≤◌, length, take};
-    ghost use Rattle.trac_devices.specs.Slices.{SliceOutput};
-
-    ghost Value = { SliceOutput };
-
-    ghost view = { λ s. record {
-      written = take s.len s.room.now;
-      room = length s.room.now;
-      flushes_left = s.flushes_left;
-      failures = s.failures;
-      is_flushed = s.is_flushed;
-    } };
-
-    ghost invariant = { λ s. s.len ≤ length s.room.now };
+    ghost within: { len ≤ length room.now },
 }
 
 impl<'a> SliceSink<'a> {
+    ghost use Rattle.trac_devices.specs.SliceSinks.{slice_output};
+
     /// A sink with room for so many bytes, whose flush of that
     /// number, counted from 1, fails; none with None or 0.
     pub fn new(room: &'a mut [u8], flush_fault: Option<u64>) -> SliceSink<'a>
-        ensures { result ≡ record {
+        ensures value { slice_output result ≡ record {
           written = [];
           room = length room.old;
           flushes_left = unwrap_or flush_fault 0;
           failures = 0;
           is_flushed = true;
         } }
+        // what was lent holds what it held
+        ensures lent { result.room.ghost_name ≡ room.entry.ghost_name }
+        ensures holds { result.room.now ≡ room.old }
     {
         SliceSink {
             room,
@@ -59,32 +47,40 @@ impl<'a> SliceSink<'a> {
 
     /// The bytes written.
     pub fn written(&self) -> &[u8]
-        ensures { result.now ≡ self.now.written }
+        ensures { result.now ≡ (slice_output self.now).written }
     {
         &self.room[..self.len]
     }
 }
 
 impl Sink for SliceSink<'_> {
+    ghost use Rattle.trac_devices.specs.SliceSinks.{slice_output};
+
     ghost tells = { λ _. Unit {0} };
 
-    ghost written = { λ s. s.written };
+    ghost written = { λ s. (slice_output s).written };
 
     ghost flushed = { λ s. s.is_flushed ≡ true };
 
     ghost failure_count = { λ s. s.failures };
 
+    ghost lent = { λ s. s.room.ghost_name };
+
     fn put(&mut self, byte: u8) -> Result<(), SinkFailed>
         requires { self.old.failures < 2 ^ 64 - 1 }
-        ensures full { is_ok result ≡ nat_lt (length self.old.written) self.old.room }
-        ensures after { self.new ≡ record self.old {
-          written = after_put self.old.written byte result;
-          failures = self.old.failures + failures_of result;
-          is_flushed = self.old.is_flushed && is_err result;
-        } }
-        ensures writes { Unit {0} → self.new.written ≡ after_put self.old.written byte result }
+        ensures full { let old = slice_output self.old in
+            is_ok result ≡ nat_lt (length old.written) old.room }
+        ensures after { let old = slice_output self.old in
+            slice_output self.new ≡ record old {
+              written = after_put old.written byte result;
+              failures = old.failures + failures_of result;
+              is_flushed = old.is_flushed && is_err result;
+            } }
+        ensures writes { Unit {0} →
+            (slice_output self.new).written ≡ after_put (slice_output self.old).written byte result }
         ensures told { Unit {0} → Unit {0} }
         ensures counts { self.new.failures ≡ self.old.failures + failures_of result }
+        ensures kept { self.new.room.ghost_name ≡ self.old.room.ghost_name }
     {
         if self.len < self.room.len() {
             self.room[self.len] = byte;
@@ -100,15 +96,18 @@ impl Sink for SliceSink<'_> {
     fn flush(&mut self) -> Result<(), SinkFailed>
         requires { self.old.failures < 2 ^ 64 - 1 }
         ensures fault { is_ok result ≡ not (nat_eq self.old.flushes_left 1) }
-        ensures after { self.new ≡ record self.old {
-          flushes_left = self.old.flushes_left - 1;
-          failures = self.old.failures + failures_of result;
-          is_flushed = self.old.is_flushed || is_ok result;
-        } }
-        ensures keeps { Unit {0} → self.new.written ≡ self.old.written }
+        ensures after { let old = slice_output self.old in
+            slice_output self.new ≡ record old {
+              flushes_left = old.flushes_left - 1;
+              failures = old.failures + failures_of result;
+              is_flushed = old.is_flushed || is_ok result;
+            } }
+        ensures keeps { Unit {0} →
+            (slice_output self.new).written ≡ (slice_output self.old).written }
         ensures flushed { OnOk result (self.new.is_flushed ≡ true) }
         ensures told { Unit {0} → Unit {0} }
         ensures counts { self.new.failures ≡ self.old.failures + failures_of result }
+        ensures kept { self.new.room.ghost_name ≡ self.old.room.ghost_name }
     {
         if self.flushes_left > 0 {
             self.flushes_left -= 1;

@@ -39,6 +39,8 @@ impl<W: Write> Sink for WriteSink<W> {
 
     ghost failure_count = { λ s. s.failures };
 
+    ghost lent = { λ _. 0 };
+
     fn put(&mut self, byte: u8) -> Result<(), SinkFailed> {
         self.is_flushed = false;
         match self.writer.write(&[byte]) {

@@ -49,6 +49,8 @@ impl Sink for Printed {
 
     ghost failure_count = { λ s. s.failures };
 
+    ghost lent = { λ _. 0 };
+
     fn put(&mut self, byte: u8) -> Result<(), SinkFailed> {
         match self.bytes.push(byte) {
             Ok(()) => Ok(()),

@@ -100,6 +100,8 @@ impl Sink for FakeSink {
 
     ghost failure_count = { λ s. s.failures };
 
+    ghost lent = { λ _. 0 };
+
     fn put(&mut self, _byte: u8) -> Result<(), SinkFailed> {
         self.puts = self.puts.saturating_add(1);
         if self.puts == self.bad_put {

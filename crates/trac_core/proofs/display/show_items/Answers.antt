@@ -1,4 +1,4 @@
-use Rattle.std.proofs.Common.{arith}
+use Rattle.std.proofs.Common.{◌∙◌, arith}
 use Rattle.trac_forms.specs.Contents.{body_at}
 use Rattle.trac_devices.proofs.PutCells.{prints-err}
 use Rattle.trac_core.proofs.Displaying.{displays-more, displays-broken}
@@ -20,6 +20,7 @@ loop-place-preserved g c =
       above = let a = i.above in omega arith;
       below = omega arith;
       counts = omega (arith, h.counts, i.counts);
+      kept = h.kept ∙ i.kept;
       told = λ told. h.told (i.told told);
       writes = λ told. displays-more _ _ _ body c.args.from c.loop-place.place c.item.result i.above (omega arith) c.item.ensures (i.writes told) (h.prints (i.told told));
     }

@@ -10,6 +10,7 @@ invariant-loop-place g l =
       above : l.from ≤ l.place;
       below : l.place ≤ l.to;
       counts : g.O.Sink.failure_count l.sink ≡ g.O.Sink.failure_count l.initial.sink;
+      kept : g.O.Sink.lent l.sink ≡ g.O.Sink.lent l.initial.sink;
       told : g.O.Sink.tells l.initial.sink → g.O.Sink.tells l.sink;
       writes : g.O.Sink.tells l.initial.sink → g.O.Sink.written l.sink ≡ g.O.Sink.written l.initial.sink ++ show (slice_range (body_at l.work.forms l.form.0) l.from l.place);
     }

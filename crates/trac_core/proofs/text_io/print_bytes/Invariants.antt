@@ -6,6 +6,7 @@ abbrev pub invariant-loop-byte : goal.invariant-loop-byte
 invariant-loop-byte g l =
     record {
       counts : g.O.Sink.failure_count l.sink ≡ g.O.Sink.failure_count l.initial.sink;
+      kept : g.O.Sink.lent l.sink ≡ g.O.Sink.lent l.initial.sink;
       told : g.O.Sink.tells l.initial.sink → g.O.Sink.tells l.sink;
       writes : g.O.Sink.tells l.initial.sink → g.O.Sink.written l.sink ≡ g.O.Sink.written l.initial.sink ++ take l.byte-index l.bytes;
     }

@@ -21,6 +21,7 @@ loop-cell-preserved g c =
     let one = get_or text at (Byte 0) in
     record {
       counts = omega (arith, h.counts, i.counts);
+      kept = h.kept ∙ i.kept;
       told = λ told. h.told (i.told told);
       writes = λ told.
           rw (take_more text at (Byte 0) c.loop-cell-test.true, text_of_cells-append (take at text) (one ∷ []), ← append_assoc (g.O.Sink.written c.args.sink.now) (text_of_cells (take at text)) (text_of_cells (one ∷ [])), ← i.writes told)

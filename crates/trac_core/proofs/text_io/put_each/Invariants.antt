@@ -7,6 +7,7 @@ abbrev pub invariant-loop-cell : goal.invariant-loop-cell
 invariant-loop-cell g l =
     record {
       counts : g.O.Sink.failure_count l.sink ≡ g.O.Sink.failure_count l.initial.sink;
+      kept : g.O.Sink.lent l.sink ≡ g.O.Sink.lent l.initial.sink;
       told : g.O.Sink.tells l.initial.sink → g.O.Sink.tells l.sink;
       writes : g.O.Sink.tells l.initial.sink → g.O.Sink.written l.sink ≡ g.O.Sink.written l.initial.sink ++ text_of_cells (take l.cell-index l.text);
     }

@@ -20,6 +20,7 @@ loop-cell-preserved g c =
     let text = c.args.text.now in
     let one = get_or text at (Byte 0) in
     record {
+      kept = h.kept ∙ i.kept;
       counts = omega (arith, h.counts, i.counts);
       told = λ told. h.told (i.told told);
       writes = λ told.

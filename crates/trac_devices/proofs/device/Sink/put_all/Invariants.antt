@@ -6,6 +6,7 @@ use Rattle.trac_devices.proofs.device.Sink.put_all.Given as goal
 abbrev pub invariant-loop-cell : goal.invariant-loop-cell
 invariant-loop-cell g l =
     record {
+      kept : g.Self.Sink.lent l.self ≡ g.Self.Sink.lent l.initial.self;
       counts : g.Self.Sink.failure_count l.self ≡ g.Self.Sink.failure_count l.initial.self;
       told : g.Self.Sink.tells l.initial.self → g.Self.Sink.tells l.self;
       writes : g.Self.Sink.tells l.initial.self → g.Self.Sink.written l.self ≡ g.Self.Sink.written l.initial.self ++ text_of_cells (take l.cell-index l.text);
