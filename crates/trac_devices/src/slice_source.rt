@@ -57,6 +57,13 @@ impl<'a> SliceSource<'a> {
             },
         }
     }
+
+    /// The bytes still to come.
+    pub fn rest(&self) -> &[u8]
+        ensures { result.now ≡ self.now.bytes }
+    {
+        self.bytes
+    }
 }
 
 impl Source for SliceSource<'_> {
