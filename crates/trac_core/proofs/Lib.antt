@@ -12,3 +12,4 @@ pub mod Reported
 pub mod Displaying
 pub mod RuleRows
 pub mod ReadTexts
+pub mod Sessions

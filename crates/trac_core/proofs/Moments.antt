@@ -1,63 +1,71 @@
 -- A run of the machine, moment by moment, beside the run of the definition.
 use Rattle.std.proofs.Common.{◌≡◌, ℕ, zero, suc, ◌+◌, ◌<◌, ◌≤◌, max, Bool, true, false, [], ◌++◌, refl, sym, ap, ◌∙◌, subst, append_assoc, arith}
 use Rattle.trac_language.specs.Text.{Text}
-use Rattle.trac_language.specs.State.{Memory, empty, size}
+use Rattle.trac_language.specs.State.{Memory, size}
 use Rattle.trac_language.specs.Step.{step, need}
 use Rattle.trac_laws.specs.LastRead.{reads_to_end}
 use Rattle.trac_laws.proofs.Reached.{Reached, reached_start, reached_next}
 use Rattle.trac_laws.proofs.ReachedWhileReading.{ReachedAnywhere, anywhere_start, anywhere_next}
 use Rattle.trac_devices.specs.Devices.{Stream}
-use Rattle.trac_core.specs.Machine.{MachineState, Moment, made, moment, ending, state_with, state_of, GoesOn}
+use Rattle.trac_core.specs.Machine.{MachineState, Moment, moment, ending, state_with, state_of, GoesOn}
 use Rattle.trac_core.specs.StepsInRow.{Passes, PassesTimes, peak_after, passed}
 
--- up to a moment a machine has taken given of its input, and its run is that of the definition; while the source hasn't
--- ended, it is so too however the input goes on
-pub record Along (room : ℕ) (bytes before : Text) (m : Moment) (given : Text) : Type 0 where
+-- up to a moment a machine has taken given of its input, and its run is that of the definition from where it stood; while
+-- the source hasn't ended, it is so too however the input goes on
+pub record Along (start : MachineState) (bytes before : Text) (m : Moment) : Type 0 where
+  pub given : Text
+  pub count : ℕ
+  pub peak : ℕ
   pub consumed : bytes ≡ given ++ m.source.bytes
-  pub whole : Reached room (state_with empty (ending bytes) before) m.machine.steps m.machine.peak (state_of m)
-  pub cut : m.source.ended ≡ false → ReachedAnywhere room empty before given m.machine.steps m.machine.peak m.machine.memory m.written
+  pub steps_is : m.machine.steps ≡ start.steps + count
+  pub peak_is : m.machine.peak ≡ max start.peak peak
+  pub whole : Reached start.room (state_with start.memory (ending bytes) before) count peak (state_of m)
+  pub cut : m.source.ended ≡ false → ReachedAnywhere start.room start.memory before given count peak m.machine.memory m.written
 
-abbrev pub SomeAlong : ℕ → Text → Text → Moment → Type 0
-SomeAlong room bytes before m = (given : Text) × Along room bytes before m given
-
-pub along-none : (room allowance : ℕ) (source : Stream) (before : Text) → SomeAlong room source.bytes before (moment (made room allowance) source before)
-along-none room allowance source before = (
-  [],
-  record {
-    consumed = refl;
-    whole = reached_start room (state_with empty (ending source.bytes) before);
-    cut = λ open_still. anywhere_start room empty before;
-  },
-)
+pub along-none : (start : MachineState) (source : Stream) (before : Text) → Along start source.bytes before (moment start source before)
+along-none start source before =
+    record {
+      given = [];
+      count = 0;
+      peak = 0;
+      consumed = refl;
+      steps_is = omega arith;
+      peak_is = omega arith;
+      whole = reached_start start.room (state_with start.memory (ending source.bytes) before);
+      cut = λ open_still. anywhere_start start.room start.memory before;
+    }
 
 not_ended-before : (old new : Bool) → (old ≡ true → new ≡ true) → new ≡ false → old ≡ false
 not_ended-before true new keeps e = absurd (let k = keeps refl in cc)
 not_ended-before false new keeps e = refl
 
-pub along-more : (room : ℕ) (bytes before taken : Text) (old new : Moment) → old.machine.room ≡ room → old.source.bytes ≡ taken ++ new.source.bytes → SomeAlong room bytes before old → GoesOn old new → SomeAlong room bytes before new
-along-more room bytes before taken old new room_is took along goes_on =
-    let given = along.0 in
-    let a = along.1 in
+pub along-more : (start : MachineState) (bytes before taken : Text) (old new : Moment) → old.machine.room ≡ start.room → old.source.bytes ≡ taken ++ new.source.bytes → Along start bytes before old → GoesOn old new → Along start bytes before new
+along-more start bytes before taken old new room_is took a goes_on =
+    let given = a.given in
+    let n = a.count in
+    let room = start.room in
+    let counts = goes_on.counts.steps in
+    let peaks = goes_on.counts.peak in
     let fits : need (state_of old) ≤ room = subst (λ r. need (state_of old) ≤ r) room_is goes_on.may.fits in
-    let reached = reached_next room (state_with empty (ending bytes) before) old.machine.steps old.machine.peak (state_of old) a.whole (state_of new) fits goes_on.goes in
+    let reached = reached_next room (state_with start.memory (ending bytes) before) n a.peak (state_of old) a.whole (state_of new) fits goes_on.goes in
     let split = state_with old.machine.memory (ending (taken ++ new.source.bytes)) old.written in
-    let here : state_of old ≡ state_with old.machine.memory (ending (taken ++ new.source.bytes)) old.written = ap (λ t. state_with old.machine.memory (ending t) old.written) took in (
-      given ++ taken,
-      record {
-        consumed = a.consumed ∙ ap (λ t. given ++ t) took ∙ sym (append_assoc given taken new.source.bytes);
-        whole =
-            subst (λ n. Reached room (state_with empty (ending bytes) before) n new.machine.peak (state_of new)) (sym goes_on.counts.steps)
-            (subst (λ p. Reached room (state_with empty (ending bytes) before) (old.machine.steps + 1) p (state_of new)) (sym goes_on.counts.peak) reached);
-        cut = λ open_still.
-            let before_open = not_ended-before old.source.ended new.source.ended goes_on.stays_ended open_still in
-            let more : reads_to_end (state_of old) ≡ false = not_ended-before (reads_to_end (state_of old)) new.source.ended goes_on.read_all open_still in
-            let next = anywhere_next room empty before given old.machine.steps old.machine.peak old.machine.memory old.written (a.cut before_open) taken new.source.bytes new.machine.memory new.written
-            (subst (λ s. need s ≤ room) here fits) (sym (ap reads_to_end here) ∙ more) (sym (ap step here) ∙ goes_on.goes) in
-            subst (λ n. ReachedAnywhere room empty before (given ++ taken) n new.machine.peak new.machine.memory new.written) (sym goes_on.counts.steps)
-            (subst (λ p. ReachedAnywhere room empty before (given ++ taken) (old.machine.steps + 1) p new.machine.memory new.written)
-            (sym (ap (λ s. max old.machine.peak (need s)) here) ∙ sym goes_on.counts.peak) next);
-      },
-    )
+    let here : state_of old ≡ state_with old.machine.memory (ending (taken ++ new.source.bytes)) old.written = ap (λ t. state_with old.machine.memory (ending t) old.written) took in
+    record {
+      given = given ++ taken;
+      count = n + 1;
+      peak = max a.peak (need (state_of old));
+      consumed = a.consumed ∙ ap (λ t. given ++ t) took ∙ sym (append_assoc given taken new.source.bytes);
+      steps_is = omega (arith, a.steps_is);
+      peak_is = omega (arith, a.peak_is);
+      whole = reached;
+      cut = λ open_still.
+          let before_open = not_ended-before old.source.ended new.source.ended goes_on.stays_ended open_still in
+          let more : reads_to_end (state_of old) ≡ false = not_ended-before (reads_to_end (state_of old)) new.source.ended goes_on.read_all open_still in
+          let next = anywhere_next room start.memory before given n a.peak old.machine.memory old.written (a.cut before_open) taken new.source.bytes new.machine.memory new.written
+          (subst (λ s. need s ≤ room) here fits) (sym (ap reads_to_end here) ∙ more) (sym (ap step here) ∙ goes_on.goes) in
+          subst (λ p. ReachedAnywhere room start.memory before (given ++ taken) (n + 1) p new.machine.memory new.written)
+          (sym (ap (λ s. max a.peak (need s)) here)) next;
+    }
 
 -- the machine after one step that passes
 abbrev one_passed : Memory → MachineState → MachineState
@@ -78,19 +86,19 @@ peak_after-same : (n cells same peak : ℕ) → same ≤ cells → peak_after n 
 peak_after-same zero cells same peak e = refl
 peak_after-same (suc n) cells same peak e = omega arith
 
-pub along-passes : (n room : ℕ) (bytes before : Text) (m : MachineState) (target : Memory) (source : Stream) (written : Text) → m.room ≡ room → size m.memory ≤ m.room → m.steps + n ≤ m.allowance → PassesTimes n m.memory target → SomeAlong room bytes before (moment m source written) → SomeAlong room bytes before (moment (passed n target m) source written)
-along-passes zero room bytes before m target source written room_is fits allowed same along =
+pub along-passes : (n : ℕ) (start : MachineState) (bytes before : Text) (m : MachineState) (target : Memory) (source : Stream) (written : Text) → m.room ≡ start.room → size m.memory ≤ m.room → m.steps + n ≤ m.allowance → PassesTimes n m.memory target → Along start bytes before (moment m source written) → Along start bytes before (moment (passed n target m) source written)
+along-passes zero start bytes before m target source written room_is fits allowed same along =
     let steps : m.steps ≡ m.steps + 0 = omega arith in
-    subst (λ n. SomeAlong room bytes before (moment (record m { memory = target; steps = n }) source written)) steps
-    (subst (λ memory. SomeAlong room bytes before (moment (record m { memory = memory }) source written)) same along)
-along-passes (suc n) room bytes before m target source written room_is fits allowed passes along =
+    subst (λ n. Along start bytes before (moment (record m { memory = target; steps = n }) source written)) steps
+    (subst (λ memory. Along start bytes before (moment (record m { memory = memory }) source written)) same along)
+along-passes (suc n) start bytes before m target source written room_is fits allowed passes along =
     let middle = passes.0 in
     let pass = passes.1.0 in
     let next = one_passed middle m in
     let smaller = pass.no_larger in
-    let here = along-more room bytes before [] (moment m source written) (moment next source written) room_is refl along (goes_on-passes m middle source written (omega arith) fits pass) in
-    let later = along-passes n room bytes before next target source written room_is (omega arith) (omega arith) passes.1.1 here in
+    let here = along-more start bytes before [] (moment m source written) (moment next source written) room_is refl along (goes_on-passes m middle source written (omega arith) fits pass) in
+    let later = along-passes n start bytes before next target source written room_is (omega arith) (omega arith) passes.1.1 here in
     let steps : m.steps + 1 + n ≡ m.steps + suc n = omega arith in
     let peak = peak_after-same n (size m.memory) (size middle) m.peak smaller in
-    subst (λ p. SomeAlong room bytes before (moment (record m { memory = target; steps = m.steps + suc n; peak = p }) source written)) peak
-    (subst (λ k. SomeAlong room bytes before (moment (record m { memory = target; steps = k; peak = peak_after n (size middle) (max m.peak (size m.memory)) }) source written)) steps later)
+    subst (λ p. Along start bytes before (moment (record m { memory = target; steps = m.steps + suc n; peak = p }) source written)) peak
+    (subst (λ k. Along start bytes before (moment (record m { memory = target; steps = k; peak = peak_after n (size middle) (max m.peak (size m.memory)) }) source written)) steps later)

@@ -3,7 +3,7 @@ use Rattle.std.proofs.Common.{◌≡◌, ℕ, zero, suc, List, [], ◌∷◌, �
 use Rattle.std.specs.Prelude.{nat_lt}
 use Rattle.trac_language.specs.declared.mode.Mode.{Mode}
 use Rattle.trac_language.specs.Text.{Text}
-use Rattle.trac_language.specs.State.{OpenCall, Input, State, empty, first}
+use Rattle.trac_language.specs.State.{OpenCall, Memory, Input, State}
 use Rattle.trac_language.specs.Meaning.{Meaning, Gives, Ends}
 use Rattle.trac_language.specs.Rule.{Rule, LoadIdling, DeleteLayout, AddProtected, ClearActive, BeginArgument, BeginCall, EndCall, AddCharacter, rule}
 use Rattle.trac_language.specs.Step.{Outcome, Next, Over, deliver, perform, end_call, with_active, follow, end_need, need_by, step, need}
@@ -83,6 +83,6 @@ module _ (before : Text) where
           ∙ ap (λ o. go_on (need s) o (later_state s) (run room n)) (step-later s)
           ∙ on (need s) (step s) rest
 
--- the run from the first state, after this was printed
-pub run-from : (room n : ℕ) (input : Input) (before : Text) → run room n (state_with empty input before) ≡ later_run before (run room n (first input))
-run-from room n input before = ap (λ o. run room n (state_with empty input o)) (sym (append-nil before)) ∙ run-later before room n (first input)
+-- the run from a state, after this was printed
+pub run-from : (room n : ℕ) (memory : Memory) (input : Input) (before : Text) → run room n (state_with memory input before) ≡ later_run before (run room n (state_with memory input []))
+run-from room n memory input before = ap (λ o. run room n (state_with memory input o)) (sym (append-nil before)) ∙ run-later before room n (state_with memory input [])

@@ -1,120 +1,153 @@
 -- What a run reports at its last step.
-use Rattle.std.proofs.Common.{◌≡◌, ℕ, ◌+◌, max, ◌++◌, Some, refl, sym, ap, ◌∙◌, arith, append_assoc}
+use Rattle.std.proofs.Common.{◌≡◌, ℕ, ◌+◌, ◌-◌, max, [], ◌++◌, Some, refl, sym, ap, ◌∙◌, subst, arith, append_assoc}
 use Rattle.std.proofs.lemmas.List.{append_cancel_left}
 use Rattle.trac_language.specs.declared.fate.Fate.{Fate}
 use Rattle.trac_language.specs.declared.fate.Fate.TheVariants.{Halted, InputEnded, Workspace, Steps, InputFailed, OutputFailed}
 use Rattle.trac_language.specs.Text.{Text}
-use Rattle.trac_language.specs.State.{State, empty, first}
+use Rattle.trac_language.specs.State.{Input, State, first}
 use Rattle.trac_language.specs.Step.{need}
 use Rattle.trac_language.specs.Run.{Run, counted, run}
 use Rattle.trac_laws.proofs.Reached.{reached_over, reached_full, reached_spent, reached_unwritten}
 use Rattle.trac_laws.proofs.ReachedWhileReading.{anywhere_failed}
 use Rattle.trac_core.specs.declared.machine.Report.{Report}
-use Rattle.trac_core.specs.Machine.{MachineState, Moment, ending, failing, state_with, state_of, failing_state_of, StopsAtAllowance, StopsAtRoom, StopsAtInput, StopsAtOutput, EndsRun, Answers, Course, IsReportOf, RanThrough, RanToFailure, BrokeOff, Reports, whole_run}
+use Rattle.trac_core.specs.Machine.{MachineState, Moment, ending, failing, state_with, state_of, failing_state_of, StopsAtAllowance, StopsAtRoom, StopsAtInput, StopsAtOutput, EndsRun, Answers, Course, IsReportOf, RanThrough, RanToFailure, BrokeOff, ReportsOf, Reports, Resumes, after_steps, first_runs, later_runs, made}
 use Rattle.trac_core.proofs.Outputs.{later_run, run-from}
-use Rattle.trac_core.proofs.Moments.{SomeAlong}
+use Rattle.trac_core.proofs.Moments.{Along}
 
 -- what a machine reports that stands so
 abbrev pub report_of : Fate → MachineState → Report
 report_of fate m = record { fate = fate; steps = m.steps; peak = m.peak }
 
 -- a run from these bytes and this output up to now
-abbrev pub course_to : ℕ → ℕ → Text → Text → Moment → Course
-course_to room allowance bytes before now =
-    record { room = room; allowance = allowance; bytes = bytes; bytes_left = now.source.bytes; before = before; after = now.written }
+abbrev pub course_to : MachineState → Text → Text → Moment → Course
+course_to start bytes before now =
+    record { room = start.room; allowance = start.allowance; bytes = bytes; bytes_left = now.source.bytes; before = before; after = now.written }
 
 -- the numbers of a run
 abbrev run_with : Text → Text → Fate → ℕ → ℕ → Run
 run_with output left fate steps peak = record { output = output; left = left; fate = fate; steps = steps; peak = peak }
 
--- a run whose numbers are known, with what was printed before it
-is-report : (r : Run) (c : Course) (report : Report) (output left : Text) (steps peak : ℕ) → record r { output = c.before ++ r.output } ≡ run_with output left report.fate steps peak → c.after ≡ output → report.steps ≡ steps → report.peak ≡ peak → IsReportOf r c report
-is-report r c report output left steps peak e after steps_is peak_is =
+-- a run whose numbers are known, with what was printed before it, after so many steps with this peak
+is-report : (done top : ℕ) (r : Run) (c : Course) (report : Report) (output left : Text) (steps peak : ℕ) → record r { output = c.before ++ r.output } ≡ run_with output left report.fate steps peak → c.after ≡ output → report.steps ≡ done + steps → report.peak ≡ max top peak → IsReportOf (after_steps done top r) c report
+is-report done top r c report output left steps peak e after steps_is peak_is =
     record {
       fate = sym (ap (λ (r : Run). r.fate) e);
-      steps = steps_is ∙ sym (ap (λ (r : Run). r.steps) e);
-      peak = peak_is ∙ sym (ap (λ (r : Run). r.peak) e);
+      steps = steps_is ∙ ap (λ n. done + n) (sym (ap (λ (r : Run). r.steps) e));
+      peak = peak_is ∙ ap (max top) (sym (ap (λ (r : Run). r.peak) e));
       written = after ∙ sym (ap (λ (r : Run). r.output) e);
     }
 
-module _ (room allowance : ℕ) (bytes before : Text) (old new : Moment) (room_is : old.machine.room ≡ room) (allowance_is : old.machine.allowance ≡ allowance) (along : SomeAlong room bytes before old) where
-  pub at-allowance : StopsAtAllowance old new → RanThrough (course_to room allowance bytes before new) (report_of Steps new.machine)
+module _ (start : MachineState) (bytes before : Text) (old new : Moment) (room_is : old.machine.room ≡ start.room) (allowance_is : old.machine.allowance ≡ start.allowance) (along : Along start bytes before old) where
+  pub at-allowance : StopsAtAllowance old new → RanThrough (later_runs start) (course_to start bytes before new) (report_of Steps new.machine)
   at-allowance stop =
-      let start = state_with empty (ending bytes) before in
-      let total : allowance ≡ old.machine.steps = omega (arith, stop.used_up, allowance_is) in
-      let whole = sym (run-from room allowance (ending bytes) before) ∙ ap (λ n. run room n start) total ∙ reached_spent room start old.machine.steps old.machine.peak (state_of old) along.1.whole in
+      let from = state_with start.memory (ending bytes) before in
+      let n = along.count in
+      let here = along.steps_is in
+      let top = along.peak_is in
+      let total : start.allowance - start.steps ≡ n = omega (arith, stop.used_up, allowance_is) in
+      let whole = sym (run-from start.room (start.allowance - start.steps) start.memory (ending bytes) before) ∙ ap (λ k. run start.room k from) total ∙ reached_spent start.room from n along.peak (state_of old) along.whole in
       let counts = stop.counts.steps in
       let peaks = stop.counts.peak in
       record {
-        is_report = is-report _ (course_to room allowance bytes before new) (report_of Steps new.machine) old.written old.source.bytes old.machine.steps old.machine.peak whole stop.written (omega arith) (omega arith);
+        is_report = is-report start.steps start.peak _ (course_to start bytes before new) (report_of Steps new.machine) old.written old.source.bytes n along.peak whole stop.written (omega arith) (omega arith);
         left = ap (λ s. s.bytes) stop.source ∙ sym (ap (λ (r : Run). r.left) whole);
       }
 
-  pub at-room : StopsAtRoom old new → IsReportOf (whole_run (course_to room allowance bytes before new)) (course_to room allowance bytes before new) (report_of Workspace new.machine)
+  pub at-room : StopsAtRoom old new → IsReportOf (later_runs start (ending bytes) start.allowance) (course_to start bytes before new) (report_of Workspace new.machine)
   at-room stop =
-      let start = state_with empty (ending bytes) before in
+      let from = state_with start.memory (ending bytes) before in
+      let n = along.count in
+      let here = along.steps_is in
+      let top = along.peak_is in
       let allowed = stop.allowed in
       let full = stop.full in
       let counts = stop.counts.steps in
       let peaks = stop.counts.peak in
-      let whole = sym (run-from room allowance (ending bytes) before) ∙ reached_full room start old.machine.steps old.machine.peak (state_of old) along.1.whole allowance (omega arith) (omega arith) in
-      is-report _ (course_to room allowance bytes before new) (report_of Workspace new.machine) old.written old.source.bytes old.machine.steps old.machine.peak whole stop.written (omega arith) (omega arith)
+      let whole = sym (run-from start.room (start.allowance - start.steps) start.memory (ending bytes) before) ∙ reached_full start.room from n along.peak (state_of old) along.whole (start.allowance - start.steps) (omega arith) (omega arith) in
+      is-report start.steps start.peak _ (course_to start bytes before new) (report_of Workspace new.machine) old.written old.source.bytes n along.peak whole stop.written (omega arith) (omega arith)
 
-  pub at-end : (fate : Fate) → counted fate ≡ 1 → EndsRun fate old new → RanThrough (course_to room allowance bytes before new) (report_of fate new.machine)
+  pub at-end : (fate : Fate) → counted fate ≡ 1 → EndsRun fate old new → RanThrough (later_runs start) (course_to start bytes before new) (report_of fate new.machine)
   at-end fate counts_one stop =
-      let start = state_with empty (ending bytes) before in
+      let from = state_with start.memory (ending bytes) before in
+      let n = along.count in
+      let here = along.steps_is in
+      let top = along.peak_is in
       let allowed = stop.may.allowed in
       let fits = stop.may.fits in
       let counts = stop.counts.steps in
-      let whole = sym (run-from room allowance (ending bytes) before) ∙ reached_over room start old.machine.steps old.machine.peak (state_of old) along.1.whole allowance fate (omega arith) (omega arith) stop.ends in
+      let peaks = stop.counts.peak in
+      let whole = sym (run-from start.room (start.allowance - start.steps) start.memory (ending bytes) before) ∙ reached_over start.room from n along.peak (state_of old) along.whole (start.allowance - start.steps) fate (omega arith) (omega arith) stop.ends in
       record {
-        is_report = is-report _ (course_to room allowance bytes before new) (report_of fate new.machine) old.written old.source.bytes (old.machine.steps + counted fate) (max old.machine.peak (need (state_of old))) whole stop.written (omega arith) stop.counts.peak;
+        is_report = is-report start.steps start.peak _ (course_to start bytes before new) (report_of fate new.machine) old.written old.source.bytes (n + counted fate) (max along.peak (need (state_of old))) whole stop.written (omega arith) (omega arith);
         left = stop.source ∙ sym (ap (λ (r : Run). r.left) whole);
       }
 
-  pub at-input : (given : Text) → StopsAtInput old new given → (all : Text) × RanToFailure (course_to room allowance bytes before new) (report_of InputFailed new.machine) all
+  pub at-input : (given : Text) → StopsAtInput old new given → (all : Text) × RanToFailure (later_runs start) (course_to start bytes before new) (report_of InputFailed new.machine) all
   at-input given stop =
-      let taken = along.0 in
+      let taken = along.given in
+      let n = along.count in
+      let here = along.steps_is in
+      let top = along.peak_is in
       let allowed = stop.may.allowed in
       let fits = stop.may.fits in
       let counts = stop.counts.steps in
-      let whole = sym (run-from room allowance (failing (taken ++ given)) before)
-      ∙ anywhere_failed room empty before taken old.machine.steps old.machine.peak old.machine.memory old.written (along.1.cut stop.not_ended) given allowance (omega arith) (omega arith) stop.ends in (
+      let peaks = stop.counts.peak in
+      let whole = sym (run-from start.room (start.allowance - start.steps) start.memory (failing (taken ++ given)) before)
+      ∙ anywhere_failed start.room start.memory before taken n along.peak old.machine.memory old.written (along.cut stop.not_ended) given (start.allowance - start.steps) (omega arith) (omega arith) stop.ends in (
         taken ++ given,
         record {
-          consumed = along.1.consumed ∙ ap (λ t. taken ++ t) stop.consumed ∙ sym (append_assoc taken given new.source.bytes);
-          is_report = is-report _ (course_to room allowance bytes before new) (report_of InputFailed new.machine) old.written given (old.machine.steps + 0) (max old.machine.peak (need (failing_state_of old given))) whole stop.written (omega arith) stop.counts.peak;
+          consumed = along.consumed ∙ ap (λ t. taken ++ t) stop.consumed ∙ sym (append_assoc taken given new.source.bytes);
+          is_report = is-report start.steps start.peak _ (course_to start bytes before new) (report_of InputFailed new.machine) old.written given (n + 0) (max along.peak (need (failing_state_of old given))) whole stop.written (omega arith) (omega arith);
         },
       )
 
-  pub at-output : (next : State) (put rest : Text) → StopsAtOutput old new next put rest → BrokeOff (course_to room allowance bytes before new) (report_of OutputFailed new.machine) put rest
+  pub at-output : (next : State) (put rest : Text) → StopsAtOutput old new next put rest → BrokeOff (later_runs start) (course_to start bytes before new) (report_of OutputFailed new.machine) put rest
   at-output next put rest stop =
-      let start = state_with empty (ending bytes) before in
-      let n = old.machine.steps in
+      let from = state_with start.memory (ending bytes) before in
+      let n = along.count in
+      let here = along.steps_is in
+      let top = along.peak_is in
       let allowed = stop.may.allowed in
       let fits = stop.may.fits in
       let counts = stop.counts.steps in
-      let same : new.machine.steps ≡ old.machine.steps = omega arith in
-      let runs = reached_unwritten room start old.machine.steps old.machine.peak (state_of old) next along.1.whole (omega arith) stop.goes in
-      let before_is = ap (later_run before) (ap (λ k. run room k (first (ending bytes))) same) ∙ sym (run-from room old.machine.steps (ending bytes) before) ∙ runs.0 in
-      let after_is = ap (later_run before) (ap (λ k. run room (k + 1) (first (ending bytes))) same) ∙ sym (run-from room (old.machine.steps + 1) (ending bytes) before) ∙ runs.1 in
+      let peaks = stop.counts.peak in
+      let same : new.machine.steps - start.steps ≡ n = omega arith in
+      let more : new.machine.steps + 1 - start.steps ≡ n + 1 = omega arith in
+      let runs = reached_unwritten start.room from n along.peak (state_of old) next along.whole (omega arith) stop.goes in
+      let before_is = ap (λ k. later_run before (run start.room k (state_with start.memory (ending bytes) []))) same ∙ sym (run-from start.room n start.memory (ending bytes) before) ∙ runs.0 in
+      let after_is = ap (λ k. later_run before (run start.room k (state_with start.memory (ending bytes) []))) more ∙ sym (run-from start.room (n + 1) start.memory (ending bytes) before) ∙ runs.1 in
       let out_before = ap (λ (r : Run). r.output) before_is in
       let out_after = ap (λ (r : Run). r.output) after_is in
+      let peak_after : new.machine.peak ≡ max start.peak (max along.peak (need (state_of old))) = omega arith in
       record {
         allowed = omega arith;
         before_step = ap (λ (r : Run). r.fate) before_is;
         after_step = ap (λ (r : Run). r.fate) after_is;
-        peak = stop.counts.peak ∙ sym (ap (λ (r : Run). r.peak) after_is);
+        peak = peak_after ∙ ap (max start.peak) (sym (ap (λ (r : Run). r.peak) after_is));
         prints = append_cancel_left before _ _ (out_after ∙ stop.prints ∙ ap (λ t. t ++ (put ++ rest)) (sym out_before) ∙ append_assoc before _ (put ++ rest));
         some = stop.some;
         written = stop.written ∙ ap (λ t. t ++ put) (sym out_before) ∙ append_assoc before _ put;
       }
 
   -- what the last answer of a run says is what the run reports
-  pub reported : (fate : Fate) → Answers old (Some fate) new → Reports fate (course_to room allowance bytes before new) (report_of fate new.machine)
+  pub reported : (fate : Fate) → Answers old (Some fate) new → Resumes start fate (course_to start bytes before new) (report_of fate new.machine)
   reported Halted stop = at-end Halted refl stop
   reported InputEnded stop = at-end InputEnded refl stop
   reported Steps stop = at-allowance stop
   reported Workspace stop = at-room stop
   reported InputFailed stop = at-input stop.0 stop.1
   reported OutputFailed stop = (stop.1.0, (stop.1.1.0, at-output stop.0 stop.1.0 stop.1.1.0 stop.1.1.1))
+
+-- the runs from where a new machine stands are those from the first state
+first-run : (room allowance : ℕ) (input : Input) (k : ℕ) → later_runs (made room allowance) input k ≡ first_runs room input k
+first-run room allowance input k =
+    let same : k - 0 ≡ k = omega arith in
+    let r = run room k (first input) in
+    let steps : 0 + r.steps ≡ r.steps = omega arith in
+    let peak : max 0 r.peak ≡ r.peak = omega arith in
+    ap (λ n. after_steps 0 0 (run room n (first input))) same ∙ (λ i. record r { steps = steps i; peak = peak i })
+
+pub reports-made : (m : MachineState) → m ≡ made m.room m.allowance → (fate : Fate) (c : Course) (report : Report) → c.room ≡ m.room → Resumes m fate c report → Reports fate c report
+reports-made m new fate c report room_is told =
+    let runs : later_runs m ≡ first_runs c.room = ap later_runs new ∙ (λ i input k. first-run m.room m.allowance input k i) ∙ ap first_runs (sym room_is) in
+    subst (λ runs. ReportsOf runs fate c report) runs told

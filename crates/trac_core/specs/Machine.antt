@@ -1,5 +1,5 @@
 -- What contracts see of a machine, what a step of it answers, and what a run of it reports.
-use Rattle.std.specs.Prelude.{◌≡◌, ◌≢◌, ℕ, ◌+◌, ◌<◌, ◌≤◌, max, Bool, true, false, []}
+use Rattle.std.specs.Prelude.{◌≡◌, ◌≢◌, ℕ, ◌+◌, ◌-◌, ◌<◌, ◌≤◌, max, Bool, true, false, []}
 use Rattle.std.specs.Prelude.{◌++◌, length, Option, Some, None}
 use Rattle.trac_language.specs.declared.fate.Fate.{Fate}
 use Rattle.trac_language.specs.declared.fate.Fate.TheVariants.{Halted, InputEnded, Workspace, Steps}
@@ -185,44 +185,62 @@ pub record IsReportOf (r : Run) (c : Course) (report : Report) : Type 0 where
   pub peak : report.peak ≡ r.peak
   pub written : c.after ≡ c.before ++ r.output
 
--- the definition's run over all bytes of the source and then the end
-abbrev pub whole_run : Course → Run
-whole_run c = run c.room c.allowance (first (ending c.bytes))
-
--- that run under another allowance
-abbrev pub run_of : Course → ℕ → Run
-run_of c steps = run c.room steps (first (ending c.bytes))
-
 -- no device failed, and the source holds what the run did not consume
-pub record RanThrough (c : Course) (report : Report) : Type 0 where
-  pub is_report : IsReportOf (whole_run c) c report
-  pub left : c.bytes_left ≡ (whole_run c).left
+pub record RanThrough (runs : Input → ℕ → Run) (c : Course) (report : Report) : Type 0 where
+  pub is_report : IsReportOf (runs (ending c.bytes) c.allowance) c report
+  pub left : c.bytes_left ≡ (runs (ending c.bytes) c.allowance).left
 
 -- the source failed after it gave some bytes: the run is that over these and then a failure
-pub record RanToFailure (c : Course) (report : Report) (given : Text) : Type 0 where
+pub record RanToFailure (runs : Input → ℕ → Run) (c : Course) (report : Report) (given : Text)
+    : Type 0 where
   pub consumed : c.bytes ≡ given ++ c.bytes_left
-  pub is_report : IsReportOf (run c.room c.allowance (first (failing given))) c report
+  pub is_report : IsReportOf (runs (failing given) c.allowance) c report
 
 -- the sink failed in the step after those reported: of what
 -- it prints, put and rest, only put was written
-pub record BrokeOff (c : Course) (report : Report) (put rest : Text) : Type 0 where
+pub record BrokeOff (runs : Input → ℕ → Run) (c : Course) (report : Report) (put rest : Text)
+    : Type 0 where
   pub allowed : report.steps < c.allowance
-  pub before_step : (run_of c report.steps).fate ≡ Steps
-  pub after_step : (run_of c (report.steps + 1)).fate ≡ Steps
-  pub peak : report.peak ≡ (run_of c (report.steps + 1)).peak
+  pub before_step : (runs (ending c.bytes) report.steps).fate ≡ Steps
+  pub after_step : (runs (ending c.bytes) (report.steps + 1)).fate ≡ Steps
+  pub peak : report.peak ≡ (runs (ending c.bytes) (report.steps + 1)).peak
   pub prints :
-      (run_of c (report.steps + 1)).output ≡ (run_of c report.steps).output ++ (put ++ rest)
+      (runs (ending c.bytes) (report.steps + 1)).output
+      ≡ (runs (ending c.bytes) report.steps).output ++ (put ++ rest)
   pub some : put ++ rest ≢ []
-  pub written : c.after ≡ c.before ++ ((run_of c report.steps).output ++ put)
+  pub written : c.after ≡ c.before ++ ((runs (ending c.bytes) report.steps).output ++ put)
+
+-- what a report with this fate says, where these are the definition's runs, each over all bytes of
+-- an input and with an allowance
+abbrev pub ReportsOf : (Input → ℕ → Run) → Fate → Course → Report → Type 0
+ReportsOf runs Halted c report = RanThrough runs c report
+ReportsOf runs InputEnded c report = RanThrough runs c report
+ReportsOf runs Steps c report = RanThrough runs c report
+ReportsOf runs Workspace c report = IsReportOf (runs (ending c.bytes) c.allowance) c report
+ReportsOf runs InputFailed c report = (given : Text) × RanToFailure runs c report given
+ReportsOf runs OutputFailed c report =
+    (put : Text) × ((rest : Text) × BrokeOff runs c report put rest)
+
+-- the definition's runs in a room, from the first state
+abbrev pub first_runs : ℕ → Input → ℕ → Run
+first_runs room input allowance = run room allowance (first input)
 
 -- what a report with this fate says of the run
 abbrev pub Reports : Fate → Course → Report → Type 0
-Reports Halted c report = RanThrough c report
-Reports InputEnded c report = RanThrough c report
-Reports Steps c report = RanThrough c report
-Reports Workspace c report = IsReportOf (whole_run c) c report
-Reports InputFailed c report = (given : Text) × RanToFailure c report given
-Reports OutputFailed c report = (put : Text) × ((rest : Text) × BrokeOff c report put rest)
+Reports fate c report = ReportsOf (first_runs c.room) fate c report
+
+-- a run after so many steps, the greatest of whose needs is the peak
+abbrev pub after_steps : (steps peak : ℕ) → Run → Run
+after_steps steps peak r = record r { steps = steps + r.steps; peak = max peak r.peak }
+
+-- the definition's runs from where a machine stands, after its steps: they print what follows
+abbrev pub later_runs : MachineState → Input → ℕ → Run
+later_runs m input allowance =
+    after_steps m.steps m.peak (run m.room (allowance - m.steps) (state_with m.memory input []))
+
+-- what a report with this fate says of a run that goes on from where a machine stands
+abbrev pub Resumes : MachineState → Fate → Course → Report → Type 0
+Resumes m fate c report = ReportsOf (later_runs m) fate c report
 
 -- the course of a run of this machine from what its devices held to what they hold now
 abbrev pub course : MachineState → Stream → Text → Stream → Text → Course

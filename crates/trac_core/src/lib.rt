@@ -10,14 +10,14 @@ mod machine;
 mod scan;
 mod text_io;
 
-pub use machine::{Machine, Report, ScanningRule};
+pub use machine::{Awaits, Machine, Report, ScanningRule};
 pub use trac_devices::{
     BufferedReader, BufferedWriter, Input, Next, Output, ReadSource, RetryingReader,
     RetryingWriter, Sink, SinkFailed, SliceSink, SliceSource, Source, TRIES, WriteSink,
     write_characters,
 };
-pub use trac_forms::Work;
-pub use trac_language::Fate;
+pub use trac_forms::{Forms, StoredForm, Work};
+pub use trac_language::{Fate, Item};
 pub use trac_laws as laws;
 pub use trac_space::Cell;
 pub use trac_values as values;

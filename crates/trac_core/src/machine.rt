@@ -18,8 +18,10 @@ use trac_forms::Work;
 use trac_language::Fate;
 use trac_space::Cell;
 
+pub(crate) mod session;
 pub(crate) mod view;
 
+pub use session::Awaits;
 pub use view::ScanningRule;
 
 /// What a run came to.
@@ -215,16 +217,7 @@ impl<'a> Machine<'a> {
         ensures steps { result.steps ≤ self.entry.allowance }
         ensures peak { result.peak ≤ self.entry.room }
     {
-        loop {
-            self.scan_on();
-            if let Some(fate) = self.step(source, sink) {
-                return Report {
-                    fate,
-                    steps: self.steps(),
-                    peak: self.peak(),
-                };
-            }
-        }
+        self.resume(source, sink)
     }
 }
 

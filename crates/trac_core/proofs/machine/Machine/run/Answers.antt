@@ -1,96 +1,10 @@
-use Rattle.std.proofs.Common.{◌≡◌, None, ◌∙◌, arith, sym, ap, subst, refl, inl}
-use Rattle.trac_core.specs.Machine.{MachineState, KeepsLimits, moment}
-use Rattle.trac_core.proofs.Moments.{SomeAlong, along-none, along-more, along-passes}
-use Rattle.trac_core.proofs.Reported.{reported}
-use Rattle.trac_core.proofs.Sending.{sent-more}
+use Rattle.std.proofs.Common.{refl, ap}
+use Rattle.trac_core.specs.Machine.{MachineState}
+use Rattle.trac_core.proofs.Reported.{reports-made}
 use Rattle.trac_core.proofs.machine.Machine.run.Goals as goal
 
-pub returns-in-Some-clause-reports : goal.returns-in-Some-clause-reports
-returns-in-Some-clause-reports g c = λ told_source told_sink.
-    let i = c.loop-fate.invariant in
-    let old = c.loop-fate.self in
-    let middle = c.scan_on.new.self in
-    let source = g.I.Source.stream c.loop-fate.source in
-    let written = g.O.Sink.written c.loop-fate.sink in
-    let room = c.args.self.room in
-    let bytes = (g.I.Source.stream c.args.source.now).bytes in
-    let before = g.O.Sink.written c.args.sink.now in
-    let passes = c.scan_on.ensures.passes in
-    let is = passes.1.2 in
-    let kept = c.scan_on.ensures.limits.steps in
-    let steps = ap (λ (m : MachineState). m.steps) is in
-    let allowance = ap (λ (m : MachineState). m.allowance) is in
-    let along = subst (λ (m : MachineState). SomeAlong room bytes before (moment m source written)) (sym is)
-    (along-passes passes.0 room bytes before old passes.1.0 source written i.room i.limits.cells (omega arith) passes.1.1 (i.along told_source told_sink)) in
-    let last = reported room c.args.self.allowance bytes before
-    (moment middle source written)
-    (moment c.step.new.self (g.I.Source.stream c.step.new.source) (g.O.Sink.written c.step.new.sink))
-    (ap (λ (m : MachineState). m.room) is ∙ i.room) (allowance ∙ i.allowance) along c.in-Some.fate
-    (c.in-Some.ensures.answers (ap (λ (m : MachineState). m.fate) is ∙ i.not_over) (i.told_source told_source) (i.told_sink told_sink)) in
-    rw (c.steps.ensures, c.peak.ensures) last
-
-pub returns-in-Some-clause-sent : goal.returns-in-Some-clause-sent
-returns-in-Some-clause-sent g c = λ other.
-    let i = c.loop-fate.invariant in
-    sent-more g.O.Sink.tells g.O.Sink.flushed g.O.Sink.written c.args.sink.now c.loop-fate.sink c.step.new.sink i.told_sink i.sent
-    (c.in-Some.ensures.sent (λ e. other cc))
-
-pub loop-fate-init : goal.loop-fate-init
-loop-fate-init g c =
-    let e = c.requires.made in
-    let self = c.args.self in
-    record {
-      not_over = ap (λ (m : MachineState). m.fate) e;
-      room = refl;
-      allowance = refl;
-      limits = subst KeepsLimits (sym e) (record { cells = omega arith; steps = omega arith; peak = omega arith });
-      source_failures = refl;
-      sink_failures = refl;
-      told_source = λ told. told;
-      told_sink = λ told. told;
-      sent = inl refl;
-      along = λ told_source told_sink.
-          let source = g.I.Source.stream c.args.source.now in
-          let written = g.O.Sink.written c.args.sink.now in
-          subst (λ (m : MachineState). SomeAlong self.room source.bytes written (moment m source written)) (sym e) (along-none self.room self.allowance source written);
-    }
-
-pub loop-fate-preserved : goal.loop-fate-preserved
-loop-fate-preserved g c =
-    let i = c.loop-fate.invariant in
-    let old = c.loop-fate.self in
-    let middle = c.scan_on.new.self in
-    let passes = c.scan_on.ensures.passes in
-    let is = passes.1.2 in
-    let kept = c.scan_on.ensures.limits.steps in
-    let steps = ap (λ (m : MachineState). m.steps) is in
-    let allowance = ap (λ (m : MachineState). m.allowance) is in
-    let room = ap (λ (m : MachineState). m.room) is ∙ i.room in
-    let not_over : middle.fate ≡ None = ap (λ (m : MachineState). m.fate) is ∙ i.not_over in
-    let h = c.in_default.ensures in
-    let source_failed = rw not_over at h.input_failed in
-    let sink_failed = rw not_over at h.output_failed in
-    record {
-      not_over = h.fate;
-      room = h.room ∙ room;
-      allowance = h.allowance ∙ allowance ∙ i.allowance;
-      limits = h.limits;
-      source_failures = omega (arith, i.source_failures, source_failed);
-      sink_failures = omega (arith, i.sink_failures, sink_failed);
-      told_source = λ told. h.told_source (i.told_source told);
-      told_sink = λ told. h.told_sink (i.told_sink told);
-      sent = sent-more g.O.Sink.tells g.O.Sink.flushed g.O.Sink.written c.args.sink.now c.loop-fate.sink c.step.new.sink i.told_sink i.sent (h.sent (λ e. absurd cc));
-      along = λ told_source told_sink.
-          let source = g.I.Source.stream c.loop-fate.source in
-          let written = g.O.Sink.written c.loop-fate.sink in
-          let bytes = (g.I.Source.stream c.args.source.now).bytes in
-          let before = g.O.Sink.written c.args.sink.now in
-          let along = subst (λ (m : MachineState). SomeAlong c.args.self.room bytes before (moment m source written)) (sym is)
-          (along-passes passes.0 c.args.self.room bytes before old passes.1.0 source written i.room i.limits.cells (omega arith) passes.1.1 (i.along told_source told_sink)) in
-          let took = h.takes (i.told_source told_source) in
-          along-more c.args.self.room bytes before took.0
-          (moment middle source written)
-          (moment c.step.new.self (g.I.Source.stream c.step.new.source) (g.O.Sink.written c.step.new.sink))
-          room took.1.consumed along
-          (h.answers not_over (i.told_source told_source) (i.told_sink told_sink));
-    }
+pub returns-clause-reports : goal.returns-clause-reports
+returns-clause-reports g c = λ told_source told_sink.
+    let not_over = ap (λ (m : MachineState). m.fate) c.requires.made in
+    reports-made c.args.self c.requires.made c.resume.result.fate _ c.resume.result refl
+    (c.resume.ensures.reports not_over told_source told_sink)

@@ -1,0 +1,59 @@
+-- The function that a step performs, by what stands in the active and in the neutral string.
+use Rattle.std.proofs.Common.{◌≡◌, ◌≢◌, ℕ, Bool, true, false, [], ◌∷◌, List, drop, take, slice_get, Option, Some, None, refl, sym, ap, ◌∙◌}
+use Rattle.std.specs.Prelude.{◌==◌, if◌then◌else◌, bytes_eq, codes}
+use Rattle.std.proofs.lemmas.Bool.{ne_eqb}
+use Rattle.trac_language.specs.declared.mode.Mode.TheVariants.{Active, Neutral}
+use Rattle.trac_language.specs.Text.{Text}
+use Rattle.trac_language.specs.Protected.{protected}
+use Rattle.trac_language.specs.State.{OpenCall}
+use Rattle.trac_language.specs.Rule.{DeleteLayout, BeginArgument, BeginCall, EndCall, AddCharacter, is_layout, number_sign_rule, parenthesis_rule, rule}
+use Rattle.trac_laws.proofs.Rules.{rule_end}
+use Rattle.trac_space.specs.Cells.{NoCall}
+use Rattle.trac_space.specs.Calls.{IsLastCall}
+use Rattle.trac_space.specs.Texts.{text_of_cells}
+use Rattle.trac_forms.specs.Contents.{Contents, IsSound}
+use Rattle.trac_functions.specs.Flat.{memory_of, neutral_of}
+use Rattle.trac_functions.proofs.FlatLemmas.{calls-none}
+use Rattle.trac_core.specs.Performed.{performed_by, performs}
+use Rattle.trac_core.specs.Attempts.{function_at}
+use Rattle.trac_core.proofs.Performing.{performs-closed, function-performs}
+use Rattle.trac_core.proofs.Scanning.{first-rest}
+
+parenthesis-performs : (o : Option (Text × Text)) (calls : List OpenCall) → performed_by (parenthesis_rule o) calls ≡ None
+parenthesis-performs None calls = refl
+parenthesis-performs (Some parts) calls = refl
+
+sign-performs : (a b : Bool) (text : Text) (calls : List OpenCall) → performed_by (if a then BeginCall Active (drop 1 text) else (if b then BeginCall Neutral (drop 2 text) else AddCharacter 35 text)) calls ≡ None
+sign-performs true b text calls = refl
+sign-performs false true text calls = refl
+sign-performs false false text calls = refl
+
+-- only a right parenthesis performs a call
+first-performs : (text : Text) (calls : List OpenCall) → slice_get text 0 ≢ Some 41 → performed_by (rule text) calls ≡ None
+unfolding rule
+first-performs [] calls other = refl
+first-performs (c ∷ rest) calls other = go (is_layout c) (c == 40) (c == 44) (c == 35) (c == 41) (ne_eqb c 41 (λ e. other (ap Some e)))
+  where
+    go : (layout opens comma sign closes : Bool) → closes ≡ false → performed_by (if layout then DeleteLayout rest else (if opens then parenthesis_rule (protected rest) else (if comma then BeginArgument rest else (if sign then number_sign_rule rest else (if closes then EndCall rest else AddCharacter c rest))))) calls ≡ None
+    go true opens comma sign closes e = refl
+    go false true comma sign closes e = parenthesis-performs (protected rest) calls
+    go false false true sign closes e = refl
+    go false false false true closes e = sign-performs (bytes_eq (take 1 rest) (codes "(")) (bytes_eq (take 2 rest) (codes "#(")) rest calls
+    go false false false false true e = absurd cc
+    go false false false false false e = refl
+
+pub performs-other : (w : Contents) (meta : ℕ) → slice_get (text_of_cells w.active) 0 ≢ Some 41 → None ≡ performs (memory_of meta w)
+performs-other w meta other = sym (first-performs (text_of_cells w.active) (memory_of meta w).calls other)
+
+-- and that only where a call is open
+pub performs-none : (w : Contents) (meta : ℕ) → slice_get (text_of_cells w.active) 0 ≡ Some 41 → NoCall w.neutral → None ≡ performs (memory_of meta w)
+performs-none w meta first none =
+    let text = text_of_cells w.active in
+    sym (ap (λ t. performed_by (rule t) (neutral_of w.neutral).calls) (first-rest text 41 first)
+    ∙ ap (λ r. performed_by r (neutral_of w.neutral).calls) (rule_end (drop 1 text))
+    ∙ ap (performed_by (EndCall (drop 1 text))) (calls-none w.neutral none))
+
+pub performs-innermost : (w : Contents) (place meta : ℕ) → IsSound w → slice_get (text_of_cells w.active) 0 ≡ Some 41 → IsLastCall w.neutral place → function_at w.neutral place ≡ performs (memory_of meta w)
+performs-innermost w place meta sound first last =
+    let after = record w { active = drop 1 w.active } in
+    sym (function-performs w after place meta (performs-closed w after place sound first last refl))

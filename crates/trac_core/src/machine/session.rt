@@ -1,0 +1,180 @@
+//! Sessions: a machine that is looked at, fed in pieces and used again.
+ghost use Rattle.std.specs.Prelude.{◌≡◌, ◌≢◌, ◌+◌, ◌-◌, ◌^◌, ◌<◌, ◌≤◌, ℕ, [], None, Some};
+ghost use Rattle.std.specs.Prelude.{IsSome};
+ghost use Rattle.trac_space.specs.Calls.{IsLastCall};
+ghost use Rattle.trac_devices.specs.Devices.{Sent};
+ghost use Rattle.trac_functions.specs.Flat.{memory_of};
+ghost use Rattle.trac_core.specs.Performed.{performs};
+ghost use Rattle.trac_core.specs.Machine.{KeepsLimits, Resumes, course, input_failures};
+ghost use Rattle.trac_core.specs.Machine.{output_failures};
+ghost use Rattle.trac_core.specs.Session.{awaited, next_function};
+ghost use Rattle.trac_core.specs.Attempts.{function_at};
+
+use super::{Machine, Report};
+use crate::scan::is_at;
+use trac_devices::{Sink, Source};
+use trac_forms::{Forms, Work};
+use trac_functions::arguments::{Arguments, text};
+use trac_functions::function::function_named;
+use trac_language::{Fate, Function};
+
+/// What the next step of a machine reads.
+#[derive(Clone, Copy, Debug, PartialEq, Eq)]
+pub enum Awaits {
+    /// It reads nothing, or there is no next step: the run is over, or the allowance is used up.
+    Nothing,
+    /// It performs `rs`: it reads a string up to the meta character, or to the end.
+    Text,
+    /// It performs `rc`: it reads one byte.
+    Byte,
+}
+
+impl<'a> Machine<'a> {
+    /// Clears both strings, with the calls that are open, and begins a new run with an allowance of
+    /// so many steps. The run isn't over then; the steps and the peak count from 0. The forms with
+    /// their pointers, the meta character and the block stay. This processor's own choice.
+    pub fn again(&mut self, steps: u64)
+        ensures after { self.new ≡ record self.old {
+          memory = record self.old.memory { active = []; base = []; calls = [] };
+          allowance = steps;
+          steps = 0;
+          peak = 0;
+          fate = None;
+        } }
+        ensures limits { KeepsLimits self.new }
+    {
+        self.work.clear_active();
+        self.work.clear_neutral();
+        self.allowance = steps;
+        self.steps = 0;
+        self.peak = 0;
+        self.fate = None;
+    }
+
+    /// Makes steps to the end of the run, as `run` does, from wherever the machine stands, and
+    /// leaves it to be looked at: the report has its steps and its peak. With neither device
+    /// failing, what is printed, the fate, the steps and the peak are those of the definition's run
+    /// from there. Where the run is over already, the same fate is reported again, and nothing is
+    /// called.
+    pub fn resume<I: Source, O: Sink>(&mut self, source: &mut I, sink: &mut O) -> Report
+        requires source_counts { I.failure_count source.old < 2 ^ 64 - 1 }
+        requires sink_counts { O.failure_count sink.old < 2 ^ 64 - 1 }
+        ensures reports { self.old.fate ≡ None → I.tells source.old → O.tells sink.old →
+            let course = course self.old (I.stream source.old) (O.written sink.old)
+            (I.stream source.new) (O.written sink.new) in
+            Resumes self.old result.fate course result }
+        // a run that is over stays so, and its devices are not called
+        ensures over { IsSome self.old.fate →
+            (self.new ≡ self.old) × (source.new ≡ source.old) × (sink.new ≡ sink.old) }
+        // the machine after it
+        ensures told { result ≡ record {
+          fate = result.fate;
+          steps = self.new.steps;
+          peak = self.new.peak;
+        } }
+        ensures fate { self.new.fate ≡ Some result.fate }
+        // the failures of the devices are told, and no others
+        ensures input_failed { I.failure_count source.new ≡
+            I.failure_count source.old + input_failures self.old.fate (Some result.fate) }
+        ensures output_failed { O.failure_count sink.new ≡
+            O.failure_count sink.old + output_failures self.old.fate (Some result.fate) }
+        ensures sent { result.fate ≢ Fate.OutputFailed →
+            Sent O.tells O.flushed O.written sink.old sink.new }
+        ensures told_source { I.tells source.old → I.tells source.new }
+        ensures told_sink { O.tells sink.old → O.tells sink.new }
+        ensures room { self.new.room ≡ self.old.room }
+        ensures allowance { self.new.allowance ≡ self.old.allowance }
+        ensures limits { KeepsLimits self.new }
+    {
+        if let Some(fate) = self.fate {
+            return self.report(fate);
+        }
+        loop {
+            self.scan_on();
+            if let Some(fate) = self.step(source, sink) {
+                return self.report(fate);
+            }
+        }
+    }
+
+    /// The report of a run that ended so.
+    fn report(&self, fate: Fate) -> Report
+        ensures { result ≡ record {
+          fate = fate;
+          steps = self.now.steps;
+          peak = self.now.peak;
+        } }
+    {
+        Report {
+            fate,
+            steps: self.steps,
+            peak: self.peak,
+        }
+    }
+
+    /// The meta character, which ends a string that `rs` reads (Mooers 1966).
+    pub fn meta(&self) -> u8
+        ensures { result ≡ self.now.memory.meta }
+    {
+        self.meta
+    }
+
+    /// The forms, to be looked at in the order in which they were defined.
+    pub fn forms(&self) -> Forms<'_>
+        ensures { result ≡ self.now.memory.forms }
+    {
+        self.work.listed()
+    }
+
+    /// What the next step reads. Where it is `Text` a host may wait for the meta character, and
+    /// where it is `Byte` for one byte, before it makes that step. This processor's own choice.
+    pub fn awaits(&self) -> Awaits
+        ensures { result ≡ awaited (next_function self.now) }
+    {
+        match self.next_function() {
+            Some(Function::ReadString) => Awaits::Text,
+            Some(Function::ReadCharacter) => Awaits::Byte,
+            _ => Awaits::Nothing,
+        }
+    }
+
+    /// The function that the next step performs, none where the run is over or the allowance is
+    /// used up.
+    fn next_function(&self) -> Option<Function>
+        ensures { result ≡ next_function self.now }
+    {
+        if self.fate.is_none() && self.steps < self.allowance {
+            performed(&self.work)
+        } else {
+            None
+        }
+    }
+}
+
+/// The function that a step over these contents performs.
+fn performed(work: &Work) -> Option<Function>
+    ensures { (meta : ℕ) → result ≡ performs (memory_of meta work.now) }
+{
+    prove!(work.used() <= work.room());
+    if !is_at(work, 0, b')') {
+        return None;
+    }
+    match work.last_call() {
+        None => None,
+        Some(place) => named_at(work, place),
+    }
+}
+
+/// The function that the innermost call names, whose mark stands at the place.
+fn named_at(work: &Work, place: u32) -> Option<Function>
+    requires { IsLastCall work.now.neutral place }
+    ensures { result ≡ function_at work.now.neutral place }
+{
+    let end = work.neutral_len();
+    let mut arguments = Arguments {
+        from: place + 1,
+        end,
+    };
+    let name = arguments.next(work);
+    function_named(text(work, name))
+}

@@ -1,0 +1,27 @@
+-- The forms of a `Work` that are looked at, one after the other.
+use Rattle.std.specs.Prelude.{◌≡◌, ℕ, ◌≤◌, List, length, map}
+use Rattle.trac_language.specs.Form.{Form}
+use Rattle.trac_language.specs.Store.{IsStore}
+use Rattle.trac_space.specs.declared.cell.Cell.{Cell}
+use Rattle.trac_space.specs.Cells.{seen}
+use Rattle.trac_space.specs.Texts.{text_of_cells}
+use Rattle.trac_forms.specs.FlatForms.{flat_forms}
+use Rattle.trac_forms.specs.Stored.{item_of, forms_in}
+
+-- the form of these cells
+abbrev pub form_of : List Cell → List Cell → ℕ → Form
+form_of name body pointer =
+    record { name = text_of_cells name; body = map item_of body; pointer = pointer }
+
+-- the cells are those of so many forms and nothing else
+pub record IsListed (cells : List Cell) (count : ℕ) : Type 0 where
+  pub whole : flat_forms (forms_in (map seen cells)) ≡ map seen cells
+  pub count_is : count ≡ length (forms_in (map seen cells))
+  pub bounded : length cells ≤ 16777216
+  pub store : IsStore (forms_in (map seen cells))
+
+-- the cells of a form whose pointer is a place of its body
+pub record IsForm (name body : List Cell) (pointer : ℕ) : Type 0 where
+  pub name_bounded : length name ≤ 16777216
+  pub body_bounded : length body ≤ 16777216
+  pub pointer_within : pointer ≤ length body

@@ -1,0 +1,144 @@
+//! The forms of a `Work`, to be looked at one after the other. Nothing here changes a cell.
+ghost use Rattle.std.specs.Prelude.{◌≡◌, ◌≤◌, List, length, slice_get, Some};
+ghost use Rattle.std.specs.Iterator.{YieldsFirst, item_count};
+ghost use Rattle.trac_language.specs.Form.{Form};
+ghost use Rattle.trac_space.specs.Texts.{text_of_cells};
+ghost use Rattle.trac_forms.specs.Stored.{item_of};
+
+use crate::store::number_in_head;
+use crate::work::Work;
+use std::marker::Model;
+use trac_language::Item;
+use trac_space::Cell;
+
+/// A form as it stands in the block.
+#[derive(Drop)]
+pub struct StoredForm<'a> {
+    name: &'a [Cell],
+    body: &'a [Cell],
+    pointer: u32,
+}
+
+impl<'a> Model for StoredForm<'a> {
+    ghost use Rattle.trac_language.specs.Form.{Form};
+    ghost use Rattle.trac_forms.specs.Listed.{form_of, IsForm};
+
+    ghost Value = { Form };
+
+    ghost view = { λ f. form_of f.name.now f.body.now f.pointer };
+
+    ghost invariant = { λ f. IsForm f.name.now f.body.now f.pointer };
+}
+
+impl<'a> StoredForm<'a> {
+    /// The name, a cell for each character.
+    pub fn name(&self) -> &[Cell]
+        ensures { text_of_cells result.now ≡ self.now.name }
+    {
+        self.name
+    }
+
+    /// How many items the body has.
+    pub fn body_len(&self) -> u32
+        ensures { result ≡ length self.now.body }
+    {
+        self.body.len() as u32
+    }
+
+    /// The item at place `i` of the body, from 0. None where it has no such place.
+    pub fn item(&self, i: u32) -> Option<Item>
+        ensures { result ≡ slice_get self.now.body i }
+    {
+        match self.body.get(i as usize) {
+            Some(cell) => Some(item_of(cell)),
+            None => None,
+        }
+    }
+
+    /// The pointer: the place in the body, from 0 to its length, from which a partial call goes on
+    /// (Mooers 1966).
+    pub fn pointer(&self) -> u32
+        ensures value { result ≡ self.now.pointer }
+        ensures within { result ≤ length self.now.body }
+    {
+        self.pointer
+    }
+}
+
+/// Forms, in the order in which they were defined: an iterator.
+#[derive(Drop)]
+pub struct Forms<'a> {
+    // The cells of the forms that are still to come, and how many these are.
+    cells: &'a [Cell],
+    count: u32,
+}
+
+impl<'a> Model for Forms<'a> {
+    ghost use Rattle.std.specs.Prelude.{List, map};
+    ghost use Rattle.trac_language.specs.Form.{Form};
+    ghost use Rattle.trac_space.specs.Cells.{seen};
+    ghost use Rattle.trac_forms.specs.Stored.{forms_in};
+    ghost use Rattle.trac_forms.specs.Listed.{IsListed};
+
+    ghost Value = { List Form };
+
+    ghost view = { λ f. forms_in (map seen f.cells.now) };
+
+    ghost invariant = { λ f. IsListed f.cells.now f.count };
+}
+
+impl<'a> Forms<'a> {
+    /// How many forms are still to come.
+    pub fn len(&self) -> u32
+        ensures { result ≡ length self.now }
+    {
+        self.count
+    }
+}
+
+impl<'a> Iterator for Forms<'a> {
+    type Item = StoredForm<'a>;
+
+    ghost next_gives = { YieldsFirst (λ (s : List Form). s) };
+
+    ghost remaining = { item_count (λ (s : List Form). s) };
+
+    fn next(&mut self) -> Option<StoredForm<'a>> {
+        if self.count == 0 {
+            return None;
+        }
+        let name_end = 3 + number_in_head(self.cells[0]) as usize;
+        let end = name_end + number_in_head(self.cells[1]) as usize;
+        let form = StoredForm {
+            name: &self.cells[3..name_end],
+            body: &self.cells[name_end..end],
+            pointer: number_in_head(self.cells[2]),
+        };
+        self.cells = &self.cells[end..];
+        self.count -= 1;
+        Some(form)
+    }
+}
+
+impl<'a> Work<'a> {
+    /// The forms, to be looked at in the order in which they were defined.
+    pub fn listed(&self) -> Forms<'_>
+        ensures { result ≡ self.now.forms }
+    {
+        Forms {
+            cells: self.space.store_part(0, self.space.store_len()),
+            count: self.count,
+        }
+    }
+}
+
+// The item of a cell, a gap of ordinal 0 of one that is none.
+pub(crate) fn item_of(cell: &Cell) -> Item
+    ensures { result ≡ item_of cell.now }
+{
+    match *cell {
+        Cell::Byte(byte) => Item::Byte(byte),
+        Cell::Gap(ordinal) => Item::Gap(ordinal),
+        _ => Item::Gap(0),
+    }
+}
