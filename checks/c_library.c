@@ -1,4 +1,6 @@
-/* c_library CELLS STEPS ROOM [STACK]: runs the script on standard input, by trac_run, in a block of
+/* c_library turns CELLS STEPS ROOM PIECE MOST: the same by trac_turn, with the script in pieces of
+ * PIECE bytes and MOST steps a turn; each turn has an output of ROOM bytes.
+ * c_library CELLS STEPS ROOM [STACK]: runs the script on standard input, by trac_run, in a block of
  * CELLS cells with an output of ROOM bytes; with STACK on a stack of so many bytes, between pages
  * that can't be touched. Writes the output on standard output, and the numbers of the report on
  * standard error. Each buffer is as large as is said and no larger, and the block is filled with
@@ -73,10 +75,41 @@ static int pointers(void) {
     return sizeof cells < 64 * TRAC_CELL_SIZE ? 3 : 0;
 }
 
+/* Turns to the end of the run: bytes that weren't consumed are given again with a piece more. */
+static void run_in_turns(size_t piece, uint64_t most) {
+    void *machine = buffer(TRAC_MACHINE_SIZE);
+    size_t start = 0, end = 0, written = 0;
+    if (trac_machine_size() != TRAC_MACHINE_SIZE || trac_open(machine, run.block, run.cells, run.steps))
+        exit(71);
+    do {
+        uint8_t *given = (uint8_t *)buffer(end - start);
+        memcpy(given, run.script + start, end - start);
+        run.report = trac_turn(machine, given, end - start, end == run.script_len, run.output,
+                               run.room, most);
+        free(given);
+        fwrite(run.output, 1, run.report.written, stdout);
+        written += run.report.written;
+        start += run.report.consumed;
+        if (run.report.fate == TRAC_WANTS_INPUT) {
+            if (end == run.script_len)
+                exit(72);
+            end = run.script_len - end < piece ? run.script_len : end + piece;
+        }
+    } while (run.report.fate == TRAC_GOING || run.report.fate == TRAC_WANTS_INPUT);
+    run.report.written = written;
+    run.report.consumed = start;
+    free(machine);
+}
+
 int main(int argc, char **argv) {
     static uint8_t read[1 << 22];
     if (argc == 2 && strcmp(argv[1], "pointers") == 0)
         return pointers();
+    const int in_turns = argc == 7 && strcmp(argv[1], "turns") == 0;
+    if (in_turns) {
+        argc--;
+        argv++;
+    }
     if (argc < 4)
         return 2;
     run.script_len = fread(read, 1, sizeof read, stdin);
@@ -87,11 +120,14 @@ int main(int argc, char **argv) {
     run.script = (uint8_t *)buffer(run.script_len);
     run.output = (uint8_t *)buffer(run.room);
     memcpy(run.script, read, run.script_len);
-    if (argc > 4)
+    if (in_turns)
+        run_in_turns(strtoul(argv[4], 0, 10), strtoull(argv[5], 0, 10));
+    else if (argc > 4)
         run_on_stack(strtoul(argv[4], 0, 10));
     else
         run_at_once();
-    fwrite(run.output, 1, run.report.written, stdout);
+    if (!in_turns)
+        fwrite(run.output, 1, run.report.written, stdout);
     tell(run.report);
     free(run.block);
     free(run.script);

@@ -8,7 +8,7 @@ import tempfile
 import unittest
 
 from rows import rows
-from trac import TOP
+from trac import TOP, report
 
 DIST = os.path.join(TOP, 'dist')
 LIBRARY = os.path.join(DIST, 'libtrac.a')
@@ -27,6 +27,9 @@ STATUS = {1: 0, INPUT_ENDED: 0, WORKSPACE: 1, STEPS: 3}
 LEFT_OPEN = {'memcpy', 'memmove', 'memset', '__divti3', '__udivti3', '__modti3', '__umodti3',
              '__multi3', '__muloti4'}
 
+# The bytes of input that a turn gets more.
+PIECES = (1, 2, 3, 7, 64)
+
 # Bytes of stack that trac_run needs beside what its caller has.
 STACK = 8 * 1024
 
@@ -42,10 +45,10 @@ def compiled(folder, compiler, flags, source=DRIVER):
     return program
 
 
-def call(program, script, *numbers):
+def call(program, script, *numbers, kind=None):
     """What a run printed, and the numbers of its report."""
-    done = subprocess.run([program, *map(str, numbers)], input=script, capture_output=True,
-                          timeout=60)
+    words = ([kind] if kind else []) + [str(number) for number in numbers]
+    done = subprocess.run([program, *words], input=script, capture_output=True, timeout=60)
     if done.returncode:
         raise AssertionError(f'{done.returncode}: {done.stderr.decode()}')
     return done.stdout, *map(int, done.stderr.split())
@@ -73,6 +76,33 @@ class Library(unittest.TestCase):
                     self.assertEqual(left, 0)
                     if fate == INPUT_ENDED:
                         self.assertEqual(consumed, len(row.script))
+
+    def test_each_row_in_turns(self):
+        for piece in PIECES:
+            for most in (1, 1000):
+                # the sanitized program at one size of a turn, which is enough for it
+                program = self.programs[2 if most == 1000 else 0]
+                for row in rows():
+                    with self.subTest(row=row, piece=piece, most=most):
+                        output, fate, steps, peak, written, consumed, left = call(
+                            program, row.script, row.cells, row.allowed, len(row.output), piece,
+                            most, kind='turns')
+                        self.assertEqual(
+                            (output, STATUS.get(fate), steps, peak, written),
+                            (row.output, row.status, row.steps, row.peak, len(row.output)))
+                        self.assertLessEqual(consumed, len(row.script))
+                        self.assertEqual(left, 0)
+
+    def test_a_string_that_the_cells_can_not_hold(self):
+        for length in range(1, 40):
+            script = b'x' * length
+            for cells in range(11, 31):
+                wanted = report(script, '--cells', str(cells))
+                for piece in (1, 7, 64):
+                    with self.subTest(length=length, cells=cells, piece=piece):
+                        output, fate, steps, peak, *_ = call(
+                            self.programs[0], script, cells, 1000, 64, piece, 1000, kind='turns')
+                        self.assertEqual((output, steps, peak, STATUS[fate]), wanted)
 
     def test_an_output_that_is_too_small(self):
         for row in rows():

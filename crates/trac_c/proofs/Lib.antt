@@ -1,3 +1,4 @@
 mod Limits
 mod Loans
 mod Rooms
+mod SameLoan

@@ -4,9 +4,10 @@ use Rattle.trac_language.specs.declared.fate.Fate.{Fate}
 use Rattle.trac_language.specs.declared.fate.Fate.TheVariants.{Halted, InputEnded, Workspace, Steps}
 use Rattle.trac_language.specs.declared.fate.Fate.TheVariants.{InputFailed, OutputFailed}
 use Rattle.trac_language.specs.Text.{Text}
+use Rattle.trac_language.specs.State.{Input}
 use Rattle.trac_language.specs.Run.{Run}
 use Rattle.trac_core.specs.declared.machine.Report.{Report}
-use Rattle.trac_core.specs.Machine.{Course, IsReportOf, RanThrough, Reports, whole_run}
+use Rattle.trac_core.specs.Machine.{Course, IsReportOf, RanThrough, Reports, ending, first_runs}
 use Rattle.trac_c.specs.Told.{course_of}
 
 heads : (x y : ℕ) (xs ys : List ℕ) → x ∷ xs ≡ y ∷ ys → x ≡ y
@@ -39,16 +40,19 @@ module _ (room allowance : ℕ) (script left : Text) (old new : ℕ) (printed : 
     },
   )
 
-  same_run : RanThrough lent report → (new ≡ old) × RanThrough plain report
+  abbrev runs : Input → ℕ → Run
+  runs = first_runs room
+
+  same_run : RanThrough runs lent report → (new ≡ old) × RanThrough runs plain report
   same_run p =
-      let same = same_report (whole_run lent) p.is_report in
+      let same = same_report (runs (ending script) allowance) p.is_report in
       (same.0, record { is_report = same.1; left = p.left })
 
   pub same_loan : (fate : Fate) → Reports fate lent report → (new ≡ old) × Reports fate plain report
   same_loan Halted p = same_run p
   same_loan InputEnded p = same_run p
   same_loan Steps p = same_run p
-  same_loan Workspace p = same_report (whole_run lent) p
+  same_loan Workspace p = same_report (runs (ending script) allowance) p
   same_loan InputFailed p =
       let same = same_report _ p.1.is_report in
       (same.0, (p.0, record { consumed = p.1.consumed; is_report = same.1 }))
