@@ -13,3 +13,4 @@ pub mod Displaying
 pub mod RuleRows
 pub mod ReadTexts
 pub mod Sessions
+pub mod Printed

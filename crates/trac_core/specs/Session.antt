@@ -1,11 +1,15 @@
 -- What a machine's next step reads and prints.
-use Rattle.std.specs.Prelude.{◌&&◌, Option, Some, None, is_none, nat_lt, if◌then◌else◌}
+use Rattle.std.specs.Prelude.{[], ◌&&◌, Option, Some, None, is_none, nat_lt, if◌then◌else◌}
 use Rattle.trac_language.specs.declared.function.Function.{Function}
 use Rattle.trac_language.specs.declared.function.Function.TheVariants.{ReadString, ReadCharacter}
+use Rattle.trac_language.specs.Text.{Text}
+use Rattle.trac_language.specs.State.{Memory, Input}
+use Rattle.trac_language.specs.Meaning.{Meaning, Gives, Ends}
+use Rattle.trac_language.specs.Step.{Outcome, Next, Over, step}
 use Rattle.trac_core.specs.declared.machine.session.Awaits.{Awaits}
-use Rattle.trac_core.specs.declared.machine.session.Awaits.TheVariants.{Nothing, Text, Byte}
+use Rattle.trac_core.specs.declared.machine.session.Awaits.TheVariants.{Nothing, Text as TextAwaited, Byte}
 use Rattle.trac_core.specs.Performed.{performs}
-use Rattle.trac_core.specs.Machine.{MachineState}
+use Rattle.trac_core.specs.Machine.{MachineState, state_with}
 
 -- the function that the next step performs, if there is one: the
 -- run is not over, and the allowance not used up
@@ -16,6 +20,25 @@ next_function m =
 -- what a step reads that performs the function
 abbrev pub awaited : Option Function → Awaits
 awaited None = Nothing
-awaited (Some ReadString) = Text
+awaited (Some ReadString) = TextAwaited
 awaited (Some ReadCharacter) = Byte
 awaited (Some _) = Nothing
+
+-- what a call prints that has this meaning
+abbrev pub printed_in : Meaning → Text
+printed_in (Gives answer) = answer.printed
+printed_in (Ends fate) = []
+
+-- the output after a step, null where it is an end
+abbrev pub output_after : Outcome → Text
+output_after (Next next) = next.output
+output_after (Over fate) = []
+
+-- what a step prints over this input
+abbrev pub step_prints : Memory → Input → Text
+step_prints memory input = output_after (step (state_with memory input []))
+
+-- what the next step prints, if there is one
+abbrev pub next_printed : MachineState → Input → Text
+next_printed m input =
+    if is_none m.fate && nat_lt m.steps m.allowance then step_prints m.memory input else []

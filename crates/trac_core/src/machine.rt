@@ -18,6 +18,7 @@ use trac_forms::Work;
 use trac_language::Fate;
 use trac_space::Cell;
 
+pub(crate) mod printing;
 pub(crate) mod session;
 pub(crate) mod view;
 

@@ -58,7 +58,7 @@ impl<'a> SliceSource<'a> {
         }
     }
 
-    /// The bytes still to come.
+    /// The bytes that are still to come.
     pub fn rest(&self) -> &[u8]
         ensures { result.now ≡ self.now.bytes }
     {

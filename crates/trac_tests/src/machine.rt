@@ -4,6 +4,7 @@ ghost use Rattle.std.specs.Prelude.{◌≤◌, length};
 
 mod devices;
 mod rows;
+mod session;
 mod view;
 
 use rows::{DISPLAYED, FORMS, HALTING, PARTS, READ, REPORTS, SCANNED, VALUES};

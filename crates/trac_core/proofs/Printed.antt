@@ -1,0 +1,193 @@
+-- What a step prints, and how long it is.
+use Rattle.std.proofs.Common.{◌≡◌, ◌≢◌, ℕ, ◌+◌, ◌-◌, ◌<◌, ◌≤◌, Bool, true, false, List, [], ◌∷◌, ◌++◌, length, take, drop, map, slice_range, slice_get, Option, Some, None, refl, sym, ap, ◌∙◌, arith}
+use Rattle.std.specs.Prelude.{codes, ℤ}
+use Rattle.std.proofs.lemmas.List.{length-append, length-map, take-append-drop, take_more}
+use Rattle.std.proofs.lemmas.List.Edits.{length-between}
+use Rattle.trac_language.specs.declared.mode.Mode.{Mode}
+use Rattle.trac_language.specs.declared.item.Item.{Item}
+use Rattle.trac_language.specs.declared.item.Item.TheVariants.{Byte}
+use Rattle.trac_language.specs.declared.fate.Fate.{Fate}
+use Rattle.trac_language.specs.declared.function.Function.{Function}
+use Rattle.trac_language.specs.declared.function.Function.TheVariants.{ReadString, ReadCharacter, ChangeMeta, Halt, PrintString, PrintForm, DefineString, SegmentString, DeleteDefinition, DeleteAll, ListNames, CallForm, CallSegment, CallCharacter, CallNumber, InitialPart, CallRestore, Equal, Greater, Arithmetic, Union, Intersection, Complement, Shift, Rotate}
+use Rattle.trac_language.specs.Text.{Text}
+use Rattle.trac_language.specs.Form.{Form, before_pointer, after_pointer}
+use Rattle.trac_language.specs.Part.{Part}
+use Rattle.trac_language.specs.State.{OpenCall, Memory, Input, State, arguments, argument}
+use Rattle.trac_language.specs.Meaning.{World, Meaning, Gives, Ends, on_form, take_part, result_or, read_all, read_string, read_character, change_meta, show, show_form, meaning, meaning_of, before_meta, from_meta, form_of_call}
+use Rattle.trac_language.specs.Rule.{Rule, LoadIdling, DeleteLayout, AddProtected, ClearActive, BeginArgument, BeginCall, EndCall, AddCharacter, rule}
+use Rattle.trac_language.specs.Step.{Outcome, function_of, world_of, perform, end_call, follow, step, with_active}
+use Rattle.trac_space.specs.declared.cell.Cell.{Cell}
+use Rattle.trac_space.specs.Calls.{IsLastCall}
+use Rattle.trac_space.specs.Texts.{text_of_cells, character_of}
+use Rattle.trac_forms.specs.Search.{item_at}
+use Rattle.trac_forms.specs.Contents.{Contents, IsTextPart, IsSound, part_text}
+use Rattle.trac_functions.specs.Flat.{memory_of, mode_at, arguments_at}
+use Rattle.trac_functions.specs.Calls.{world}
+use Rattle.trac_core.specs.Machine.{state_with}
+use Rattle.trac_core.specs.Performed.{performed_by, performs, prints_output}
+use Rattle.trac_core.specs.Attempts.{function_at}
+use Rattle.trac_core.specs.Display.{display}
+use Rattle.trac_core.specs.Session.{printed_in, output_after, step_prints}
+use Rattle.trac_core.proofs.Displaying.{show-append}
+use Rattle.trac_core.proofs.Performing.{closed, performs-closed, step-performs}
+
+-- ---- how long a display is
+
+pub length-show-more : (body : List Item) (k : ℕ) (item : Item) (n : ℕ) → k < length body → item ≡ item_at body k → n ≡ length (show (item ∷ [])) → length (show (take (k + 1) body)) ≡ length (show (take k body)) + n
+length-show-more body k item n within is n_is =
+    ap (λ items. length (show items)) (take_more body k (Byte 0) within)
+    ∙ ap length (show-append (take k body) (item_at body k ∷ []))
+    ∙ length-append (show (take k body)) (show (item_at body k ∷ []))
+    ∙ ap (λ i. length (show (take k body)) + length (show (i ∷ []))) (sym is)
+    ∙ ap (λ m. length (show (take k body)) + m) (sym n_is)
+
+pub length-display : (form : Form) → length (show_form form) ≡ 3 + length (show form.body)
+length-display form =
+    let before = show (before_pointer form) in
+    let after = show (after_pointer form) in
+    let parts = length-append (before ++ codes "<^>") after in
+    let front = length-append before (codes "<^>") in
+    let whole = ap length (sym (ap show (take-append-drop form.pointer form.body)) ∙ show-append (before_pointer form) (after_pointer form)) in
+    let body = length-append before after in
+    omega (arith, parts, front, whole, body)
+
+pub length-part : (cells : List Cell) (a b : ℕ) → IsTextPart cells a b → length (part_text cells a b) ≡ b - a
+length-part cells a b part = length-map (slice_range cells a b) character_of ∙ length-between cells a b part.within
+
+-- ---- what a function prints
+
+on_form-prints : (o : Option Form) (m : Form → Meaning) (w : World) → ((form : Form) → printed_in (m form) ≡ []) → printed_in (on_form o m w) ≡ []
+on_form-prints None m w h = refl
+on_form-prints (Some form) m w h = h form
+
+take_part-prints : (name z : Text) (o : Option Part) (w : World) → printed_in (take_part name o z w) ≡ []
+take_part-prints name z None w = refl
+take_part-prints name z (Some part) w = refl
+
+result_or-prints : (o : Option ℤ) (before z : Text) (w : World) → printed_in (result_or o before z w) ≡ []
+result_or-prints None before z w = refl
+result_or-prints (Some n) before z w = refl
+
+read_all-prints : (fails : Bool) (text : Text) (w : World) → printed_in (read_all fails text w) ≡ []
+read_all-prints true text w = refl
+read_all-prints false [] w = refl
+read_all-prints false (c ∷ text) w = refl
+
+read_string-prints : (text rest : Text) (w : World) → printed_in (read_string text rest w) ≡ []
+read_string-prints text [] w = read_all-prints w.input.fails text w
+read_string-prints text (c ∷ rest) w = refl
+
+read_character-prints : (text : Text) (fails : Bool) (w : World) → printed_in (read_character text fails w) ≡ []
+read_character-prints (c ∷ rest) fails w = refl
+read_character-prints [] true w = refl
+read_character-prints [] false w = refl
+
+change_meta-prints : (text : Text) (w : World) → printed_in (change_meta text w) ≡ []
+change_meta-prints [] w = refl
+change_meta-prints (c ∷ text) w = refl
+
+plain-prints : (f : Function) (args : List Text) (w : World) → prints_output (Some f) ≡ false → printed_in (meaning_of f args w) ≡ []
+unfolding meaning_of
+plain-prints ReadString args w e = read_string-prints (before_meta w) (from_meta w) w
+plain-prints ReadCharacter args w e = read_character-prints w.input.text w.input.fails w
+plain-prints ChangeMeta args w e = change_meta-prints (argument args 1) w
+plain-prints PrintString args w e = absurd cc
+plain-prints Halt args w e = refl
+plain-prints DefineString args w e = refl
+plain-prints SegmentString args w e = on_form-prints (form_of_call args w) _ w (λ form. refl)
+plain-prints DeleteDefinition args w e = refl
+plain-prints DeleteAll args w e = refl
+plain-prints ListNames args w e = refl
+plain-prints PrintForm args w e = absurd cc
+plain-prints CallForm args w e = on_form-prints (form_of_call args w) _ w (λ form. refl)
+plain-prints CallSegment args w e = on_form-prints (form_of_call args w) _ w (λ form. take_part-prints (argument args 1) (argument args 2) _ w)
+plain-prints CallCharacter args w e = on_form-prints (form_of_call args w) _ w (λ form. take_part-prints (argument args 1) (argument args 2) _ w)
+plain-prints CallNumber args w e = on_form-prints (form_of_call args w) _ w (λ form. take_part-prints (argument args 1) (argument args 3) _ w)
+plain-prints InitialPart args w e = on_form-prints (form_of_call args w) _ w (λ form. take_part-prints (argument args 1) (argument args 3) _ w)
+plain-prints CallRestore args w e = on_form-prints (form_of_call args w) _ w (λ form. refl)
+plain-prints Equal args w e = refl
+plain-prints Greater args w e = refl
+plain-prints (Arithmetic operation) args w e = result_or-prints _ _ (argument args 3) w
+plain-prints Union args w e = refl
+plain-prints Intersection args w e = refl
+plain-prints Complement args w e = refl
+plain-prints Shift args w e = refl
+plain-prints Rotate args w e = refl
+
+-- a function that doesn't print, or none
+pub other-prints : (f : Option Function) (args : List Text) (w : World) → f ≢ Some PrintString → f ≢ Some PrintForm → [] ≡ printed_in (meaning f args w)
+other-prints None args w string form = refl
+other-prints (Some f) args w string form = sym (plain-prints f args w (go f string form))
+  where
+    go : (f : Function) → Some f ≢ Some PrintString → Some f ≢ Some PrintForm → prints_output (Some f) ≡ false
+    go PrintString string form = absurd (string refl)
+    go PrintForm string form = absurd (form refl)
+    go ReadString string form = refl
+    go ReadCharacter string form = refl
+    go ChangeMeta string form = refl
+    go Halt string form = refl
+    go DefineString string form = refl
+    go SegmentString string form = refl
+    go DeleteDefinition string form = refl
+    go DeleteAll string form = refl
+    go ListNames string form = refl
+    go CallForm string form = refl
+    go CallSegment string form = refl
+    go CallCharacter string form = refl
+    go CallNumber string form = refl
+    go InitialPart string form = refl
+    go CallRestore string form = refl
+    go Equal string form = refl
+    go Greater string form = refl
+    go (Arithmetic operation) string form = refl
+    go Union string form = refl
+    go Intersection string form = refl
+    go Complement string form = refl
+    go Shift string form = refl
+    go Rotate string form = refl
+
+pub string-prints : (args : List Text) (w : World) → printed_in (meaning (Some PrintString) args w) ≡ argument args 1
+unfolding meaning_of
+string-prints args w = refl
+
+form-printed : (o : Option Form) (w : World) → printed_in (on_form o (λ form. Gives (record { value = []; forced = false; world = w; printed = show_form form })) w) ≡ display o
+form-printed None w = refl
+form-printed (Some form) w = refl
+
+pub form-prints : (args : List Text) (w : World) → printed_in (meaning (Some PrintForm) args w) ≡ display (form_of_call args w)
+unfolding meaning_of
+form-prints args w = form-printed (form_of_call args w) w
+
+-- ---- what a step prints
+
+perform-prints : (mode : Mode) (m : Meaning) (memory : Memory) (input : Input) → output_after (perform mode m (state_with memory input [])) ≡ printed_in m
+perform-prints mode (Gives answer) memory input = refl
+perform-prints mode (Ends fate) memory input = refl
+
+-- one that performs no call of a function prints nothing
+rule-prints : (r : Rule) (memory : Memory) (input : Input) → performed_by r memory.calls ≡ None → output_after (follow r (state_with memory input [])) ≡ []
+rule-prints LoadIdling memory input none = refl
+rule-prints (DeleteLayout rest) memory input none = refl
+rule-prints (AddProtected inside rest) memory input none = refl
+rule-prints ClearActive memory input none = refl
+rule-prints (BeginArgument rest) memory input none = refl
+rule-prints (BeginCall mode rest) memory input none = refl
+rule-prints (EndCall rest) memory input none = go memory.calls none
+  where
+    go : (calls : List OpenCall) → performed_by (EndCall rest) calls ≡ None → output_after (end_call calls (with_active rest (state_with memory input []))) ≡ []
+    go [] none = refl
+    go (call ∷ outer) none =
+        let here = world_of (with_active rest (state_with memory input [])) in
+        perform-prints call.mode (meaning (function_of call) (arguments call) here) (record memory { active = rest; calls = outer }) input
+        ∙ ap (λ f. printed_in (meaning f (arguments call) here)) none
+rule-prints (AddCharacter c rest) memory input none = refl
+
+pub step-prints-none : (memory : Memory) (input : Input) → None ≡ performs memory → [] ≡ step_prints memory input
+unfolding step
+step-prints-none memory input none = sym (rule-prints (rule memory.active) memory input (sym none))
+
+pub step-prints-call : (w : Contents) (place meta : ℕ) (input : Input) → IsSound w → slice_get (text_of_cells w.active) 0 ≡ Some 41 → IsLastCall w.neutral place → step_prints (memory_of meta w) input ≡ printed_in (meaning (function_at w.neutral place) (arguments_at w.neutral place) (world w.forms meta input))
+step-prints-call w place meta input sound first last =
+    let after = record w { active = drop 1 w.active } in
+    ap output_after (step-performs w after place (performs-closed w after place sound first last refl) (function_at w.neutral place) refl meta input [])
+    ∙ perform-prints (mode_at w.neutral place) (meaning (function_at w.neutral place) (arguments_at w.neutral place) (world w.forms meta input)) (memory_of meta (closed after place)) input

@@ -1,0 +1,120 @@
+//! How many bytes the next step of a machine prints.
+ghost use Rattle.std.specs.Prelude.{◌≡◌, ◌<◌, ◌≤◌, ℕ, [], ◌∷◌, length};
+ghost use Rattle.trac_language.specs.State.{Input};
+ghost use Rattle.trac_language.specs.Meaning.{meaning, show, show_form};
+ghost use Rattle.trac_space.specs.Calls.{IsLastCall};
+ghost use Rattle.trac_forms.specs.Contents.{form_at, IsTextPart, IsSound};
+ghost use Rattle.trac_functions.specs.Flat.{memory_of, arguments_at};
+ghost use Rattle.trac_functions.specs.Calls.{world};
+ghost use Rattle.trac_core.specs.Attempts.{function_at};
+ghost use Rattle.trac_core.specs.Display.{display_named};
+ghost use Rattle.trac_core.specs.Session.{next_printed, step_prints, printed_in};
+
+use super::Machine;
+use crate::scan::is_at;
+use itoa::Buffer;
+use trac_forms::{FormId, Work};
+use trac_functions::arguments::{Arguments, text};
+use trac_functions::function::function_named;
+use trac_language::{Function, Item};
+
+impl<'a> Machine<'a> {
+    /// How many bytes the next step prints: by `ps` or `pf`, whatever the input. 0 where it prints
+    /// nothing, and where the run is over or the allowance is used up. This processor's own choice.
+    pub fn prints(&mut self) -> u32
+        ensures length { (input : Input) → result ≡ length (next_printed self.old input) }
+        ensures same { self.new ≡ self.old }
+    {
+        if self.fate.is_some() {
+            return 0;
+        }
+        if self.steps == self.allowance {
+            return 0;
+        }
+        printed_len(&mut self.work)
+    }
+}
+
+/// How many bytes a step over these contents prints.
+fn printed_len(work: &mut Work) -> u32
+    ensures length { (meta : ℕ) (input : Input) →
+        result ≡ length (step_prints (memory_of meta work.old) input) }
+    ensures same { work.new ≡ work.old }
+    ensures sound { IsSound work.new }
+{
+    prove!(work.used() <= work.room());
+    if !is_at(work, 0, b')') {
+        return 0;
+    }
+    match work.last_call() {
+        None => 0,
+        Some(place) => call_len(work, place),
+    }
+}
+
+/// How many bytes the innermost call prints, whose mark stands at the place.
+fn call_len(work: &mut Work, place: u32) -> u32
+    requires { IsLastCall work.old.neutral place }
+    ensures length { (meta : ℕ) (input : Input) → let args = arguments_at work.old.neutral place in
+        result ≡ length (printed_in
+        (meaning (function_at work.old.neutral place) args (world work.old.forms meta input))) }
+    ensures same { work.new ≡ work.old }
+    ensures sound { IsSound work.new }
+{
+    let end = work.neutral_len();
+    let mut arguments = Arguments {
+        from: place + 1,
+        end,
+    };
+    let name = arguments.next(work);
+    let part = arguments.next(work);
+    match function_named(text(work, name)) {
+        None => 0,
+        Some(function) => match function {
+            Function::PrintString => part.1 - part.0,
+            Function::PrintForm => named_len(work, part),
+            _ => 0,
+        },
+    }
+}
+
+/// How many bytes the display of the form has whose name is a part of the neutral string, 0 where
+/// no form has that name.
+fn named_len(work: &mut Work, name: (u32, u32)) -> u32
+    requires part { IsTextPart work.old.neutral name.0 name.1 }
+    requires sound { IsSound work.old }
+    ensures length { result ≡ length (display_named work.old name) }
+    ensures same { work.new ≡ work.old }
+{
+    match work.find(name.0, name.1) {
+        Some(form) => display_len(work, form),
+        None => 0,
+    }
+}
+
+/// How many bytes the display of a form has.
+fn display_len(work: &Work, form: FormId) -> u32
+    requires known { form.0 < length work.now.forms }
+    requires sound { IsSound work.now }
+    ensures { result ≡ length (show_form (form_at work.now.forms form.0)) }
+{
+    let mut len = 3;
+    for place in 0..work.body_len(form) {
+        len += item_len(work.item(form, place));
+    }
+    len
+}
+
+/// How many bytes the display of an item has.
+fn item_len(item: Item) -> u32
+    ensures length { result ≡ length (show (item ∷ [])) }
+    ensures short { result ≤ 12 }
+{
+    match item {
+        Item::Byte(_) => 1,
+        Item::Gap(ordinal) => {
+            let mut buffer = Buffer::new();
+            2 + buffer.format(ordinal).len() as u32
+        }
+    }
+}

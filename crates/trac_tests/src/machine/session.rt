@@ -1,0 +1,136 @@
+//! Machines that are used again, fed in pieces and looked at: what their answers are on scripts that
+//! were worked by hand.
+use std::process::Abort;
+use trac_core::{Awaits, Cell, Fate, Item, Machine, Report, Sink, SliceSink, SliceSource, Source};
+
+const DEFINES: &[u8] = b"#(ds,F,a-b)#(ss,F,-)#(cm,;)'";
+
+/// Runs a machine over these bytes, from where it stands, and wants this printed.
+fn resumed(rt: &impl Abort, machine: &mut Machine, script: &[u8], printed: &[u8]) -> Report {
+    let mut room = [0; 20];
+    let mut source = SliceSource::new(script, None);
+    let mut sink = SliceSink::new(&mut room, None);
+    let report = machine.resume(&mut source, &mut sink);
+    assert!(rt; sink.written() == printed);
+    report
+}
+
+#[test]
+fn forms_and_meta_outlive_a_run(rt: HostRuntime) {
+    let mut block = [Cell::Byte(0); 60];
+    let mut machine = Machine::over(&mut block, 1000);
+    assert_eq!(rt; machine.meta(), b'\'');
+    let first = resumed(&rt, &mut machine, DEFINES, b"");
+    assert_eq!(rt; first.fate, Fate::InputEnded);
+    assert_eq!(rt; machine.meta(), b';');
+    machine.again(500);
+    assert!(rt; machine.active().is_empty() && machine.neutral().is_empty());
+    assert_eq!(rt; (machine.steps(), machine.peak()), (0, 0));
+    let second = resumed(&rt, &mut machine, b"#(ps,#(cl,F,+));", b"a+b");
+    assert_eq!(rt; second.fate, Fate::InputEnded);
+    assert!(rt; second.steps < first.steps && second.peak < first.peak);
+}
+
+#[test]
+fn a_machine_goes_on_after_each_fault(rt: HostRuntime) {
+    let mut block = [Cell::Byte(0); 30];
+    let mut machine = Machine::over(&mut block, 1000);
+    let full = resumed(&rt, &mut machine, b"#(ds,A,12345678901234567890)'", b"");
+    assert_eq!(rt; full.fate, Fate::Workspace);
+    let over = resumed(&rt, &mut machine, b"#(ps,x)'", b"");
+    assert_eq!(rt; over, full);
+    machine.again(12);
+    let spent = resumed(&rt, &mut machine, b"#(ps,x)'", b"");
+    assert_eq!(rt; (spent.fate, spent.steps), (Fate::Steps, 12));
+    machine.again(100);
+    let hello = resumed(&rt, &mut machine, b"#(ps,hello)'", b"hello");
+    let report = Report {
+        fate: Fate::InputEnded,
+        steps: 29,
+        peak: 19,
+    };
+    assert_eq!(rt; hello, report);
+}
+
+#[test]
+fn a_run_begun_by_steps_ends_as_one_at_once(rt: HostRuntime) {
+    let mut block = [Cell::Byte(0); 30];
+    let mut source = SliceSource::new(b"#(ps,hello)'", None);
+    let mut room = [0; 20];
+    let mut sink = SliceSink::new(&mut room, None);
+    let mut machine = Machine::over(&mut block, 29);
+    for _ in 0..20 {
+        assert!(rt; source.failures() == 0 && sink.failures() == 0);
+        assert_eq!(rt; machine.step(&mut source, &mut sink), None);
+    }
+    assert!(rt; source.failures() == 0 && sink.failures() == 0);
+    let report = machine.resume(&mut source, &mut sink);
+    assert_eq!(rt;
+        (report.fate, report.steps, report.peak),
+        (Fate::InputEnded, 29, 19)
+    );
+    assert!(rt; sink.written() == b"hello".as_slice());
+}
+
+#[test]
+fn what_the_next_step_reads(rt: HostRuntime) {
+    let mut block = [Cell::Byte(0); 40];
+    let mut source = SliceSource::new(b"#(rc)'x", None);
+    let mut room = [0; 1];
+    let mut sink = SliceSink::new(&mut room, None);
+    let mut machine = Machine::over(&mut block, 17);
+    let mut seen = [Awaits::Nothing; 18];
+    for k in 0..18 {
+        seen[k] = machine.awaits();
+        assert!(rt; source.failures() == 0 && sink.failures() == 0);
+        let _ = machine.step(&mut source, &mut sink);
+    }
+    for k in 0..18 {
+        let wanted = match k {
+            8 => Awaits::Text,
+            12 => Awaits::Byte,
+            _ => Awaits::Nothing,
+        };
+        assert_eq!(rt; seen[k], wanted, "{k}");
+    }
+}
+
+#[test]
+fn nothing_is_read_past_the_allowance(rt: HostRuntime) {
+    let mut block = [Cell::Byte(0); 40];
+    let mut source = SliceSource::new(b"", None);
+    let mut sink = SliceSink::new(&mut [], None);
+    let mut machine = Machine::over(&mut block, 8);
+    for _ in 0..8 {
+        assert!(rt; source.failures() == 0 && sink.failures() == 0);
+        let _ = machine.step(&mut source, &mut sink);
+    }
+    assert_eq!(rt; machine.awaits(), Awaits::Nothing);
+}
+
+#[test]
+fn forms_are_listed(rt: HostRuntime) {
+    let mut block = [Cell::Byte(0); 60];
+    let mut machine = Machine::over(&mut block, 1000);
+    let script = b"#(ds,,x)#(ds,AB,p-q-)#(ss,AB,-,q)#(cc,AB)'";
+    let _ = resumed(&rt, &mut machine, script, b"p");
+    let mut forms = machine.forms();
+    assert_eq!(rt; forms.len(), 2);
+    let Some(null) = forms.next() else {
+        panic!(rt; "no form");
+    };
+    assert!(rt; null.name().is_empty());
+    assert_eq!(rt; (null.body_len(), null.pointer()), (1, 0));
+    assert!(rt; matches!(null.item(0), Some(Item::Byte(b'x'))));
+    assert!(rt; null.item(1).is_none());
+    let Some(form) = forms.next() else {
+        panic!(rt; "one form");
+    };
+    assert!(rt; matches!(form.name(), [Cell::Byte(b'A'), Cell::Byte(b'B')]));
+    assert_eq!(rt; (form.body_len(), form.pointer()), (4, 1));
+    assert!(rt; matches!(form.item(0), Some(Item::Byte(b'p'))));
+    assert!(rt; matches!(form.item(1), Some(Item::Gap(1))));
+    assert!(rt; matches!(form.item(2), Some(Item::Gap(2))));
+    assert!(rt; matches!(form.item(3), Some(Item::Gap(1))));
+    assert!(rt; forms.next().is_none());
+}
