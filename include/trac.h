@@ -31,7 +31,7 @@ extern "C" {
 #define TRAC_MOST_CELLS 16777216
 
 /* What trac_open wants for a machine, in bytes. */
-#define TRAC_MACHINE_SIZE 136
+#define TRAC_MACHINE_SIZE 88
 #define TRAC_MACHINE_ALIGN 8
 
 /* How a run or a turn ended: trac_report.fate. */
