@@ -1,5 +1,6 @@
 /* c_library turns CELLS STEPS ROOM PIECE MOST: the same by trac_turn, with the script in pieces of
- * PIECE bytes and MOST steps a turn; each turn has an output of ROOM bytes.
+ * PIECE bytes and MOST steps a turn; each turn has an output of ROOM bytes, or of as many as a step
+ * asked for.
  * c_library CELLS STEPS ROOM [STACK]: runs the script on standard input, by trac_run, in a block of
  * CELLS cells with an output of ROOM bytes; with STACK on a stack of so many bytes, between pages
  * that can't be touched. Writes the output on standard output, and the numbers of the report on
@@ -90,12 +91,20 @@ static void run_in_turns(size_t piece, uint64_t most) {
         fwrite(run.output, 1, run.report.written, stdout);
         written += run.report.written;
         start += run.report.consumed;
+        if (run.report.fate == TRAC_WANTS_OUTPUT && run.report.written == 0) {
+            if (run.report.wanted <= run.room)
+                exit(73);
+            free(run.output);
+            run.room = run.report.wanted;
+            run.output = (uint8_t *)buffer(run.room);
+        }
         if (run.report.fate == TRAC_WANTS_INPUT) {
             if (end == run.script_len)
                 exit(72);
             end = run.script_len - end < piece ? run.script_len : end + piece;
         }
-    } while (run.report.fate == TRAC_GOING || run.report.fate == TRAC_WANTS_INPUT);
+    } while (run.report.fate == TRAC_GOING || run.report.fate == TRAC_WANTS_INPUT ||
+             run.report.fate == TRAC_WANTS_OUTPUT);
     run.report.written = written;
     run.report.consumed = start;
     free(machine);

@@ -93,6 +93,17 @@ class Library(unittest.TestCase):
                         self.assertLessEqual(consumed, len(row.script))
                         self.assertEqual(left, 0)
 
+    def test_each_row_in_turns_with_little_room_for_output(self):
+        for room in (0, 1, 5):
+            for row in rows():
+                with self.subTest(row=row, room=room):
+                    output, fate, steps, peak, written, *_ = call(
+                        self.programs[2], row.script, row.cells, row.allowed, room, 7, 1000,
+                        kind='turns')
+                    self.assertEqual(
+                        (output, STATUS.get(fate), steps, peak, written),
+                        (row.output, row.status, row.steps, row.peak, len(row.output)))
+
     def test_a_string_that_the_cells_can_not_hold(self):
         for length in range(1, 40):
             script = b'x' * length

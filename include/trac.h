@@ -43,6 +43,7 @@ extern "C" {
 #define TRAC_INPUT_FAILED 5u  /* never answered here: bytes in memory don't fail */
 #define TRAC_OUTPUT_FAILED 6u /* `output` is full: it holds all that was printed up to there */
 #define TRAC_WANTS_INPUT 7u   /* of a turn: the next step reads more than there is; it wasn't done */
+#define TRAC_WANTS_OUTPUT 8u  /* of a turn: the next step prints more than there is room for */
 #define TRAC_REFUSED 9u       /* too many cells, or a pointer that can't be used: nothing done */
 
 typedef struct {
@@ -51,7 +52,7 @@ typedef struct {
     uint64_t steps;  /* the steps done */
     size_t written;  /* the bytes written, from the front of the output */
     size_t consumed; /* the bytes consumed, from the front of the input */
-    size_t wanted;   /* 0 */
+    size_t wanted;   /* with TRAC_WANTS_OUTPUT: the bytes that the next step prints; else 0 */
 } trac_report;
 
 /* The exports. */
@@ -111,9 +112,10 @@ static inline uint32_t trac_open(void *machine, void *block, size_t cells, uint6
  * TRAC_GOING: `most` steps were done. TRAC_WANTS_INPUT: the next step reads more than there is: a
  * string whose meta character isn't there yet, or a byte; nothing was done of it. That is never
  * answered where `ended` is not 0, nor for a string that the cells can't hold: such a step ends the
- * run as it would if the whole input were there. Else the run is over: each later turn that makes a
- * step gives the same fate, until trac_again. The steps and the peak are those of the whole run so
- * far. A text that `output` has no room for ends the run, so give room for the longest one.
+ * run as it would if the whole input were there. TRAC_WANTS_OUTPUT: the next step prints `wanted`
+ * bytes, more than there is room for behind those written; nothing was done of it. Else the run is
+ * over: each later turn that makes a step gives the same fate, until trac_again. The steps and the
+ * peak are those of the whole run so far.
  *
  * Conditions: `machine` was opened by trac_open, and its bytes and its block are as the last call
  * left them; `input` and `output` are as above, and overlap neither. Trusted here: the tests of the

@@ -2,18 +2,18 @@
 use Rattle.std.specs.Prelude.{◌≡◌, ℕ, zero, suc, ◌+◌, ◌-◌, ◌<◌, ◌≤◌, [], ◌∷◌, length, take}
 use Rattle.std.specs.Prelude.{Bool, true, false, not, ◌&&◌, nat_le, nat_eq, Some, None, IsSome}
 use Rattle.trac_language.specs.Text.{Text}
-use Rattle.trac_language.specs.State.{size}
+use Rattle.trac_language.specs.State.{Input, size}
 use Rattle.trac_devices.specs.Devices.{Stream, has_byte}
 use Rattle.trac_devices.specs.Slices.{SliceInput, stream_in}
 use Rattle.trac_core.specs.declared.machine.session.Awaits.{Awaits}
 use Rattle.trac_core.specs.declared.machine.session.Awaits.TheVariants.{Nothing, Text as AwaitsText, Byte}
 use Rattle.trac_core.specs.Machine.{MachineState, Moment, moment, GoesOn, Answers}
-use Rattle.trac_core.specs.Session.{awaited, next_function}
+use Rattle.trac_core.specs.Session.{awaited, next_function, next_printed}
 use Rattle.trac_c.specs.Told.{number}
 use Rattle.trac_c.specs.declared.lent_sink.LentSink.{LentSink}
 use Rattle.trac_c.specs.declared.report.TracReport.{TracReport}
 use Rattle.trac_c.specs.declared.turn.Turn.{Turn}
-use Rattle.trac_c.specs.declared.turn.Turn.TheVariants.{Went, Waits, Over}
+use Rattle.trac_c.specs.declared.turn.Turn.TheVariants.{Went, Waits, Full, Over}
 
 -- a step that reads so would read more than these bytes: a string that its meta character doesn't
 -- end yet, as long as the cells could still hold it, or a byte where there is none
@@ -34,6 +34,8 @@ TurnsTo ended old Went new =
     (waits_for_input ended old.machine old.source.bytes ≡ false) × GoesOn old new
 TurnsTo ended old Waits new =
     (waits_for_input ended old.machine old.source.bytes ≡ true) × (new ≡ old)
+TurnsTo ended old Full new =
+    (waits_for_input ended old.machine old.source.bytes ≡ false) × (new ≡ old)
 TurnsTo ended old (Over fate) new =
     (waits_for_input ended old.machine old.source.bytes ≡ false) × Answers old (Some fate) new
 
@@ -47,6 +49,7 @@ Goes ended (suc n) old new =
 abbrev pub EndsTurn : Bool → (most done : ℕ) → Moment → Turn → Moment → Type 0
 EndsTurn ended most done before Went new = (done ≡ most) × (new ≡ before)
 EndsTurn ended most done before Waits new = (done < most) × TurnsTo ended before Waits new
+EndsTurn ended most done before Full new = (done < most) × TurnsTo ended before Full new
 EndsTurn ended most done before (Over fate) new =
     (done < most) × TurnsTo ended before (Over fate) new
 
@@ -66,11 +69,24 @@ abbrev pub stands : MachineState → SliceInput → LentSink → Moment
 stands m source sink =
     moment m (stream_in source) (sink.buffer.ghost_name ∷ take sink.len sink.buffer.now)
 
+-- the next step prints more, whatever the input, than there is room for in the sink
+abbrev pub LacksRoom : MachineState → LentSink → Type 0
+LacksRoom m sink =
+    (input : Input) → length sink.buffer.now < sink.len + length (next_printed m input)
+
 -- the number of what a turn ended with
 abbrev pub turn_number : Turn → ℕ
 turn_number Went = 0
 turn_number Waits = 7
+turn_number Full = 8
 turn_number (Over fate) = number fate
+
+-- what is wanted: as many bytes as the next step prints, where there was no room for them
+abbrev pub wanted_by : Turn → ℕ → ℕ
+wanted_by Full printed = printed
+wanted_by Went printed = 0
+wanted_by Waits printed = 0
+wanted_by (Over fate) printed = 0
 
 -- in numbers, a turn over this input, whose output stands at the front of a buffer. What was
 -- written before the turn is any list of one number: no step looks at it
@@ -86,7 +102,8 @@ pub record TellsTurn (ended : Bool) (most : ℕ) (input buffer : Text) (old new 
   pub peak : told.peak ≡ new.peak
   pub written : told.written ≤ length buffer
   pub consumed : told.consumed ≡ length input - length left.bytes
-  pub wanted : told.wanted ≡ 0
+  pub wanted : (input : Input) → told.wanted ≡ wanted_by last (length (next_printed new input))
+  pub full : last ≡ Full → length buffer < told.written + told.wanted
 
 abbrev pub TurnOf :
     Bool → (most : ℕ) → (input buffer : Text) → (old new : MachineState) → TracReport → Type 0

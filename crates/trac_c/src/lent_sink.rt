@@ -36,6 +36,13 @@ impl<'a> LentSink<'a> {
     {
         self.len
     }
+
+    /// How many bytes there is room for.
+    pub(crate) fn free(&self) -> usize
+        ensures { result + self.now.len ≡ length self.now.buffer.now }
+    {
+        self.buffer.len() - self.len
+    }
 }
 
 impl Sink for LentSink<'_> {

@@ -1,7 +1,8 @@
 //! A machine that C keeps, and which makes some steps a turn.
-ghost use Rattle.std.specs.Prelude.{◌≡◌, ◌≢◌, ◌+◌, ◌^◌, ◌<◌, None, IsSome};
-ghost use Rattle.trac_core.specs.Session.{awaited, next_function};
-ghost use Rattle.trac_c.specs.Turned.{TurnsTo, is_short, is_ended, stands, SomeTurned, TurnedOrOver, turn_number};
+ghost use Rattle.std.specs.Prelude.{◌≡◌, ◌≢◌, ◌+◌, ◌^◌, ◌<◌, None, IsSome, length};
+ghost use Rattle.trac_core.specs.Session.{awaited, next_function, next_printed};
+ghost use Rattle.trac_language.specs.State.{Input};
+ghost use Rattle.trac_c.specs.Turned.{TurnsTo, LacksRoom, is_short, is_ended, stands, SomeTurned, TurnedOrOver, turn_number, wanted_by};
 
 use crate::lent_sink::LentSink;
 use crate::report::{TracReport, number};
@@ -14,6 +15,8 @@ pub(crate) enum Turn {
     Went,
     /// The next step waits for input; it wasn't done.
     Waits,
+    /// The next step prints more than there is room for; it wasn't done.
+    Full,
     /// The run is over.
     Over(Fate),
 }
@@ -33,13 +36,26 @@ pub(crate) fn take_turn(
     let mut source = SliceSource::new(input, None);
     let mut sink = LentSink::new(output);
     let last = go_on(machine, &mut source, &mut sink, ended != 0, most);
+    let wanted = wanted(machine, last);
     TracReport {
         fate: turn_number(last),
         peak: machine.peak(),
         steps: machine.steps(),
         written: sink.len(),
         consumed: input.len().saturating_sub(source.rest().len()),
-        wanted: 0,
+        wanted,
+    }
+}
+
+/// How many bytes are wanted after what a turn ended with.
+fn wanted(machine: &mut Machine<'static>, last: Turn) -> usize
+    ensures bytes { (input : Input) →
+        result ≡ wanted_by last (length (next_printed machine.old input)) }
+    ensures same { machine.new ≡ machine.old }
+{
+    match last {
+        Turn::Full => machine.prints() as usize,
+        Turn::Went | Turn::Waits | Turn::Over(_) => 0,
     }
 }
 
@@ -50,6 +66,7 @@ fn turn_number(last: Turn) -> u32
     match last {
         Turn::Went => 0,
         Turn::Waits => 7,
+        Turn::Full => 8,
         Turn::Over(fate) => number(fate),
     }
 }
@@ -68,6 +85,7 @@ fn go_on(
         SomeTurned ended most (stands machine.old source.old sink.old) result
         (stands machine.new source.new sink.new) }
     ensures same_buffer { sink.new.buffer.ghost_name ≡ sink.old.buffer.ghost_name }
+    ensures full { result ≡ Turn.Full → LacksRoom machine.new sink.new }
     ensures over { IsSome machine.old.fate → machine.new ≡ machine.old }
 {
     let mut done = 0;
@@ -95,11 +113,15 @@ fn step_on(
         (stands machine.new source.new sink.new) }
     ensures over { IsSome machine.old.fate → (result ≢ Turn.Went) × (machine.new ≡ machine.old) }
     ensures same_buffer { sink.new.buffer.ghost_name ≡ sink.old.buffer.ghost_name }
+    ensures full { result ≡ Turn.Full → LacksRoom machine.new sink.new }
     ensures went { result ≡ Turn.Went →
         (machine.new.fate ≡ None) × (source.new.failures ≡ 0) × (sink.new.failures ≡ 0) }
 {
     if !ended && waits(machine, source.rest()) {
         return Turn::Waits;
+    }
+    if sink.free() < machine.prints() as usize {
+        return Turn::Full;
     }
     match machine.step(source, sink) {
         None => Turn::Went,
