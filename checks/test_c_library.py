@@ -1,0 +1,160 @@
+"""The library for C, through a C program over trac.h: each script does there what it does in the
+built program. The header is accepted by two compilers, and by C++."""
+import os
+import re
+import shutil
+import subprocess
+import tempfile
+import unittest
+
+from rows import rows
+from trac import TOP, report
+
+DIST = os.path.join(TOP, 'dist')
+LIBRARY = os.path.join(DIST, 'libtrac.a')
+DRIVER = os.path.join(TOP, 'checks', 'c_library.c')
+EXAMPLE = os.path.join(TOP, 'examples', 'embedding_c', 'embedding.c')
+STRICT = ['-std=c11', '-Wall', '-Wextra', '-Wpedantic', '-Werror', '-O2']
+SANITIZED = [*STRICT, '-g', '-fsanitize=address,undefined', '-fno-sanitize-recover=all']
+
+AS_CPP = ['-std=c++17', *STRICT[1:], '-x', 'c++']
+
+INPUT_ENDED, WORKSPACE, STEPS, OUTPUT_FAILED, REFUSED = 2, 3, 4, 6, 9
+STATUS = {1: 0, INPUT_ENDED: 0, WORKSPACE: 1, STEPS: 3}
+
+# What the library may leave to the program that it is linked with: the moves of memory, and the
+# compiler's own arithmetic on numbers of 128 bits.
+LEFT_OPEN = {'memcpy', 'memmove', 'memset', '__divti3', '__udivti3', '__modti3', '__umodti3',
+             '__multi3', '__muloti4'}
+
+# The bytes of input that a turn gets more.
+PIECES = (1, 2, 3, 7, 64)
+
+# Bytes of stack that trac_run needs beside what its caller has.
+STACK = 8 * 1024
+
+
+def build_library():
+    subprocess.run([os.path.join(TOP, 'release'), 'library'], check=True)
+
+
+def compiled(folder, compiler, flags, source=DRIVER):
+    program = os.path.join(folder, f'{compiler}{len(os.listdir(folder))}')
+    subprocess.run([compiler, '-I', DIST, '-o', program, *flags, source, '-x', 'none', LIBRARY],
+                   check=True)
+    return program
+
+
+def call(program, script, *numbers, kind=None):
+    """What a run printed, and the numbers of its report."""
+    words = ([kind] if kind else []) + [str(number) for number in numbers]
+    done = subprocess.run([program, *words], input=script, capture_output=True, timeout=60)
+    if done.returncode:
+        raise AssertionError(f'{done.returncode}: {done.stderr.decode()}')
+    return done.stdout, *map(int, done.stderr.split())
+
+
+class Library(unittest.TestCase):
+    @classmethod
+    def setUpClass(cls):
+        build_library()
+        cls.folder = tempfile.mkdtemp()
+        cls.addClassCleanup(shutil.rmtree, cls.folder)
+        cls.programs = [compiled(cls.folder, 'gcc', STRICT), compiled(cls.folder, 'clang', STRICT),
+                        compiled(cls.folder, 'gcc', SANITIZED),
+                        compiled(cls.folder, 'g++', AS_CPP)]
+
+    def test_each_row_at_once(self):
+        for row in rows():
+            wanted = (row.output, row.status, row.steps, row.peak, len(row.output))
+            for program in self.programs:
+                with self.subTest(row=row, program=program):
+                    output, fate, steps, peak, written, consumed, left = call(
+                        program, row.script, row.cells, row.allowed, len(row.output))
+                    self.assertEqual((output, STATUS.get(fate), steps, peak, written), wanted)
+                    self.assertLessEqual(consumed, len(row.script))
+                    self.assertEqual(left, 0)
+                    if fate == INPUT_ENDED:
+                        self.assertEqual(consumed, len(row.script))
+
+    def test_each_row_in_turns(self):
+        for piece in PIECES:
+            for most in (1, 1000):
+                # the sanitized program at one size of a turn, which is enough for it
+                program = self.programs[2 if most == 1000 else 0]
+                for row in rows():
+                    with self.subTest(row=row, piece=piece, most=most):
+                        output, fate, steps, peak, written, consumed, left = call(
+                            program, row.script, row.cells, row.allowed, len(row.output), piece,
+                            most, kind='turns')
+                        self.assertEqual(
+                            (output, STATUS.get(fate), steps, peak, written),
+                            (row.output, row.status, row.steps, row.peak, len(row.output)))
+                        self.assertLessEqual(consumed, len(row.script))
+                        self.assertEqual(left, 0)
+
+    def test_each_row_in_turns_with_little_room_for_output(self):
+        for room in (0, 1, 5):
+            for row in rows():
+                with self.subTest(row=row, room=room):
+                    output, fate, steps, peak, written, *_ = call(
+                        self.programs[2], row.script, row.cells, row.allowed, room, 7, 1000,
+                        kind='turns')
+                    self.assertEqual(
+                        (output, STATUS.get(fate), steps, peak, written),
+                        (row.output, row.status, row.steps, row.peak, len(row.output)))
+
+    def test_a_string_that_the_cells_can_not_hold(self):
+        for length in range(1, 40):
+            script = b'x' * length
+            for cells in range(11, 31):
+                wanted = report(script, '--cells', str(cells))
+                for piece in (1, 7, 64):
+                    with self.subTest(length=length, cells=cells, piece=piece):
+                        output, fate, steps, peak, *_ = call(
+                            self.programs[0], script, cells, 1000, 64, piece, 1000, kind='turns')
+                        self.assertEqual((output, steps, peak, STATUS[fate]), wanted)
+
+    def test_an_output_that_is_too_small(self):
+        for row in rows():
+            if row.status or not row.output:
+                continue
+            for room in {0, len(row.output) // 2, len(row.output) - 1}:
+                with self.subTest(row=row, room=room):
+                    output, fate, steps, _, written, _, _ = call(
+                        self.programs[2], row.script, row.cells, row.allowed, room)
+                    self.assertEqual((output, fate, written),
+                                     (row.output[:room], OUTPUT_FAILED, room))
+                    self.assertLess(steps, row.steps)
+
+    def test_more_cells_than_a_machine_may_have(self):
+        hello = b"#(ps,hello)'"
+        for program in self.programs:
+            self.assertEqual(call(program, hello, 16777217, 1000, 9), (b'', REFUSED, 0, 0, 0, 0, 0))
+        self.assertEqual(call(self.programs[0], hello, 16777216, 1000, 9)[:2],
+                         (b'hello', INPUT_ENDED))
+
+    def test_pointers_that_are_refused(self):
+        done = subprocess.run([self.programs[2], 'pointers'], capture_output=True, timeout=60)
+        self.assertEqual((done.returncode, done.stderr), (0, b''))
+
+    def test_what_the_library_leaves_open(self):
+        names = subprocess.run(['nm', '--undefined-only', LIBRARY], capture_output=True, check=True)
+        found = set(re.findall(r' U (\S+)', names.stdout.decode()))
+        self.assertLessEqual(found, LEFT_OPEN)
+
+    def test_the_stack_that_it_needs(self):
+        for row in rows():
+            done = subprocess.run(
+                [self.programs[0], *map(str, (row.cells, row.allowed, len(row.output), STACK))],
+                input=row.script, capture_output=True, timeout=60)
+            self.assertEqual((done.stdout, done.returncode), (row.output, 0), row)
+
+    def test_the_example(self):
+        with open(EXAMPLE, encoding='utf-8') as lines:
+            self.assertLess(len(lines.readlines()), 80)
+        for compiler in ('gcc', 'clang'):
+            program = compiled(self.folder, compiler, STRICT, EXAMPLE)
+            done = subprocess.run([program], capture_output=True, timeout=60, check=True)
+            with open(EXAMPLE[:-1] + 'out', 'rb') as wanted:
+                self.assertEqual(done.stdout, wanted.read())

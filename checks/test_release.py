@@ -1,0 +1,121 @@
+"""What ./release makes: the module does in Node what the program does, and so does the program made
+of plain C, by two compilers."""
+import json
+import os
+import shutil
+import subprocess
+import tempfile
+import unittest
+
+from rows import rows
+from trac import PROGRAM, TOP, run
+from test_program import REFUSED as WORDS_REFUSED
+
+DIST = os.path.join(TOP, 'dist')
+FATES = {'halted': 0, 'input ended': 0, 'workspace': 1, 'steps': 3}
+
+
+def setUpModule():
+    subprocess.run([os.path.join(TOP, 'release')], check=True)
+
+
+def version():
+    with open(os.path.join(TOP, 'VERSION'), encoding='utf-8') as file:
+        return file.read().strip()
+
+
+class Release(unittest.TestCase):
+    def test_its_files(self):
+        wanted = {'Makefile', 'README', 'help.inc', 'libtrac.a', 'trac', 'trac.1', 'trac.h',
+                  'trac.mjs', 'trac.wasm', 'trac_engine.c', 'trac_engine.h', 'trac_main.c'}
+        self.assertLessEqual(wanted, set(os.listdir(DIST)))
+
+    def test_its_version(self):
+        for name in ('README', 'trac.h', 'trac.mjs', 'trac_engine.c', 'trac_engine.h'):
+            with open(os.path.join(DIST, name), encoding='utf-8') as file:
+                self.assertIn(version(), file.read(), name)
+        with open(os.path.join(TOP, 'CHANGELOG.md'), encoding='utf-8') as file:
+            self.assertIn(f'## {version()}', file.read())
+
+    def test_the_program(self):
+        with open(PROGRAM, 'rb') as built, open(os.path.join(DIST, 'trac'), 'rb') as released:
+            self.assertEqual(built.read(), released.read())
+
+
+class Module(unittest.TestCase):
+    @classmethod
+    def setUpClass(cls):
+        lines = '\n'.join(json.dumps({'script': list(row.script), 'cells': row.cells,
+                                      'steps': row.allowed}) for row in rows())
+        done = subprocess.run(
+            ['node', os.path.join(TOP, 'checks', 'release.mjs'), os.path.join(DIST, 'trac.mjs')],
+            input=lines.encode(), capture_output=True, timeout=300, check=True)
+        cls.answers = json.loads(done.stdout)
+
+    def test_each_row(self):
+        self.assertEqual(len(self.answers['told']), len(rows()))
+        for row, told in zip(rows(), self.answers['told']):
+            with self.subTest(row=row):
+                self.assertEqual(
+                    (bytes(told['output']), told['steps'], told['peak'], FATES[told['fate']]),
+                    (row.output, row.steps, row.peak, row.status))
+
+    def test_limits_that_are_refused(self):
+        self.assertEqual(self.answers['refused'], ['RangeError'] * 4)
+
+    def test_text_and_version(self):
+        self.assertEqual((self.answers['text'], self.answers['version']), ('été', version()))
+
+
+class Plain(unittest.TestCase):
+    @classmethod
+    def setUpClass(cls):
+        cls.folder = tempfile.mkdtemp()
+        cls.addClassCleanup(shutil.rmtree, cls.folder)
+        cls.programs = []
+        makers = []
+        for compiler in ('gcc', 'clang'):
+            folder = os.path.join(cls.folder, compiler)
+            shutil.copytree(DIST, folder)
+            makers.append(subprocess.Popen(['make', '-s', '-B', '-C', folder, f'CC={compiler}']))
+            cls.programs.append(os.path.join(folder, 'trac_plain'))
+        for maker in makers:
+            if maker.wait():
+                raise AssertionError(maker.args)
+
+    def test_each_row(self):
+        for row in rows():
+            words = ['--report', '--cells', str(row.cells), '--steps', str(row.allowed)]
+            wanted = run(row.script, *words)
+            for program in self.programs:
+                with self.subTest(row=row, program=program):
+                    done = subprocess.run([program, *words], input=row.script, capture_output=True,
+                                          timeout=60)
+                    self.assertEqual((done.stdout, done.stderr.decode(), done.returncode), wanted)
+
+    def test_words(self):
+        for program in self.programs:
+            for words in WORDS_REFUSED:
+                done = subprocess.run([program, *words.split()], input=b'', capture_output=True)
+                self.assertEqual((done.stdout, done.returncode), (b'', 2), words)
+                self.assertTrue(done.stderr.startswith(b'error: '))
+            for words in ('--help', '-h'):
+                done = subprocess.run([program, words], input=b'', capture_output=True)
+                self.assertEqual((done.stdout, done.returncode), (run('', words)[0], 0))
+            done = subprocess.run([program, '--cells=19', '--steps=29'], input=b"#(ps,hello)'",
+                                  capture_output=True)
+            self.assertEqual((done.stdout, done.stderr, done.returncode), (b'hello', b'', 0))
+
+    def test_a_long_output(self):
+        text = b'all that is printed comes out. ' * 10000
+        for program in self.programs:
+            done = subprocess.run([program, '--cells', '1000000', '--steps', '10000000'],
+                                  input=text + b"'", capture_output=True)
+            self.assertEqual((done.stdout, done.stderr, done.returncode), (text, b'', 0))
+
+    def test_an_output_that_fails(self):
+        for program in self.programs:
+            with open('/dev/full', 'wb') as full:
+                done = subprocess.run([program], input=b"#(ps,hello)'", stdout=full,
+                                      stderr=subprocess.PIPE)
+            self.assertEqual(done.returncode, 5)

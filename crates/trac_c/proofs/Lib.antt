@@ -1,0 +1,4 @@
+mod Limits
+mod Loans
+mod Rooms
+mod SameLoan

@@ -1,0 +1,21 @@
+use Rattle.std.proofs.Common.{◌≡◌, ◌-◌, ◌≤◌, None, IsSome}
+use Rattle.trac_c.specs.Turned.{Goes, stands}
+use Rattle.trac_c.proofs.turn.go_on.Given as goal
+
+-- so many steps are done, the run is not over, and no device has failed
+abbrev pub invariant-loop-done : goal.invariant-loop-done
+invariant-loop-done l =
+    record {
+      going :
+          l.initial.machine.fate ≡ None →
+          Goes l.ended l.done (stands l.initial.machine l.initial.source l.initial.sink)
+          (stands l.machine l.source l.sink) × (l.machine.fate ≡ None);
+      over : IsSome l.initial.machine.fate → l.machine ≡ l.initial.machine;
+      same_buffer : l.sink.buffer.ghost_name ≡ l.initial.sink.buffer.ghost_name;
+      bound : l.done ≤ l.most;
+      source : l.source.failures ≡ 0;
+      sink : l.sink.failures ≡ 0;
+    }
+
+abbrev pub decreases-loop-done : goal.decreases-loop-done
+decreases-loop-done l = l.most - l.done

@@ -1,0 +1,122 @@
+-- What C is told of a machine that it keeps.
+use Rattle.std.specs.Prelude.{◌≡◌, ℕ, zero, suc, ◌+◌, ◌-◌, ◌<◌, ◌≤◌, [], ◌∷◌, length, take}
+use Rattle.std.specs.Prelude.{Bool, true, false, not, ◌&&◌, nat_le, nat_eq, Some, None, IsSome}
+use Rattle.trac_language.specs.Text.{Text}
+use Rattle.trac_language.specs.State.{Input, size}
+use Rattle.trac_devices.specs.Devices.{Stream, has_byte}
+use Rattle.trac_devices.specs.Slices.{SliceInput, stream_in}
+use Rattle.trac_core.specs.declared.machine.session.Awaits.{Awaits}
+use Rattle.trac_core.specs.declared.machine.session.Awaits.TheVariants.{Nothing, Text as AwaitsText, Byte}
+use Rattle.trac_core.specs.Machine.{MachineState, Moment, moment, GoesOn, Answers}
+use Rattle.trac_core.specs.Session.{awaited, next_function, next_printed}
+use Rattle.trac_c.specs.Told.{number}
+use Rattle.trac_c.specs.declared.lent_sink.LentSink.{LentSink}
+use Rattle.trac_c.specs.declared.report.TracReport.{TracReport}
+use Rattle.trac_c.specs.declared.turn.Turn.{Turn}
+use Rattle.trac_c.specs.declared.turn.Turn.TheVariants.{Went, Waits, Full, Over}
+
+-- a step that reads so would read more than these bytes: a string that its meta character doesn't
+-- end yet, as long as the cells could still hold it, or a byte where there is none
+abbrev pub is_short : Awaits → MachineState → Text → Bool
+is_short Nothing m bytes = false
+is_short AwaitsText m bytes =
+    not (has_byte m.memory.meta bytes) && nat_le (length bytes + size m.memory) (m.room + 1)
+is_short Byte m bytes = nat_eq (length bytes) 0
+
+-- the next step reads more than these bytes, and more may come
+abbrev pub waits_for_input : Bool → MachineState → Text → Bool
+waits_for_input ended m bytes = not ended && is_short (awaited (next_function m)) m bytes
+
+-- what a part of a turn comes to, for a machine whose run is not over: a step that was done; none,
+-- since it waits for input; or a step with which the run is over
+abbrev pub TurnsTo : Bool → Moment → Turn → Moment → Type 0
+TurnsTo ended old Went new =
+    (waits_for_input ended old.machine old.source.bytes ≡ false) × GoesOn old new
+TurnsTo ended old Waits new =
+    (waits_for_input ended old.machine old.source.bytes ≡ true) × (new ≡ old)
+TurnsTo ended old Full new =
+    (waits_for_input ended old.machine old.source.bytes ≡ false) × (new ≡ old)
+TurnsTo ended old (Over fate) new =
+    (waits_for_input ended old.machine old.source.bytes ≡ false) × Answers old (Some fate) new
+
+-- so many steps of a turn lead from one moment to another
+abbrev pub Goes : Bool → ℕ → Moment → Moment → Type 0
+Goes ended zero old new = new ≡ old
+Goes ended (suc n) old new =
+    (middle : Moment) × (Goes ended n old middle × TurnsTo ended middle Went new)
+
+-- what a turn ends with: its steps are used up; or what is no step that was done
+abbrev pub EndsTurn : Bool → (most done : ℕ) → Moment → Turn → Moment → Type 0
+EndsTurn ended most done before Went new = (done ≡ most) × (new ≡ before)
+EndsTurn ended most done before Waits new = (done < most) × TurnsTo ended before Waits new
+EndsTurn ended most done before Full new = (done < most) × TurnsTo ended before Full new
+EndsTurn ended most done before (Over fate) new =
+    (done < most) × TurnsTo ended before (Over fate) new
+
+-- so many steps of a turn are done, and then comes what it ends with
+pub record Turned (ended : Bool) (most : ℕ) (old : Moment) (last : Turn) (new : Moment)
+    (done : ℕ) (before : Moment) : Type 0 where
+  pub goes : Goes ended done old before
+  pub ends : EndsTurn ended most done before last new
+
+abbrev pub SomeTurned : Bool → ℕ → Moment → Turn → Moment → Type 0
+SomeTurned ended most old last new =
+    (done : ℕ) × ((before : Moment) × Turned ended most old last new done before)
+
+-- the moment at which a machine stands between a source and a sink over a lent buffer: what was
+-- written before it counts as one number, that of the loan
+abbrev pub stands : MachineState → SliceInput → LentSink → Moment
+stands m source sink =
+    moment m (stream_in source) (sink.buffer.ghost_name ∷ take sink.len sink.buffer.now)
+
+-- the next step prints more, whatever the input, than there is room for in the sink
+abbrev pub LacksRoom : MachineState → LentSink → Type 0
+LacksRoom m sink =
+    (input : Input) → length sink.buffer.now < sink.len + length (next_printed m input)
+
+-- the number of what a turn ended with
+abbrev pub turn_number : Turn → ℕ
+turn_number Went = 0
+turn_number Waits = 7
+turn_number Full = 8
+turn_number (Over fate) = number fate
+
+-- what is wanted: as many bytes as the next step prints, where there was no room for them
+abbrev pub wanted_by : Turn → ℕ → ℕ
+wanted_by Full printed = printed
+wanted_by Went printed = 0
+wanted_by Waits printed = 0
+wanted_by (Over fate) printed = 0
+
+-- in numbers, a turn over this input, whose output stands at the front of a buffer. What was
+-- written before the turn is any list of one number: no step looks at it
+pub record TellsTurn (ended : Bool) (most : ℕ) (input buffer : Text) (old new : MachineState)
+    (told : TracReport) (last : Turn) (earlier : ℕ) (left : Stream) : Type 0 where
+  pub turned :
+      SomeTurned ended most
+      (moment old (record { bytes = input; ended = false }) (earlier ∷ []))
+      last
+      (moment new left (earlier ∷ take told.written buffer))
+  pub fate : told.fate ≡ turn_number last
+  pub steps : told.steps ≡ new.steps
+  pub peak : told.peak ≡ new.peak
+  pub written : told.written ≤ length buffer
+  pub consumed : told.consumed ≡ length input - length left.bytes
+  pub wanted : (input : Input) → told.wanted ≡ wanted_by last (length (next_printed new input))
+  pub full : last ≡ Full → length buffer < told.written + told.wanted
+
+abbrev pub TurnOf :
+    Bool → (most : ℕ) → (input buffer : Text) → (old new : MachineState) → TracReport → Type 0
+TurnOf ended most input buffer old new told =
+    (last : Turn) × ((earlier : ℕ) × ((left : Stream) ×
+    TellsTurn ended most input buffer old new told last earlier left))
+
+-- whether C says that the input ends
+abbrev pub is_ended : ℕ → Bool
+is_ended flag = not (nat_eq flag 0)
+
+-- a turn of a machine whose run is not over; one whose run is over stays as it is
+pub record TurnedOrOver (ended : Bool) (most : ℕ) (input buffer : Text) (old : MachineState)
+    (told : TracReport) (new : MachineState) : Type 0 where
+  pub turn : old.fate ≡ None → TurnOf ended most input buffer old new told
+  pub over : IsSome old.fate → new ≡ old

@@ -1,0 +1,84 @@
+//! A machine that C keeps between calls, with the block that it was opened over.
+ghost use Rattle.std.specs.Prelude.{◌≡◌};
+ghost use Rattle.trac_core.specs.Machine.{MachineState};
+ghost use Rattle.trac_c.specs.Kept.{machine_at, machine_room, machine_after, cells_room, opened};
+ghost use Rattle.trac_c.specs.Kept.{begun_again};
+ghost use Rattle.trac_c.specs.Turned.{TurnedOrOver, is_ended};
+ghost use types.Logic.{sem};
+
+use crate::report::{REFUSED, TracReport};
+use crate::run::fill;
+use crate::turn::take_turn;
+use trac_core::{Cell, Machine};
+
+/// The bytes that a machine takes.
+#[unsafe(no_mangle)]
+pub extern "C" fn trac_engine_machine_size() -> usize {
+    std::mem::size_of::<Machine<'static>>()
+}
+
+/// Makes a machine at a place, over a block of so many cells that is its own from then on, with an
+/// allowance of so many steps. Gives 0. More than 16,777,216 cells are refused: then it gives 9, and
+/// nothing is touched.
+#[unsafe(no_mangle)]
+pub unsafe extern "C" fn trac_engine_open(
+    machine: *mut u64,
+    block: *mut Cell,
+    cells: usize,
+    steps: u64,
+) -> u32
+    requires* { sem 𝓛 (machine_room machine) ∗ sem 𝓛 (cells_room cells block) }
+    ensures* { sem 𝓛 (opened cells steps machine block result) }
+{
+    if cells > 16_777_216 {
+        return REFUSED;
+    }
+    fill(block, cells);
+    (machine as *mut Machine<'static>).write(Machine::over(
+        std::slice::from_raw_parts_mut(block, cells),
+        steps,
+    ));
+    0
+}
+
+/// A turn of the machine at a place: steps, at most `most`, over these bytes of input, behind which
+/// the input ends where `ended` is not 0. What is printed goes to the front of `output`.
+#[unsafe(no_mangle)]
+pub unsafe extern "C" fn trac_engine_turn(
+    machine: *mut u64,
+    input: &[u8],
+    output: &mut [u8],
+    ended: u32,
+    most: u64,
+) -> TracReport
+    ghost held: { MachineState }
+    requires* { sem 𝓛 (machine_at machine held) }
+    ensures* { sem 𝓛 (machine_after machine
+        (TurnedOrOver (is_ended ended) most input.now output.new held result)) }
+{
+    take_turn(
+        &mut *(machine as *mut Machine<'static>),
+        input,
+        output,
+        ended,
+        most,
+    )
+}
+
+/// Clears both strings of the machine at a place and begins a new run with an allowance of so many
+/// steps; its forms and its meta character stay.
+#[unsafe(no_mangle)]
+pub unsafe extern "C" fn trac_engine_again(machine: *mut u64, steps: u64)
+    ghost held: { MachineState }
+    requires* { sem 𝓛 (machine_at machine held) }
+    ensures* { sem 𝓛 (machine_at machine (begun_again steps held)) }
+{
+    begin_again(&mut *(machine as *mut Machine<'static>), steps)
+}
+
+/// The same, of a machine that is lent.
+fn begin_again(machine: &mut Machine<'static>, steps: u64)
+    ensures { machine.new ≡ begun_again steps machine.old }
+{
+    machine.again(steps);
+}

@@ -1,0 +1,54 @@
+//! What C is told of a run.
+ghost use Rattle.std.specs.Prelude.{◌≡◌};
+ghost use Rattle.trac_c.specs.Told.{number, refused};
+
+use trac_core::Fate;
+
+/// More cells than a machine may have: nothing was touched.
+pub(crate) const REFUSED: u32 = 9;
+
+/// What a run came to, as C reads it.
+#[repr(C)]
+#[derive(Drop)]
+pub struct TracReport {
+    /// How it ended: the number of a fate, or 9 where the number of cells was refused.
+    pub fate: u32,
+    /// The greatest need of a step, in cells.
+    pub peak: u32,
+    /// The steps done.
+    pub steps: u64,
+    /// The bytes of the output that were written, from its front.
+    pub written: usize,
+    /// The bytes of the script that were consumed, from its front.
+    pub consumed: usize,
+    /// The bytes that the next step prints, where it waits for room in the output.
+    pub wanted: usize,
+}
+
+/// The number of a fate.
+pub(crate) fn number(fate: Fate) -> u32
+    ensures { result ≡ number fate }
+{
+    match fate {
+        Fate::Halted => 1,
+        Fate::InputEnded => 2,
+        Fate::Workspace => 3,
+        Fate::Steps => 4,
+        Fate::InputFailed => 5,
+        Fate::OutputFailed => 6,
+    }
+}
+
+/// The report where the number of cells was refused.
+pub(crate) fn refused() -> TracReport
+    ensures { result ≡ refused }
+{
+    TracReport {
+        fate: REFUSED,
+        peak: 0,
+        steps: 0,
+        written: 0,
+        consumed: 0,
+        wanted: 0,
+    }
+}

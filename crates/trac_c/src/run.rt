@@ -1,0 +1,71 @@
+//! A run at once.
+ghost use Rattle.std.specs.Prelude.{◌≡◌, ℕ, ◌+◌, ◌-◌, ◌^◌, ◌<◌, ◌≤◌, List, length};
+ghost use Rattle.trac_space.specs.contracts.cell.Cell.{the_row as CellRow};
+ghost use Rattle.trac_c.specs.Told.{Told, Ran};
+ghost use base.Fml.{fex};
+ghost use base.Fraction.{full_share};
+ghost use denote.Array.{Array};
+ghost use denote.RawPtr.{lies_at, room_at};
+ghost use types.Logic.{sem};
+
+use crate::lent_sink::LentSink;
+use crate::report::{TracReport, number, refused};
+use trac_core::{Cell, Machine, SliceSource};
+
+/// Runs a script in a block of so many cells, which is the caller's again afterwards. What it
+/// prints goes to the front of `output`. More than 16,777,216 cells are refused, and then nothing
+/// is touched.
+#[unsafe(no_mangle)]
+pub unsafe extern "C" fn trac_engine_run(
+    block: *mut Cell,
+    cells: usize,
+    steps: u64,
+    script: &[u8],
+    output: &mut [u8],
+) -> TracReport
+    requires* { sem 𝓛 (room_at (Array CellRow cells) block) }
+    ensures* { sem 𝓛 (room_at (Array CellRow cells) block) ∗
+        ⌜ Told cells steps script.now output.old output.new result ⌝ }
+{
+    if cells > 16_777_216 {
+        return refused();
+    }
+    fill(block, cells);
+    run_over(
+        std::slice::from_raw_parts_mut(block, cells),
+        steps,
+        script,
+        output,
+    )
+}
+
+/// Writes a cell at each place of a block.
+pub(crate) unsafe fn fill(block: *mut Cell, cells: usize)
+    requires* { sem 𝓛 (room_at (Array CellRow cells) block) ∗ ⌜ cells ≤ 16777216 ⌝ }
+    ensures* { sem 𝓛 (fex (List Cell)
+        (λ items. lies_at (Array CellRow cells) full_share block items)) }
+{
+    let mut i = 0;
+    while i < cells {
+        block.add(i).write(Cell::Comma);
+        i += 1;
+    }
+}
+
+/// Runs a script in a block.
+fn run_over(block: &mut [Cell], steps: u64, script: &[u8], output: &mut [u8]) -> TracReport
+    requires { length block.old ≤ 16777216 }
+    ensures { Ran (length block.old) steps script.now output.new result }
+{
+    let mut source = SliceSource::new(script, None);
+    let mut sink = LentSink::new(output);
+    let done = Machine::over(block, steps).run(&mut source, &mut sink);
+    TracReport {
+        fate: number(done.fate),
+        peak: done.peak,
+        steps: done.steps,
+        written: sink.len(),
+        consumed: script.len().saturating_sub(source.rest().len()),
+        wanted: 0,
+    }
+}

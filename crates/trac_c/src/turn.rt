@@ -1,0 +1,145 @@
+//! A machine that C keeps, and which makes some steps a turn.
+ghost use Rattle.std.specs.Prelude.{◌≡◌, ◌≢◌, ◌+◌, ◌^◌, ◌<◌, None, IsSome, length};
+ghost use Rattle.trac_core.specs.Session.{awaited, next_function, next_printed};
+ghost use Rattle.trac_language.specs.State.{Input};
+ghost use Rattle.trac_c.specs.Turned.{TurnsTo, LacksRoom, is_short, is_ended, stands, SomeTurned, TurnedOrOver, turn_number, wanted_by};
+
+use crate::lent_sink::LentSink;
+use crate::report::{TracReport, number};
+use trac_core::{Awaits, Fate, Machine, SliceSource};
+
+/// What a part of a turn came to.
+#[derive(Clone, Copy, Debug, PartialEq, Eq)]
+pub(crate) enum Turn {
+    /// A step was done.
+    Went,
+    /// The next step waits for input; it wasn't done.
+    Waits,
+    /// The next step prints more than there is room for; it wasn't done.
+    Full,
+    /// The run is over.
+    Over(Fate),
+}
+
+/// A turn: steps, at most so many, over these bytes, behind which the input
+/// ends where `ended` is not 0.
+pub(crate) fn take_turn(
+    machine: &mut Machine<'static>,
+    input: &[u8],
+    output: &mut [u8],
+    ended: u32,
+    most: u64,
+) -> TracReport
+    ensures { TurnedOrOver (is_ended ended) most input.now output.new machine.old result
+        machine.new }
+{
+    let mut source = SliceSource::new(input, None);
+    let mut sink = LentSink::new(output);
+    let last = go_on(machine, &mut source, &mut sink, ended != 0, most);
+    let wanted = wanted(machine, last);
+    TracReport {
+        fate: turn_number(last),
+        peak: machine.peak(),
+        steps: machine.steps(),
+        written: sink.len(),
+        consumed: input.len().saturating_sub(source.rest().len()),
+        wanted,
+    }
+}
+
+/// How many bytes are wanted after what a turn ended with.
+fn wanted(machine: &mut Machine<'static>, last: Turn) -> usize
+    ensures bytes { (input : Input) →
+        result ≡ wanted_by last (length (next_printed machine.old input)) }
+    ensures same { machine.new ≡ machine.old }
+{
+    match last {
+        Turn::Full => machine.prints() as usize,
+        Turn::Went | Turn::Waits | Turn::Over(_) => 0,
+    }
+}
+
+/// The number of what a turn ended with.
+fn turn_number(last: Turn) -> u32
+    ensures { result ≡ turn_number last }
+{
+    match last {
+        Turn::Went => 0,
+        Turn::Waits => 7,
+        Turn::Full => 8,
+        Turn::Over(fate) => number(fate),
+    }
+}
+
+/// Makes steps, at most so many. Went: all of them were done.
+fn go_on(
+    machine: &mut Machine,
+    source: &mut SliceSource,
+    sink: &mut LentSink,
+    ended: bool,
+    most: u64,
+) -> Turn
+    requires source_sound { source.old.failures ≡ 0 }
+    requires sink_sound { sink.old.failures ≡ 0 }
+    ensures turned { machine.old.fate ≡ None →
+        SomeTurned ended most (stands machine.old source.old sink.old) result
+        (stands machine.new source.new sink.new) }
+    ensures same_buffer { sink.new.buffer.ghost_name ≡ sink.old.buffer.ghost_name }
+    ensures full { result ≡ Turn.Full → LacksRoom machine.new sink.new }
+    ensures over { IsSome machine.old.fate → machine.new ≡ machine.old }
+{
+    let mut done = 0;
+    while done < most {
+        let part = step_on(machine, source, sink, ended);
+        if part != Turn::Went {
+            return part;
+        }
+        done += 1;
+    }
+    Turn::Went
+}
+
+/// A step, unless it waits for input.
+fn step_on(
+    machine: &mut Machine,
+    source: &mut SliceSource,
+    sink: &mut LentSink,
+    ended: bool,
+) -> Turn
+    requires source_sound { source.old.failures ≡ 0 }
+    requires sink_sound { sink.old.failures ≡ 0 }
+    ensures turns { machine.old.fate ≡ None →
+        TurnsTo ended (stands machine.old source.old sink.old) result
+        (stands machine.new source.new sink.new) }
+    ensures over { IsSome machine.old.fate → (result ≢ Turn.Went) × (machine.new ≡ machine.old) }
+    ensures same_buffer { sink.new.buffer.ghost_name ≡ sink.old.buffer.ghost_name }
+    ensures full { result ≡ Turn.Full → LacksRoom machine.new sink.new }
+    ensures went { result ≡ Turn.Went →
+        (machine.new.fate ≡ None) × (source.new.failures ≡ 0) × (sink.new.failures ≡ 0) }
+{
+    if !ended && waits(machine, source.rest()) {
+        return Turn::Waits;
+    }
+    if sink.free() < machine.prints() as usize {
+        return Turn::Full;
+    }
+    match machine.step(source, sink) {
+        None => Turn::Went,
+        Some(fate) => Turn::Over(fate),
+    }
+}
+
+/// Whether the next step reads more than these bytes. A string that is longer than the free cells
+/// doesn't wait: its step ends the run, since it would need more than the room.
+fn waits(machine: &Machine, bytes: &[u8]) -> bool
+    ensures { result ≡ is_short (awaited (next_function machine.now)) machine.now bytes.now }
+{
+    match machine.awaits() {
+        Awaits::Nothing => false,
+        Awaits::Text => {
+            !bytes.contains(&machine.meta())
+                && bytes.len() + machine.size() as usize <= machine.room() as usize + 1
+        }
+        Awaits::Byte => bytes.is_empty(),
+    }
+}
