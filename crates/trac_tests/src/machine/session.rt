@@ -1,5 +1,8 @@
 //! Machines that are used again, fed in pieces and looked at: what their answers are on scripts that
 //! were worked by hand.
+ghost use Rattle.std.specs.Prelude.{◌≡◌, ◌≤◌, ℕ, List, [], length, take};
+ghost use Rattle.trac_core.specs.Machine.{Reports};
+
 use std::process::Abort;
 use trac_core::{Awaits, Cell, Fate, Item, Machine, Report, Sink, SliceSink, SliceSource, Source};
 
@@ -133,6 +136,41 @@ fn forms_are_listed(rt: HostRuntime) {
     assert!(rt; matches!(form.item(2), Some(Item::Gap(2))));
     assert!(rt; matches!(form.item(3), Some(Item::Gap(1))));
     assert!(rt; forms.next().is_none());
+}
+
+/// What a run came to, and how many bytes it printed.
+#[derive(Drop)]
+struct Printed {
+    report: Report,
+    len: usize,
+}
+
+/// Runs a script; what it prints stands then at the front of the caller's own buffer.
+fn print_to(block: &mut [Cell], script: &[u8], output: &mut [u8]) -> Printed
+    requires { length block.old ≤ 16777216 }
+    ensures { (left : List ℕ) × Reports result.report.fate (record {
+      room = length block.old;
+      allowance = 1000;
+      bytes = script.now;
+      bytes_left = left;
+      before = [];
+      after = take result.len output.new;
+    }) result.report }
+{
+    let mut source = SliceSource::new(script, None);
+    let mut sink = SliceSink::new(output, None);
+    let report = Machine::over(block, 1000).run(&mut source, &mut sink);
+    let len = sink.written().len();
+    Printed { report, len }
+}
+
+#[test]
+fn a_buffer_of_the_caller(rt: HostRuntime) {
+    let mut block = [Cell::Byte(0); 64];
+    let mut output = [0; 8];
+    let printed = print_to(&mut block, b"#(ps,hello)'", &mut output);
+    assert_eq!(rt; (printed.report.fate, printed.len), (Fate::InputEnded, 5));
+    assert!(rt; output == *b"hello\0\0\0");
 }
 
 /// Makes steps to the end of the script, each after what it prints was told: what is told in all is

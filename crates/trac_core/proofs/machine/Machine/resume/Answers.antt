@@ -1,6 +1,6 @@
 use Rattle.std.proofs.Common.{◌≡◌, None, ◌∙◌, arith, sym, ap, subst, refl, inl}
 use Rattle.trac_functions.proofs.FlatLemmas.{size-used}
-use Rattle.trac_core.specs.Machine.{MachineState, KeepsLimits, moment}
+use Rattle.trac_core.specs.Machine.{MachineState, moment}
 use Rattle.trac_core.proofs.Moments.{Along, along-none, along-more, along-passes}
 use Rattle.trac_core.proofs.Reported.{reported}
 use Rattle.trac_core.proofs.Sending.{sent-more}

@@ -1,6 +1,6 @@
 use Rattle.std.proofs.Common.{◌≡◌, ◌+◌, ◌∙◌, length, take, ap, sym, arith}
 use Rattle.std.proofs.Math.Seq.{take-length}
-use Rattle.trac_language.specs.Meaning.{show, show_form}
+use Rattle.trac_language.specs.Meaning.{show}
 use Rattle.trac_forms.specs.Contents.{form_at, body_at}
 use Rattle.trac_core.proofs.Printed.{length-show-more, length-display}
 use Rattle.trac_core.proofs.machine.printing.display_len.Goals as goal

@@ -1,4 +1,4 @@
-use Rattle.std.proofs.Common.{◌≡◌, length, ap, sym, ◌∙◌}
+use Rattle.std.proofs.Common.{length, ap, sym, ◌∙◌}
 use Rattle.trac_language.specs.Meaning.{show_form}
 use Rattle.trac_forms.specs.Contents.{Contents, form_at, part_text}
 use Rattle.trac_forms.proofs.Stores.{form_named-at, form_named-none}
