@@ -6,7 +6,8 @@ use Rattle.trac_language.specs.State.{Input, size}
 use Rattle.trac_devices.specs.Devices.{Stream, has_byte}
 use Rattle.trac_devices.specs.Slices.{SliceInput, stream_in}
 use Rattle.trac_core.specs.declared.machine.session.Awaits.{Awaits}
-use Rattle.trac_core.specs.declared.machine.session.Awaits.TheVariants.{Nothing, Text as AwaitsText, Byte}
+use Rattle.trac_core.specs.declared.machine.session.Awaits.TheVariants.{Nothing, Byte}
+use Rattle.trac_core.specs.declared.machine.session.Awaits.TheVariants.{Text as AwaitsText}
 use Rattle.trac_core.specs.Machine.{MachineState, Moment, moment, GoesOn, Answers}
 use Rattle.trac_core.specs.Session.{awaited, next_function, next_printed}
 use Rattle.trac_c.specs.Told.{number}

@@ -18,8 +18,8 @@ pub extern "C" fn trac_engine_machine_size() -> usize {
 }
 
 /// Makes a machine at a place, over a block of so many cells that is its own from then on, with an
-/// allowance of so many steps. Gives 0. More than 16,777,216 cells are refused: then it gives 9, and
-/// nothing is touched.
+/// allowance of so many steps. Gives 0. More than 16,777,216 cells are refused: then it gives 9,
+/// and nothing is touched.
 #[unsafe(no_mangle)]
 pub unsafe extern "C" fn trac_engine_open(
     machine: *mut u64,

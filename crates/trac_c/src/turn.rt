@@ -2,7 +2,8 @@
 ghost use Rattle.std.specs.Prelude.{◌≡◌, ◌≢◌, ◌+◌, ◌^◌, ◌<◌, None, IsSome, length};
 ghost use Rattle.trac_core.specs.Session.{awaited, next_function, next_printed};
 ghost use Rattle.trac_language.specs.State.{Input};
-ghost use Rattle.trac_c.specs.Turned.{TurnsTo, LacksRoom, is_short, is_ended, stands, SomeTurned, TurnedOrOver, turn_number, wanted_by};
+ghost use Rattle.trac_c.specs.Turned.{TurnsTo, LacksRoom, is_short, is_ended, stands, SomeTurned};
+ghost use Rattle.trac_c.specs.Turned.{TurnedOrOver, turn_number, wanted_by};
 
 use crate::lent_sink::LentSink;
 use crate::report::{TracReport, number};
