@@ -54,6 +54,8 @@ impl Sink for LentSink<'_> {
 
     ghost failure_count = { λ s. s.failures };
 
+    ghost lent = { λ s. s.buffer.ghost_name };
+
     fn put(&mut self, byte: u8) -> Result<(), SinkFailed> {
         if self.len < self.buffer.len() {
             self.buffer[self.len] = byte;
