@@ -103,7 +103,14 @@ fn run_typed(
 {
     let prompt = if is_terminal(rt) { PROMPT } else { b"" };
     let mut reading = Reading::new(Input::new(rt.stdin()), true);
-    let report = run_strings(machine, settings, prompt, &mut reading, screen, &mut rt.stderr());
+    let report = run_strings(
+        machine,
+        settings,
+        prompt,
+        &mut reading,
+        screen,
+        &mut rt.stderr(),
+    );
     if report.fate == Fate::InputEnded && !prompt.is_empty() {
         let _ = rt.stderr().write_all(b"\n");
     }

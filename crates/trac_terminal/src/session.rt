@@ -94,7 +94,8 @@ fn run_string<I: Source, O: Sink>(
     }
 }
 
-// Makes one step. Where it reads a string that does not fit, the rest of that string is passed over.
+// Makes one step. Where it reads a string that does not fit,
+// the rest of that string is passed over.
 fn make_step<I: Source, O: Sink>(
     machine: &mut Machine,
     reading: &mut Reading<I>,
