@@ -53,7 +53,7 @@ class TerminalPage(unittest.TestCase):
         options = re.findall(r'--\w+', section(text, 'OPTIONS'))
         for option in re.findall(r'--\w+', done.stdout.decode()):
             self.assertIn(option, options)
-        self.assertEqual(re.findall(r'from 1 to (\d+)\. The default is (\d+)', text),
+        self.assertEqual(re.findall(r'from 1 to (\d+)\. +The default is (\d+)', text),
                          [('16777216', '65536'), ('1000000000000', '1000000')])
 
 
