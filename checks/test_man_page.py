@@ -6,7 +6,7 @@ import shutil
 import subprocess
 import unittest
 
-from trac import TOP, run
+from trac import TERMINAL, TOP, run
 
 PAGE = os.path.join(TOP, 'docs', 'trac.1')
 WIDE = {'MANWIDTH': '500', 'MANPAGER': 'cat', 'LC_ALL': 'C.UTF-8'}
@@ -14,9 +14,9 @@ NUMBER = re.compile(r'\b(\d+|[NPS])\b')
 EXAMPLE = re.compile(r'^ +\$ printf "(.*)" \| trac (.*)\n((?: {11}\S.*\n)+)', re.MULTILINE)
 
 
-def formatted():
-    """The page as lines of 500 columns, and what man says of it on standard error."""
-    done = subprocess.run(['man', '--warnings', '-l', PAGE], capture_output=True,
+def formatted(page=PAGE):
+    """A page as lines of 500 columns, and what man says of it on standard error."""
+    done = subprocess.run(['man', '--warnings', '-l', page], capture_output=True,
                           env={**os.environ, **WIDE})
     return done.stdout.decode(), done.stderr.decode(), done.returncode
 
@@ -43,6 +43,18 @@ def readme_rows(head):
     with open(os.path.join(TOP, 'README.md'), encoding='utf-8') as readme:
         rows = readme.read().split(head + '\n')[1].split('\n\n')[0].split('\n')
     return [[cell.strip() for cell in row.strip('|').split('|')] for row in rows[1:]]
+
+
+class TerminalPage(unittest.TestCase):
+    def test_it_formats_without_a_warning_and_has_the_options_of_the_help(self):
+        text, warnings, status = formatted(os.path.join(TOP, 'docs', 'trac_terminal.1'))
+        self.assertEqual((warnings, status), ('', 0))
+        done = subprocess.run([TERMINAL, '--help'], capture_output=True, check=True)
+        options = re.findall(r'--\w+', section(text, 'OPTIONS'))
+        for option in re.findall(r'--\w+', done.stdout.decode()):
+            self.assertIn(option, options)
+        self.assertEqual(re.findall(r'from 1 to (\d+)\. +The default is (\d+)', text),
+                         [('16777216', '65536'), ('1000000000000', '1000000')])
 
 
 class ManPage(unittest.TestCase):

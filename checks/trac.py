@@ -6,6 +6,7 @@ TOP = os.path.dirname(os.path.dirname(os.path.abspath(__file__)))
 LAUNCHER = os.path.join(TOP, 'trac')
 PROGRAM = os.path.join(TOP, 'crates', 'trac_cli', 'out', 'trac_cli')
 TRACER = os.path.join(TOP, 'crates', 'trac_trace', 'out', 'trac_trace')
+TERMINAL = os.path.join(TOP, 'crates', 'trac_terminal', 'out', 'trac_terminal')
 
 
 def crates_of(crate):

@@ -3,19 +3,17 @@
 #![tactic(auto)]
 
 ghost use Rattle.std.specs.Prelude.{◌≡◌};
-ghost use Rattle.trac_cli.specs.Lines.{status_of};
+ghost use Rattle.trac_lines.specs.Lines.{status_of};
 
-mod lines;
 mod serve;
 mod words;
 
-use lines::{Line, fault_line, memory_line, report_line, status};
 use serve::{NoMemory, serve};
-use std::io::Write;
 use std::process::ExitCode;
 use std::rt::Env;
 use std::{env, io};
 use trac_core::{Input, Output, Report};
+use trac_lines::{fault_line, memory_line, report_line, status, write_line};
 use trac_words::{Settings, refused, refused_words};
 use words::settings_from;
 
@@ -45,7 +43,7 @@ fn run(rt: &HostRuntime, settings: &Settings) -> u8 {
     match serve(rt.alloc(), settings, &mut source, &mut sink) {
         Ok(report) => ended(rt, settings, &report),
         Err(NoMemory) => {
-            write_line(rt, &memory_line(settings));
+            write_line(&mut rt.stderr(), &memory_line(settings));
             NO_MEMORY
         }
     }
@@ -56,19 +54,12 @@ fn ended(rt: &HostRuntime, settings: &Settings, report: &Report) -> u8
     ensures { result ≡ status_of report.now.fate }
 {
     if settings.report {
-        write_line(rt, &report_line(report));
+        write_line(&mut rt.stderr(), &report_line(report));
     }
     if let Some(line) = fault_line(report, settings) {
-        write_line(rt, &line);
+        write_line(&mut rt.stderr(), &line);
     }
     status(report)
-}
-
-// A failure of standard error is ignored.
-fn write_line(rt: &HostRuntime, line: &Line) {
-    let mut errors = rt.stderr();
-    let _ = errors.write_all(line.as_bytes());
-    let _ = errors.write_all(b"\n");
 }
 
 #[cfg(test)]

@@ -2,7 +2,6 @@
 //! are interrupted, and the command's answers to words that are written out.
 ghost use Rattle.std.specs.Prelude.{◌≡◌, ◌≤◌, length};
 
-use crate::lines::{fault_line, memory_line, report_line, status};
 use crate::serve::{NoMemory, serve};
 use crate::words::settings_from;
 use clap::error::ErrorKind;
@@ -15,6 +14,7 @@ use trac_core::{
     BufferedReader, BufferedWriter, Cell, Fate, Input, Next, Output, Report, Sink, SliceSink,
     SliceSource, Source, Work,
 };
+use trac_lines::{fault_line, memory_line, report_line, status};
 use trac_space::make_block;
 use trac_words::Settings;
 

@@ -1,10 +1,14 @@
-//! The lines on standard error, and the exit status. Both are this processor's own choice.
+//! The lines on standard error of the programs that run scripts, and their exit status. Both are
+//! this processor's own choice.
+#![tactic(auto)]
+
 ghost use Rattle.std.specs.Prelude.{◌≡◌, ◌+◌, ◌≤◌, ◌++◌, [], List, ℕ, length, take, true};
 ghost use Rattle.std.specs.Prelude.{decimal};
-ghost use Rattle.trac_cli.specs.Lines.{fault_text, is_one_line, memory_text, report_text};
-ghost use Rattle.trac_cli.specs.Lines.{status_of};
+ghost use Rattle.trac_lines.specs.Lines.{fault_text, is_one_line, memory_text, report_text};
+ghost use Rattle.trac_lines.specs.Lines.{status_of};
 
 use itoa::Buffer;
+use std::io::Write;
 use std::marker::Model;
 use trac_core::{Fate, Report};
 use trac_words::Settings;
@@ -22,6 +26,13 @@ impl Model for Line {
     ghost view = { λ line. take line.len line.bytes };
 
     ghost invariant = { λ line. (line.len ≤ 80) × (is_one_line (take line.len line.bytes) ≡ true) };
+}
+
+/// Writes a line and its line feed to standard error, or wherever the program tells its faults. A
+/// failure is ignored.
+pub fn write_line<W: Write>(errors: &mut W, line: &Line) {
+    let _ = errors.write_all(line.as_bytes());
+    let _ = errors.write_all(b"\n");
 }
 
 impl Line {
