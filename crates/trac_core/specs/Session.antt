@@ -7,7 +7,8 @@ use Rattle.trac_language.specs.State.{Memory, Input}
 use Rattle.trac_language.specs.Meaning.{Meaning, Gives, Ends}
 use Rattle.trac_language.specs.Step.{Outcome, Next, Over, step}
 use Rattle.trac_core.specs.declared.machine.session.Awaits.{Awaits}
-use Rattle.trac_core.specs.declared.machine.session.Awaits.TheVariants.{Nothing, Text as TextAwaited, Byte}
+use Rattle.trac_core.specs.declared.machine.session.Awaits.TheVariants.{Nothing, Byte}
+use Rattle.trac_core.specs.declared.machine.session.Awaits.TheVariants.{Text as TextAwaited}
 use Rattle.trac_core.specs.Performed.{performs}
 use Rattle.trac_core.specs.Machine.{MachineState, state_with}
 

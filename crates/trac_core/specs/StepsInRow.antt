@@ -51,8 +51,8 @@ pub record SomeSteps (n most : ℕ) (old new : Contents) : Type 0 where
   pub few : n ≤ most
   pub shorter : length new.active < length old.active
 
--- what the next step asks for: the idling procedure, since the active string is empty, or a call,
--- since a right parenthesis begins that string, which closes the call whose mark stands at the place
+-- what the next step asks for: the idling procedure, since the active string is empty; or the call
+-- whose mark stands at the place, since a right parenthesis that begins that string closes it
 abbrev pub AsksFor : Front → Contents → Type 0
 AsksFor Empty w = w.active ≡ []
 AsksFor (Closes place) w =

@@ -77,7 +77,8 @@ impl Sink for SliceSink<'_> {
               is_flushed = old.is_flushed && is_err result;
             } }
         ensures writes { Unit {0} →
-            (slice_output self.new).written ≡ after_put (slice_output self.old).written byte result }
+            (slice_output self.new).written ≡
+            after_put (slice_output self.old).written byte result }
         ensures told { Unit {0} → Unit {0} }
         ensures counts { self.new.failures ≡ self.old.failures + failures_of result }
         ensures kept { self.new.room.ghost_name ≡ self.old.room.ghost_name }
