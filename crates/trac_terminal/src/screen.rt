@@ -49,6 +49,8 @@ impl<O: Sink> Sink for Screen<O> {
 
     ghost failure_count = { λ s. O.failure_count s.sink };
 
+    ghost lent = { λ s. O.lent s.sink };
+
     fn put(&mut self, byte: u8) -> Result<(), SinkFailed> {
         self.sink.put(byte)?;
         self.is_at_start = byte == b'\n';
