@@ -1,4 +1,4 @@
-"""The man page: it formats without a warning, and says what the program's help and the README
+"""The man pages: they format without a warning, and say what the programs' help and the README
 say."""
 import os
 import re
@@ -6,7 +6,7 @@ import shutil
 import subprocess
 import unittest
 
-from trac import TERMINAL, TOP, run
+from trac import TERMINAL, TOP, TRACER, run
 
 PAGE = os.path.join(TOP, 'docs', 'trac.1')
 WIDE = {'MANWIDTH': '500', 'MANPAGER': 'cat', 'LC_ALL': 'C.UTF-8'}
@@ -55,6 +55,20 @@ class TerminalPage(unittest.TestCase):
             self.assertIn(option, options)
         self.assertEqual(re.findall(r'from 1 to (\d+)\. +The default is (\d+)', text),
                          [('16777216', '65536'), ('1000000000000', '1000000')])
+
+
+class TracePage(unittest.TestCase):
+    def test_it_formats_without_a_warning_and_shows_what_is_printed(self):
+        text, warnings, status = formatted(os.path.join(TOP, 'docs', 'trac_trace.1'))
+        self.assertEqual((warnings, status), ('', 0))
+        script, words, shown = re.search(
+            r'^ +\$ printf "(.*)" \| trac_trace (.*)\n((?: {11}.*\S.*\n)+)', text, re.MULTILINE).groups()
+        done = subprocess.run([TRACER, *words.split()], input=script.encode(), capture_output=True)
+        self.assertEqual([line[11:] for line in shown.splitlines()],
+                         done.stdout.decode().splitlines())
+        told = subprocess.run([TRACER, '--help'], capture_output=True, check=True).stdout.decode()
+        for option in re.findall(r'--\w+', told):
+            self.assertIn(option, section(text, 'OPTIONS'))
 
 
 class ManPage(unittest.TestCase):
