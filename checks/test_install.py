@@ -46,8 +46,8 @@ class Install(unittest.TestCase):
         there = files(self.room)
         for program in PROGRAMS:
             self.assertIn(f'share/man/man1/{program}.1', there)
-        self.assertIn('share/doc/trac/LANGUAGE.md', there)
-        with open(os.path.join(self.room, 'share/doc/trac/examples/hanoi.trac')) as example:
+        self.assertIn('share/doc/trac-t64/LANGUAGE.md', there)
+        with open(os.path.join(self.room, 'share/doc/trac-t64/examples/hanoi.trac')) as example:
             script = example.read()
         with open(os.path.join(TOP, 'examples', 'hanoi.out')) as shown:
             self.assertEqual(self.run_there('trac', script), (shown.read(), 0))
