@@ -1,5 +1,6 @@
 //! The machine: one step, and a run to the end.
-ghost use Rattle.std.specs.Prelude.{◌≡◌, ◌≢◌, ◌+◌, ◌-◌, ◌^◌, ◌<◌, ◌≤◌, ◌++◌, length, false};
+ghost use Rattle.std.specs.Prelude.{◌≡◌, ◌≢◌, ◌+◌, ◌-◌, ◌^◌, ◌<◌, ◌≤◌};
+ghost use Rattle.std.specs.Prelude.{◌++◌, length, false};
 ghost use Rattle.std.specs.Prelude.{true, None, Some, IsSome};
 ghost use Rattle.trac_language.specs.Text.{Text};
 ghost use Rattle.trac_devices.specs.Devices.{Sent};
