@@ -105,6 +105,11 @@ static void run_in_turns(size_t piece, uint64_t most) {
         }
     } while (run.report.fate == TRAC_GOING || run.report.fate == TRAC_WANTS_INPUT ||
              run.report.fate == TRAC_WANTS_OUTPUT);
+    /* The run is over, and stays so. */
+    const trac_report later = trac_turn(machine, run.script, start, 1, run.output, run.room, 1);
+    if (later.fate != run.report.fate || later.steps != run.report.steps ||
+        later.peak != run.report.peak || later.written || later.consumed)
+        exit(74);
     run.report.written = written;
     run.report.consumed = start;
     free(machine);
