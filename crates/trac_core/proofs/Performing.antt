@@ -391,6 +391,22 @@ no-failure-made f args w mid Forced is = (refl, (refl, λ e. absurd cc))
 no-failure-made f args w mid (Defined cells) is = (refl, (refl, λ e. absurd cc))
 no-failure-made f args w mid (Over fate) is = absurd is
 
+-- what ends the run, or isn't done, was made of nothing but too few cells
+pub only-full : (f : Function) (args : List Text) (w mid : Contents) (made : Made) → Makes f args w made mid → fate_after made ≢ None → made ≡ Full
+only-full f args w mid Full is some = refl
+only-full f args w mid Value is some = absurd (some refl)
+only-full f args w mid Forced is some = absurd (some refl)
+only-full f args w mid (Defined cells) is some = absurd (some refl)
+only-full f args w mid (Over fate) is some = absurd is
+
+-- and then nothing is settled
+pub unsettled : (made : Made) (place from : ℕ) (w : Contents) → fate_after made ≢ None → settled made place from w ≡ w
+unsettled Full place from w some = refl
+unsettled Value place from w some = absurd (some refl)
+unsettled Forced place from w some = absurd (some refl)
+unsettled (Defined cells) place from w some = absurd (some refl)
+unsettled (Over fate) place from w some = refl
+
 -- a null value stands anywhere
 pub stands-null : (w : Contents) → IsSound w → Stands (Defined 0) (used w) (length w.neutral) w
 stands-null w sound = let fits = sound.fits in record { within = omega arith; fits = omega arith }

@@ -46,6 +46,8 @@ pub(crate) fn advance<I: Source, O: Sink>(
     ensures sent { result.fate ≢ Some Fate.OutputFailed →
         Sent O.tells O.flushed O.written sink.old sink.new }
     ensures unspent { result.fate ≢ Some Fate.Steps }
+    ensures stay { result.fate ≢ None →
+        (work.new.forms ≡ work.old.forms) × (meta.new ≡ meta.old) }
     ensures unread { reads_input (performs (memory_of meta.old work.old)) ≡ false →
         source.new ≡ source.old }
     ensures unprinted { prints_output (performs (memory_of meta.old work.old)) ≡ false →
@@ -89,6 +91,8 @@ pub(crate) fn carry_out<I: Source, O: Sink>(
     ensures sent { result.fate ≢ Some Fate.OutputFailed →
         Sent O.tells O.flushed O.written sink.old sink.new }
     ensures unspent { result.fate ≢ Some Fate.Steps }
+    ensures stay { result.fate ≢ None →
+        (work.new.forms ≡ work.old.forms) × (meta.new ≡ meta.old) }
     ensures unread { reads_input (performs (memory_of meta.old work.old)) ≡ false →
         source.new ≡ source.old }
     ensures unprinted { prints_output (performs (memory_of meta.old work.old)) ≡ false →
@@ -133,6 +137,8 @@ fn close<I: Source, O: Sink>(
     ensures sent { result.fate ≢ Some Fate.OutputFailed →
         Sent O.tells O.flushed O.written sink.old sink.new }
     ensures unspent { result.fate ≢ Some Fate.Steps }
+    ensures stay { result.fate ≢ None →
+        (work.new.forms ≡ work.old.forms) × (meta.new ≡ meta.old) }
     ensures unread { reads_input (performs (memory_of meta.old work.old)) ≡ false →
         source.new ≡ source.old }
     ensures unprinted { prints_output (performs (memory_of meta.old work.old)) ≡ false →
@@ -174,6 +180,8 @@ fn perform<I: Source, O: Sink>(
     ensures sent { result.fate ≢ Some Fate.OutputFailed →
         Sent O.tells O.flushed O.written sink.old sink.new }
     ensures unspent { result.fate ≢ Some Fate.Steps }
+    ensures stay { result.fate ≢ None →
+        (work.new.forms ≡ work.old.forms) × (meta.new ≡ meta.old) }
     ensures unread { reads_input (function_at work.old.neutral place) ≡ false →
         source.new ≡ source.old }
     ensures unprinted { prints_output (function_at work.old.neutral place) ≡ false →
@@ -217,6 +225,8 @@ fn answer<I: Source, O: Sink>(
     ensures sent { result ≢ Made.Over Fate.OutputFailed →
         Sent O.tells O.flushed O.written sink.old sink.new }
     ensures unspent { result ≢ Made.Over Fate.Steps }
+    ensures stay { fate_after result ≢ None →
+        (work.new.forms ≡ work.old.forms) × (meta.new ≡ meta.old) }
     ensures unread { reads_input (function_at work.old.neutral place) ≡ false →
         source.new ≡ source.old }
     ensures unprinted { prints_output (function_at work.old.neutral place) ≡ false →
@@ -254,6 +264,7 @@ fn value_of(work: &mut Work, function: Function, arguments: Arguments) -> Made
     requires arguments { AreArguments work.old arguments }
     ensures makes { is_plain function ≡ true →
         Performs function work.old arguments result work.new }
+    ensures unmade { result ≡ Made.Full → work.new.forms ≡ work.old.forms }
     ensures room { work.new.room ≡ work.old.room }
     ensures sound { IsSound work.new }
 {

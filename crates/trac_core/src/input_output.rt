@@ -35,6 +35,7 @@ pub(crate) fn read_string<I: Source>(work: &mut Work, meta: u8, source: &mut I) 
     ensures takes { I.tells source.old → (taken : Text) ×
         TakesFrom work.old (I.stream source.old) (I.stream source.new) taken }
     ensures told { I.tells source.old → I.tells source.new }
+    ensures forms { work.new.forms ≡ work.old.forms }
     ensures room { work.new.room ≡ work.old.room }
     ensures sound { IsSound work.new }
 {
@@ -64,6 +65,7 @@ pub(crate) fn read_character<I: Source>(work: &mut Work, source: &mut I) -> Made
     ensures takes { I.tells source.old → (taken : Text) ×
         TakesFrom work.old (I.stream source.old) (I.stream source.new) taken }
     ensures told { I.tells source.old → I.tells source.new }
+    ensures forms { work.new.forms ≡ work.old.forms }
     ensures room { work.new.room ≡ work.old.room }
     ensures sound { IsSound work.new }
 {

@@ -139,6 +139,9 @@ impl<'a> Machine<'a> {
         ensures told_source { I.tells source.old → I.tells source.new }
         ensures told_sink { O.tells sink.old → O.tells sink.new }
         ensures kept { O.lent sink.new ≡ O.lent sink.old }
+        // a step that ends the run leaves the forms and the meta character as they were
+        ensures stay { result ≢ None → (self.new.memory.forms ≡ self.old.memory.forms)
+            × (self.new.memory.meta ≡ self.old.memory.meta) }
         // the limits stay, and are kept
         ensures room { self.new.room ≡ self.old.room }
         ensures allowance { self.new.allowance ≡ self.old.allowance }

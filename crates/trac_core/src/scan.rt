@@ -232,6 +232,7 @@ pub(crate) fn load_idling(work: &mut Work) -> Attempt
     requires { work.old.active ≡ [] }
     ensures scanned { Scanned result.fate result.need work.old work.new }
     ensures fate { NoneFailed result.fate }
+    ensures forms { work.new.forms ≡ work.old.forms }
     ensures fits { result.need ≤ work.old.room }
     ensures room { work.new.room ≡ work.old.room }
     ensures sound { IsSound work.new }

@@ -98,6 +98,7 @@ pub fn give(work: &mut Work, part: (u32, u32), forced: bool) -> Made
         MakesValue text forced work.old result work.new }
     ensures takes { let text = part_text work.old.neutral part.0 part.1 in
         forced ≡ true → (k : ℕ) → TakesPart None text k work.old result work.new }
+    ensures unmade { result ≡ Made.Full → work.new.forms ≡ work.old.forms }
     ensures room { work.new.room ≡ work.old.room }
     ensures sound { IsSound work.new }
 {

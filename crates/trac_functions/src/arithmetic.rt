@@ -22,6 +22,7 @@ pub fn arithmetic(work: &mut Work, operation: Arith, mut arguments: Arguments) -
     requires { AreArguments work.old arguments }
     ensures makes { (name : Text) →
         Makes (Arithmetic operation) (name ∷ texts work.old arguments) work.old result work.new }
+    ensures unmade { result ≡ Made.Full → work.new.forms ≡ work.old.forms }
     ensures room { work.new.room ≡ work.old.room }
     ensures sound { IsSound work.new }
 {
@@ -44,6 +45,7 @@ fn give_number(work: &mut Work, prefix: (u32, u32), number: i128) -> Made
         let value = before ++ signed_decimal number in
         Valued function args work.old.forms value false work.old.forms →
         Makes function args work.old result work.new }
+    ensures unmade { result ≡ Made.Full → work.new.forms ≡ work.old.forms }
     ensures room { work.new.room ≡ work.old.room }
     ensures sound { IsSound work.new }
 {

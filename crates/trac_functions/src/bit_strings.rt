@@ -33,6 +33,7 @@ pub enum BitResult {
 pub fn union(work: &mut Work, mut arguments: Arguments) -> Made
     requires { AreArguments work.old arguments }
     ensures makes { Performs Union work.old arguments result work.new }
+    ensures unmade { result ≡ Made.Full → work.new.forms ≡ work.old.forms }
     ensures room { work.new.room ≡ work.old.room }
     ensures sound { IsSound work.new }
 {
@@ -49,6 +50,7 @@ pub fn union(work: &mut Work, mut arguments: Arguments) -> Made
 pub fn intersection(work: &mut Work, mut arguments: Arguments) -> Made
     requires { AreArguments work.old arguments }
     ensures makes { Performs Intersection work.old arguments result work.new }
+    ensures unmade { result ≡ Made.Full → work.new.forms ≡ work.old.forms }
     ensures room { work.new.room ≡ work.old.room }
     ensures sound { IsSound work.new }
 {
@@ -68,6 +70,7 @@ pub fn intersection(work: &mut Work, mut arguments: Arguments) -> Made
 pub fn complement(work: &mut Work, mut arguments: Arguments) -> Made
     requires { AreArguments work.old arguments }
     ensures makes { Performs Complement work.old arguments result work.new }
+    ensures unmade { result ≡ Made.Full → work.new.forms ≡ work.old.forms }
     ensures room { work.new.room ≡ work.old.room }
     ensures sound { IsSound work.new }
 {
@@ -83,6 +86,7 @@ pub fn complement(work: &mut Work, mut arguments: Arguments) -> Made
 pub fn shift(work: &mut Work, mut arguments: Arguments) -> Made
     requires { AreArguments work.old arguments }
     ensures makes { Performs Shift work.old arguments result work.new }
+    ensures unmade { result ≡ Made.Full → work.new.forms ≡ work.old.forms }
     ensures room { work.new.room ≡ work.old.room }
     ensures sound { IsSound work.new }
 {
@@ -100,6 +104,7 @@ pub fn shift(work: &mut Work, mut arguments: Arguments) -> Made
 pub fn rotate(work: &mut Work, mut arguments: Arguments) -> Made
     requires { AreArguments work.old arguments }
     ensures makes { Performs Rotate work.old arguments result work.new }
+    ensures unmade { result ≡ Made.Full → work.new.forms ≡ work.old.forms }
     ensures room { work.new.room ≡ work.old.room }
     ensures sound { IsSound work.new }
 {
@@ -199,6 +204,7 @@ fn give_bits(work: &mut Work, prefix: (u32, u32), bits: BitResult) -> Made
         let value = before ++ octal_made work.old.neutral bits in
         Valued function args work.old.forms value false work.old.forms →
         Makes function args work.old result work.new }
+    ensures unmade { result ≡ Made.Full → work.new.forms ≡ work.old.forms }
     ensures room { work.new.room ≡ work.old.room }
     ensures sound { IsSound work.new }
 {

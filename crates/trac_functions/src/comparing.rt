@@ -11,6 +11,7 @@ use trac_forms::Work;
 pub fn equal(work: &mut Work, mut arguments: Arguments) -> Made
     requires { AreArguments work.old arguments }
     ensures makes { Performs Equal work.old arguments result work.new }
+    ensures unmade { result ≡ Made.Full → work.new.forms ≡ work.old.forms }
     ensures room { work.new.room ≡ work.old.room }
     ensures sound { IsSound work.new }
 {
@@ -31,6 +32,7 @@ pub fn equal(work: &mut Work, mut arguments: Arguments) -> Made
 pub fn greater(work: &mut Work, mut arguments: Arguments) -> Made
     requires { AreArguments work.old arguments }
     ensures makes { Performs Greater work.old arguments result work.new }
+    ensures unmade { result ≡ Made.Full → work.new.forms ≡ work.old.forms }
     ensures room { work.new.room ≡ work.old.room }
     ensures sound { IsSound work.new }
 {

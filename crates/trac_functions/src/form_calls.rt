@@ -23,6 +23,7 @@ use trac_forms::{FormId, Work};
 pub fn delete_all(work: &mut Work) -> Made
     requires { IsSound work.old }
     ensures makes { (args : List Text) → Makes DeleteAll args work.old result work.new }
+    ensures unmade { result ≡ Made.Full → work.new.forms ≡ work.old.forms }
     ensures room { work.new.room ≡ work.old.room }
     ensures sound { IsSound work.new }
 {
@@ -36,6 +37,7 @@ pub fn delete_all(work: &mut Work) -> Made
 pub fn define_string(work: &mut Work, mut arguments: Arguments) -> Made
     requires { AreArguments work.old arguments }
     ensures makes { Performs DefineString work.old arguments result work.new }
+    ensures unmade { result ≡ Made.Full → work.new.forms ≡ work.old.forms }
     ensures room { work.new.room ≡ work.old.room }
     ensures sound { IsSound work.new }
 {
@@ -55,6 +57,7 @@ pub fn define_string(work: &mut Work, mut arguments: Arguments) -> Made
 pub fn segment_string(work: &mut Work, mut arguments: Arguments) -> Made
     requires { AreArguments work.old arguments }
     ensures makes { Performs SegmentString work.old arguments result work.new }
+    ensures unmade { result ≡ Made.Full → work.new.forms ≡ work.old.forms }
     ensures room { work.new.room ≡ work.old.room }
     ensures sound { IsSound work.new }
 {
@@ -76,6 +79,7 @@ pub fn segment_string(work: &mut Work, mut arguments: Arguments) -> Made
 pub fn list_names(work: &mut Work, mut arguments: Arguments) -> Made
     requires { AreArguments work.old arguments }
     ensures makes { Performs ListNames work.old arguments result work.new }
+    ensures unmade { result ≡ Made.Full → work.new.forms ≡ work.old.forms }
     ensures room { work.new.room ≡ work.old.room }
     ensures sound { IsSound work.new }
 {
@@ -103,6 +107,7 @@ fn put_name(work: &mut Work, before: (u32, u32), form: FormId) -> bool
         OnTrue result (work.new ≡ record work.old {
           neutral = work.old.neutral ++ flat_text text;
         }) }
+    ensures forms { work.new.forms ≡ work.old.forms }
     ensures room { work.new.room ≡ work.old.room }
     ensures sound { IsSound work.new }
 {
@@ -117,6 +122,7 @@ fn put_name(work: &mut Work, before: (u32, u32), form: FormId) -> bool
 pub fn delete_definition(work: &mut Work, mut arguments: Arguments) -> Made
     requires { AreArguments work.old arguments }
     ensures makes { Performs DeleteDefinition work.old arguments result work.new }
+    ensures unmade { result ≡ Made.Full → work.new.forms ≡ work.old.forms }
     ensures room { work.new.room ≡ work.old.room }
     ensures sound { IsSound work.new }
 {
@@ -134,6 +140,7 @@ pub fn delete_definition(work: &mut Work, mut arguments: Arguments) -> Made
 pub fn call_form(work: &mut Work, mut arguments: Arguments) -> Made
     requires { AreArguments work.old arguments }
     ensures makes { Performs CallForm work.old arguments result work.new }
+    ensures unmade { result ≡ Made.Full → work.new.forms ≡ work.old.forms }
     ensures room { work.new.room ≡ work.old.room }
     ensures sound { IsSound work.new }
 {

@@ -31,6 +31,7 @@ use trac_values::{Count, count_of};
 pub fn call_segment(work: &mut Work, mut arguments: Arguments) -> Made
     requires { AreArguments work.old arguments }
     ensures makes { Performs CallSegment work.old arguments result work.new }
+    ensures unmade { result ≡ Made.Full → work.new.forms ≡ work.old.forms }
     ensures room { work.new.room ≡ work.old.room }
     ensures sound { IsSound work.new }
 {
@@ -48,6 +49,7 @@ fn take_segment(work: &mut Work, form: FormId, default: (u32, u32)) -> Made
     requires part { IsTextPart work.old.neutral default.0 default.1 }
     requires sound { IsSound work.old }
     ensures takes { TakesOrDefault next_segment form.0 default work.old result work.new }
+    ensures unmade { result ≡ Made.Full → work.new.forms ≡ work.old.forms }
     ensures room { work.new.room ≡ work.old.room }
     ensures sound { IsSound work.new }
 {
@@ -67,6 +69,7 @@ fn take_segment(work: &mut Work, form: FormId, default: (u32, u32)) -> Made
 pub fn call_character(work: &mut Work, mut arguments: Arguments) -> Made
     requires { AreArguments work.old arguments }
     ensures makes { Performs CallCharacter work.old arguments result work.new }
+    ensures unmade { result ≡ Made.Full → work.new.forms ≡ work.old.forms }
     ensures room { work.new.room ≡ work.old.room }
     ensures sound { IsSound work.new }
 {
@@ -84,6 +87,7 @@ pub fn call_character(work: &mut Work, mut arguments: Arguments) -> Made
 pub fn call_number(work: &mut Work, mut arguments: Arguments) -> Made
     requires { AreArguments work.old arguments }
     ensures makes { Performs CallNumber work.old arguments result work.new }
+    ensures unmade { result ≡ Made.Full → work.new.forms ≡ work.old.forms }
     ensures room { work.new.room ≡ work.old.room }
     ensures sound { IsSound work.new }
 {
@@ -104,6 +108,7 @@ fn take_characters(work: &mut Work, form: FormId, count: Count, default: (u32, u
     requires sound { IsSound work.old }
     ensures takes { let part = characters (signed count.negative count.size) in
         TakesOrDefault part form.0 default work.old result work.new }
+    ensures unmade { result ≡ Made.Full → work.new.forms ≡ work.old.forms }
     ensures room { work.new.room ≡ work.old.room }
     ensures sound { IsSound work.new }
 {
@@ -124,6 +129,7 @@ fn take_forward(work: &mut Work, form: FormId, count: u32, default: (u32, u32)) 
     requires part { IsTextPart work.old.neutral default.0 default.1 }
     requires sound { IsSound work.old }
     ensures takes { TakesOrDefault (next_characters count) form.0 default work.old result work.new }
+    ensures unmade { result ≡ Made.Full → work.new.forms ≡ work.old.forms }
     ensures room { work.new.room ≡ work.old.room }
     ensures sound { IsSound work.new }
 {
@@ -143,6 +149,7 @@ fn take_backward(work: &mut Work, form: FormId, count: u32, default: (u32, u32))
     requires sound { IsSound work.old }
     ensures takes { let part = previous_characters count in
         TakesOrDefault part form.0 default work.old result work.new }
+    ensures unmade { result ≡ Made.Full → work.new.forms ≡ work.old.forms }
     ensures room { work.new.room ≡ work.old.room }
     ensures sound { IsSound work.new }
 {
@@ -203,6 +210,7 @@ fn take_part(work: &mut Work, form: FormId, part: (u32, u32), pointer: u32) -> M
     ensures takes { (z : Text) →
         let taken = part_between (body_at work.old.forms form.0) part pointer in
         TakesPart (Some taken) z form.0 work.old result work.new }
+    ensures unmade { result ≡ Made.Full → work.new.forms ≡ work.old.forms }
     ensures room { work.new.room ≡ work.old.room }
     ensures sound { IsSound work.new }
 {
@@ -225,6 +233,7 @@ pub fn copy_characters(work: &mut Work, form: FormId, from: u32, to: u32) -> boo
     ensures last { let text = characters_between (body_at work.old.forms form.0) from to in
         OnTrue result
         (work.new ≡ record work.old { neutral = work.old.neutral ++ flat_text text }) }
+    ensures forms { work.new.forms ≡ work.old.forms }
     ensures room { work.new.room ≡ work.old.room }
     ensures sound { IsSound work.new }
 {
@@ -276,6 +285,7 @@ fn gap_or(work: &Work, form: FormId, from: u32, to: u32) -> u32
 pub fn initial_part(work: &mut Work, mut arguments: Arguments) -> Made
     requires { AreArguments work.old arguments }
     ensures makes { Performs InitialPart work.old arguments result work.new }
+    ensures unmade { result ≡ Made.Full → work.new.forms ≡ work.old.forms }
     ensures room { work.new.room ≡ work.old.room }
     ensures sound { IsSound work.new }
 {
@@ -296,6 +306,7 @@ fn take_initial(work: &mut Work, form: FormId, sought: (u32, u32), default: (u32
     requires sound { IsSound work.old }
     ensures takes { let text = part_text work.old.neutral sought.0 sought.1 in
         TakesOrDefault (initial_part text) form.0 default work.old result work.new }
+    ensures unmade { result ≡ Made.Full → work.new.forms ≡ work.old.forms }
     ensures room { work.new.room ≡ work.old.room }
     ensures sound { IsSound work.new }
 {
@@ -313,6 +324,7 @@ fn take_initial(work: &mut Work, form: FormId, sought: (u32, u32), default: (u32
 pub fn call_restore(work: &mut Work, mut arguments: Arguments) -> Made
     requires { AreArguments work.old arguments }
     ensures makes { Performs CallRestore work.old arguments result work.new }
+    ensures unmade { result ≡ Made.Full → work.new.forms ≡ work.old.forms }
     ensures room { work.new.room ≡ work.old.room }
     ensures sound { IsSound work.new }
 {

@@ -1,9 +1,9 @@
-use Rattle.std.proofs.Common.{◌+◌, arith, drop, Some, sym, ap, ◌∙◌}
+use Rattle.std.proofs.Common.{refl, ◌+◌, arith, drop, Some, sym, ap, ◌∙◌}
 use Rattle.trac_language.specs.State.{argument}
 use Rattle.trac_language.specs.Function.{function_named}
 use Rattle.trac_functions.specs.Flat.{arguments_at}
 use Rattle.trac_functions.specs.Calls.{texts_from, texts}
-use Rattle.trac_core.proofs.Performing.{texts-all, plain-rest, answers-nothing, answers-made, stands-made, no-failure-made}
+use Rattle.trac_core.proofs.Performing.{texts-all, plain-rest, answers-nothing, answers-made, stands-made, no-failure-made, only-full}
 use Rattle.trac_core.proofs.Printing.{answers-halt}
 use Rattle.trac_core.proofs.call.answer.Goals as goal
 
@@ -66,3 +66,11 @@ returns-in_default-function-clause-unspent g c =
     let plain = plain-rest c.in-Some.function d.not-ReadString d.not-ReadCharacter d.not-ChangeMeta d.not-PrintString d.not-PrintForm d.not-Halt in
     let none = no-failure-made c.in-Some.function _ w c.value_of.new.work c.value_of.result (c.value_of.ensures.makes plain (argument (arguments_at w.neutral c.args.place) 0)) in
     none.1.1
+
+pub returns-in_default-function-clause-stay : goal.returns-in_default-function-clause-stay
+returns-in_default-function-clause-stay g c = λ some.
+    let w = c.args.work.now in
+    let d = c.in_default-function in
+    let plain = plain-rest c.in-Some.function d.not-ReadString d.not-ReadCharacter d.not-ChangeMeta d.not-PrintString d.not-PrintForm d.not-Halt in
+    let full = only-full c.in-Some.function _ w c.value_of.new.work c.value_of.result (c.value_of.ensures.makes plain (argument (arguments_at w.neutral c.args.place) 0)) some in
+    (c.value_of.ensures.unmade full, refl)
