@@ -6,6 +6,12 @@
  * that can't be touched. Writes the output on standard output, and the numbers of the report on
  * standard error. Each buffer is as large as is said and no larger, and the block is filled with
  * bytes that are no cells, so that a sanitizer sees each access outside of them.
+ * c_library view CELLS STEPS MOST: opens a machine over CELLS cells with an allowance of STEPS, gives
+ * it the script on standard input, and writes a line before each of its first MOST steps: the rule,
+ * what the step reads, the meta character, the cells of the four parts, and the codes of both
+ * strings. When the run is over, a line for each form: its pointer, and the codes of its name, of its
+ * display and of its body. Each buffer is tried with too little room and with too much. The display
+ * of each form whose name can be written in a call is compared with what `pf` prints.
  * c_library pointers: calls trac_run with pointers that it must refuse, and with null ones of length
  * 0, which it must not. */
 #define _DEFAULT_SOURCE
@@ -73,6 +79,17 @@ static int pointers(void) {
         trac_run(at + TRAC_CELL_ALIGN, 60, 99, NULL, 0, NULL, 0).fate != TRAC_INPUT_ENDED ||
         trac_run(cells, 64, 99, byte, 4, NULL, 0).fate != TRAC_OUTPUT_FAILED)
         return 2;
+    uint32_t *const crooked = (uint32_t *)(void *)(at + 1);
+    if (trac_form_count(NULL) || trac_form_name(NULL, 0, byte, 4) || trac_rule(at + 4) ||
+        trac_part(NULL, TRAC_PART_FREE) || trac_meta(NULL) || trac_awaits(NULL))
+        return 4;
+    uint64_t machine[(TRAC_MACHINE_SIZE + 7) / 8];
+    if (trac_open(machine, cells, 64, 9) || trac_part(machine, TRAC_PART_FREE) != 64 ||
+        trac_turn(machine, byte, 4, 1, NULL, 0, 1).fate != TRAC_GOING ||
+        trac_active(machine, NULL, 0) != 11 || trac_active(machine, NULL, 1) ||
+        trac_active(machine, crooked, 1) || trac_neutral(machine, crooked, 1) ||
+        trac_form_codes(machine, 0, crooked, 1) || trac_form_text(machine, 0, NULL, 1))
+        return 5;
     return sizeof cells < 64 * TRAC_CELL_SIZE ? 3 : 0;
 }
 
@@ -115,12 +132,135 @@ static void run_in_turns(size_t piece, uint64_t most) {
     free(machine);
 }
 
+/* ---- What a machine shows of itself. */
+
+static void *seen;
+static size_t seen_form, compared;
+
+static size_t name_of(void *to, size_t room) {
+    return trac_form_name(seen, seen_form, (uint8_t *)to, room);
+}
+
+static size_t text_of(void *to, size_t room) {
+    return trac_form_text(seen, seen_form, (uint8_t *)to, room);
+}
+
+static size_t codes_of(void *to, size_t room) {
+    return trac_form_codes(seen, seen_form, (uint32_t *)to, room);
+}
+
+static size_t neutral_of(void *to, size_t room) { return trac_neutral(seen, (uint32_t *)to, room); }
+
+static size_t active_of(void *to, size_t room) { return trac_active(seen, (uint32_t *)to, room); }
+
+/* Whether a room of so many items gets the first of these, as many as fit, and nothing more. */
+static int fills(size_t (*lay)(void *, size_t), size_t size, const uint8_t *items, size_t len,
+                 size_t room) {
+    uint8_t *to = (uint8_t *)buffer(room * size);
+    const size_t fits = len < room ? len : room;
+    int right = lay(to, room) == len && memcmp(to, items, fits * size) == 0;
+    for (size_t i = fits * size; i < room * size; i++)
+        right = right && to[i] == 0xA5;
+    free(to);
+    return right;
+}
+
+/* All items that a function lays, of a size each, in a buffer that is to be freed. */
+static uint8_t *laid(size_t (*lay)(void *, size_t), size_t size, size_t *len) {
+    *len = lay(NULL, 0);
+    uint8_t *items = (uint8_t *)buffer(*len * size);
+    if (lay(items, *len) != *len)
+        exit(80);
+    const size_t rooms[] = {0, 1, *len / 2, *len ? *len - 1 : 0, *len + 3};
+    for (size_t i = 0; i < sizeof rooms / sizeof *rooms; i++)
+        if (!fills(lay, size, items, *len, rooms[i]))
+            exit(81);
+    return items;
+}
+
+static void tell_items(size_t (*lay)(void *, size_t), size_t size) {
+    size_t len;
+    uint8_t *items = laid(lay, size, &len);
+    putchar('|');
+    for (size_t i = 0; i < len; i++) {
+        uint32_t code = items[i];
+        if (size == sizeof code)
+            memcpy(&code, items + i * size, size);
+        printf("%" PRIu32 " ", code);
+    }
+    free(items);
+}
+
+static void tell_step(void) {
+    printf("%" PRIu32 " %" PRIu32 " %" PRIu32, trac_rule(seen), trac_awaits(seen), trac_meta(seen));
+    for (uint32_t part = TRAC_PART_STORE; part <= TRAC_PART_ACTIVE; part++)
+        printf(" %zu", trac_part(seen, part));
+    tell_items(neutral_of, sizeof(uint32_t));
+    tell_items(active_of, sizeof(uint32_t));
+    putchar('\n');
+}
+
+/* Compares the display of a form with what `pf` prints, where its name can be written in a call. */
+static void compare_display(void) {
+    size_t name_len, text_len;
+    uint8_t *name = laid(name_of, 1, &name_len), *text = laid(text_of, 1, &text_len);
+    uint8_t *call = (uint8_t *)buffer(name_len + 8), *shown = (uint8_t *)buffer(text_len);
+    memcpy(call, "#(pf,(", 6);
+    memcpy(call + 6, name, name_len);
+    memcpy(call + 6 + name_len, "))", 2);
+    if (!memchr(name, '(', name_len) && !memchr(name, ')', name_len) &&
+        !memchr(call, (int)trac_meta(seen), name_len + 8)) {
+        trac_again(seen, 100000);
+        const trac_report done =
+            trac_turn(seen, call, name_len + 8, 1, shown, text_len, UINT64_MAX);
+        if (done.fate != TRAC_INPUT_ENDED || done.written != text_len ||
+            memcmp(shown, text, text_len) != 0)
+            exit(82);
+        compared++;
+    }
+    free(call);
+    free(shown);
+    free(name);
+    free(text);
+}
+
+static void view(uint64_t most) {
+    uint8_t *output = (uint8_t *)buffer(run.room);
+    size_t start = 0;
+    seen = buffer(TRAC_MACHINE_SIZE);
+    if (trac_open(seen, run.block, run.cells, run.steps))
+        exit(71);
+    do {
+        if (run.report.steps < most)
+            tell_step();
+        run.report = trac_turn(seen, run.script + start, run.script_len - start, 1, output, run.room,
+                               run.report.steps < most ? 1 : UINT64_MAX);
+        start += run.report.consumed;
+    } while (run.report.fate == TRAC_GOING);
+    if (trac_awaits(seen) != TRAC_AWAITS_NOTHING)
+        exit(83);
+    const size_t forms = trac_form_count(seen);
+    for (seen_form = 0; seen_form <= forms; seen_form++) {
+        printf("form %zu", trac_form_pointer(seen, seen_form));
+        tell_items(name_of, 1);
+        tell_items(text_of, 1);
+        tell_items(codes_of, sizeof(uint32_t));
+        putchar('\n');
+        if (seen_form < forms && run.cells == 65536)
+            compare_display();
+    }
+    printf("compared %zu\n", compared);
+    free(output);
+    free(seen);
+}
+
 int main(int argc, char **argv) {
     static uint8_t read[1 << 22];
     if (argc == 2 && strcmp(argv[1], "pointers") == 0)
         return pointers();
     const int in_turns = argc == 7 && strcmp(argv[1], "turns") == 0;
-    if (in_turns) {
+    const int viewed = argc == 5 && strcmp(argv[1], "view") == 0;
+    if (in_turns || viewed) {
         argc--;
         argv++;
     }
@@ -134,13 +274,16 @@ int main(int argc, char **argv) {
     run.script = (uint8_t *)buffer(run.script_len);
     run.output = (uint8_t *)buffer(run.room);
     memcpy(run.script, read, run.script_len);
-    if (in_turns)
+    if (viewed) {
+        run.room = 1 << 20;
+        view(strtoull(argv[3], 0, 10));
+    } else if (in_turns)
         run_in_turns(strtoul(argv[4], 0, 10), strtoull(argv[5], 0, 10));
     else if (argc > 4)
         run_on_stack(strtoul(argv[4], 0, 10));
     else
         run_at_once();
-    if (!in_turns)
+    if (!in_turns && !viewed)
         fwrite(run.output, 1, run.report.written, stdout);
     tell(run.report);
     free(run.block);

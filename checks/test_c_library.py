@@ -7,8 +7,8 @@ import subprocess
 import tempfile
 import unittest
 
-from rows import rows
-from trac import TOP, report
+from rows import Row, rows
+from trac import TOP, report, trace
 
 DIST = os.path.join(TOP, 'dist')
 LIBRARY = os.path.join(DIST, 'libtrac.a')
@@ -29,6 +29,14 @@ LEFT_OPEN = {'memcpy', 'memmove', 'memset', '__divti3', '__udivti3', '__modti3',
 
 # The bytes of input that a turn gets more.
 PIECES = (1, 2, 3, 7, 64)
+
+# The most steps of a row whose strings are compared with those of its trace.
+SEEN = 200
+
+RULES = ('idling', 'layout', 'protection', 'argument', 'active call', 'neutral call', 'number sign',
+         'end of call', 'character')
+MARKS = {256: '<#>', 257: '<##>', 258: '<,>'}
+ESCAPED = {9: r'\t', 10: r'\n', 13: r'\r', 92: r'\\'}
 
 # Bytes of stack that trac_run needs beside what its caller has.
 STACK = 8 * 1024
@@ -52,6 +60,37 @@ def call(program, script, *numbers, kind=None):
     if done.returncode:
         raise AssertionError(f'{done.returncode}: {done.stderr.decode()}')
     return done.stdout, *map(int, done.stderr.split())
+
+
+def shown(code):
+    """A code as a trace shows it."""
+    if code in MARKS or code in ESCAPED:
+        return MARKS.get(code) or ESCAPED[code]
+    return chr(code) if 32 <= code <= 126 else f'\\x{code:02x}'
+
+
+def codes(text):
+    return [int(word) for word in text.split()]
+
+
+def view(program, row, most):
+    """What is seen of a machine before each of the first steps of a row, of its forms afterwards, and
+    how many displays were compared with what `pf` prints."""
+    done = subprocess.run([program, 'view', str(row.cells), str(row.allowed), str(most)],
+                          input=row.script, capture_output=True, timeout=60)
+    if done.returncode:
+        raise AssertionError(f'{row}: {done.returncode}: {done.stderr.decode()}')
+    *lines, compared = done.stdout.decode().splitlines()
+    parts = [[codes(part) for part in line.replace('form', '').split('|')] for line in lines]
+    first = [line.startswith('form') for line in lines].index(True)
+    return parts[:first], parts[first:], int(compared.split()[1])
+
+
+def traced(row):
+    """The steps of a row's trace: the rule, the size before it, and both strings after it."""
+    lines, _ = trace(row.script, '--cells', str(row.cells), '--steps', str(row.allowed))
+    return [(line[8:21].rstrip(), int(line[21:27]), line[35:]) for line in lines[1:-1]
+            if 'prints: ' not in line[:16]]
 
 
 class Library(unittest.TestCase):
@@ -103,6 +142,56 @@ class Library(unittest.TestCase):
                     self.assertEqual(
                         (output, STATUS.get(fate), steps, peak, written),
                         (row.output, row.status, row.steps, row.peak, len(row.output)))
+
+    def test_what_each_row_shows_before_each_step(self):
+        for row in rows():
+            if not 0 < row.steps <= SEEN:
+                continue
+            with self.subTest(row=row):
+                steps, _, _ = view(self.programs[2], row, SEEN)
+                wanted = traced(row)
+                self.assertGreaterEqual(len(steps), len(wanted))
+                before = '|'
+                for ((rule, awaits, _, *cells), neutral, active), (name, size, after) in zip(
+                        steps, wanted):
+                    self.assertEqual(
+                        ''.join(map(shown, neutral)) + '|' + ''.join(map(shown, active)), before)
+                    self.assertEqual(RULES[rule], name)
+                    self.assertEqual((sum(cells), cells[1], cells[2], cells[3]),
+                                     (row.cells, len(neutral), row.cells - size, len(active)))
+                    if awaits:
+                        self.assertEqual(name, 'end of call')
+                    before = after
+
+    def test_what_a_step_awaits_and_the_meta_character(self):
+        row = Row(b"#(cm,!)'#(ps,#(rc))!x", 100, 1000, b'x', 0, 0, 0)
+        steps, _, _ = view(self.programs[2], row, 1000)
+        # nine steps of the idling procedure, and six of the call
+        self.assertEqual([parts[0][2] for parts in steps], [39] * 15 + [33] * (len(steps) - 15))
+        self.assertEqual([parts[0][1] for parts in steps if parts[0][1]], [1, 1, 2, 1])
+
+    def test_the_forms_of_each_row(self):
+        compared = 0
+        for row in rows():
+            with self.subTest(row=row):
+                _, forms, more = view(self.programs[2], row, 0)
+                compared += more
+                # behind the last form there is none
+                self.assertEqual(forms.pop(), [[0], [], [], []])
+                for [pointer], _, text, body in forms:
+                    items = [chr(code) if code < 256 else f'<{code - 255}>' for code in body]
+                    items.insert(pointer, '<^>')
+                    self.assertEqual(''.join(map(chr, text)), ''.join(items))
+        self.assertGreater(compared, 100)
+
+    def test_a_form_that_is_segmented(self):
+        row = Row(b"#(ds,,x)#(ds,AB,p-q-)#(ss,AB,-,q)#(cc,AB)'", 60, 1000, b'', 0, 0, 0)
+        _, forms, _ = view(self.programs[2], row, 0)
+        self.assertEqual(forms, [
+            [[0], [], [*b'<^>x'], [*b'x']],
+            [[1], [*b'AB'], [*b'p<^><1><2><1>'], [ord('p'), 256, 257, 256]],
+            [[0], [], [], []],
+        ])
 
     def test_a_string_that_the_cells_can_not_hold(self):
         for length in range(1, 40):

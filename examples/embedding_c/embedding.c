@@ -1,5 +1,5 @@
 /* A script that is run at once, one that comes in pieces of 5 bytes, and forms that stay over three
- * scripts. The static buffers are all the memory that the engine has. */
+ * scripts and are then listed. The static buffers are all the memory that the engine has. */
 #include "trac.h"
 
 #include <inttypes.h>
@@ -18,7 +18,7 @@ static const char greeting[] =
 static const char *const scripts[] = {
     "#(ds,north,cold)'",
     "#(ds,south,warm)#(ps,the south is #(cl,south))'",
-    "#(ps,forms:#(ln,( )))'",
+    "#(ss,south,r)#(ps,forms:#(ln,( )))'",
 };
 
 static void show(trac_report report) {
@@ -61,9 +61,19 @@ static void over_three_scripts(void) {
     }
 }
 
+/* Their lengths tell the names and displays whole; the buffers get what fits, which is all here. */
+static void list(void) {
+    uint8_t name[16], text[32];
+    for (size_t k = 0; k < trac_form_count(machine); k++) {
+        printf("%.*s: ", (int)trac_form_name(machine, k, name, sizeof name), (const char *)name);
+        printf("%.*s\n", (int)trac_form_text(machine, k, text, sizeof text), (const char *)text);
+    }
+}
+
 int main(void) {
     at_once();
     in_pieces();
     over_three_scripts();
+    list();
     return 0;
 }

@@ -3,12 +3,21 @@
 //! processor's own choice.
 #![tactic(auto)]
 
+mod filling;
+mod forms;
 mod kept;
 mod lent_sink;
 mod report;
 mod run;
+mod strings;
 mod turn;
+mod view;
 
 pub use kept::{trac_engine_again, trac_engine_machine_size, trac_engine_open, trac_engine_turn};
 pub use report::TracReport;
 pub use run::trac_engine_run;
+pub use view::{
+    trac_engine_active, trac_engine_awaits, trac_engine_form_codes, trac_engine_form_count,
+    trac_engine_form_name, trac_engine_form_pointer, trac_engine_form_text, trac_engine_meta,
+    trac_engine_neutral, trac_engine_part, trac_engine_rule,
+};

@@ -1,0 +1,12 @@
+use Rattle.std.proofs.Common.{◌≡◌, ◌≤◌, length, take, map}
+use Rattle.trac_space.specs.Texts.{character_of}
+use Rattle.trac_c.specs.Laid.{laid}
+use Rattle.trac_c.proofs.forms.lay_characters.Given as goal
+
+-- the characters up to a place are put
+abbrev pub invariant-loop-i : goal.invariant-loop-i
+invariant-loop-i l =
+    record {
+      laid : l.room ≡ laid (map character_of (take l.i l.cells)) l.initial.room;
+      within : l.i ≤ length l.cells;
+    }

@@ -1,0 +1,14 @@
+use Rattle.std.proofs.Common.{◌≡◌, ◌≤◌, length, take}
+use Rattle.trac_functions.specs.Flat.{neutral_of}
+use Rattle.trac_c.specs.Laid.{laid}
+use Rattle.trac_c.specs.View.{codes_of_neutral, has_call}
+use Rattle.trac_c.proofs.strings.lay_marks.Given as goal
+
+-- the codes of the cells up to a place are put
+abbrev pub invariant-loop-i : goal.invariant-loop-i
+invariant-loop-i l =
+    record {
+      laid : l.room ≡ laid (codes_of_neutral (neutral_of (take l.i l.cells))) l.initial.room;
+      in_call : l.in_call ≡ has_call (neutral_of (take l.i l.cells)).calls;
+      within : l.i ≤ length l.cells;
+    }

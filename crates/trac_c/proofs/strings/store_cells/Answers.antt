@@ -1,0 +1,15 @@
+use Rattle.std.proofs.Common.{◌∙◌, sym, ap, length, arith}
+use Rattle.std.proofs.lemmas.List.{length-map}
+use Rattle.trac_space.specs.Texts.{character_of}
+use Rattle.trac_core.specs.View.{neutral_in}
+use Rattle.trac_c.proofs.Coding.{codes-size}
+use Rattle.trac_c.proofs.strings.store_cells.Goals as goal
+
+pub returns : goal.returns
+returns c =
+    let active = sym (length-map c.active.result.now character_of) ∙ ap (λ t. length t) c.active.ensures in
+    let neutral = c.neutral_cells.ensures ∙ codes-size (neutral_in c.args.machine.now.memory) in
+    let size = c.size.ensures in
+    let rest = c.saturating_sub-rest.ensures in
+    let less = c.saturating_sub.ensures in
+    omega (arith, active, neutral, size, rest, less)

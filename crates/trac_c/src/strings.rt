@@ -1,0 +1,171 @@
+//! The strings of a machine as numbers, and what else it shows of itself.
+ghost use Rattle.std.specs.Prelude.{◌≡◌, ◌-◌, length};
+ghost use Rattle.trac_language.specs.Store.{cells};
+ghost use Rattle.trac_language.specs.State.{size};
+ghost use Rattle.trac_language.specs.Rule.{rule};
+ghost use Rattle.trac_space.specs.Texts.{text_of_cells};
+ghost use Rattle.trac_functions.specs.Flat.{neutral_of};
+ghost use Rattle.trac_core.specs.Session.{awaited, next_function};
+ghost use Rattle.trac_core.specs.View.{neutral_in, row_of};
+ghost use Rattle.trac_c.specs.Laid.{Lays, laid};
+ghost use Rattle.trac_c.specs.View.{codes_of_neutral, cell_code, rule_number, awaits_number};
+ghost use Rattle.trac_c.specs.View.{part_cells};
+ghost use Rattle.trac_c.specs.View.{mark_code, comma_code, is_open_after};
+
+use crate::filling::put;
+use trac_core::{Awaits, Cell, Machine, ScanningRule};
+use trac_space::{Mode, character_of};
+
+/// Puts the active string to the front of a buffer, as much as fits, and gives its length.
+pub(crate) fn lay_active(machine: &mut Machine<'static>, room: &mut [u32]) -> usize
+    ensures { Lays machine.old.memory.active result room.old room.new ×
+        (machine.new ≡ machine.old) }
+{
+    lay_characters(machine.active(), room)
+}
+
+/// Puts characters to the front of a buffer, as many as fit, and gives how many there are.
+fn lay_characters(cells: &[Cell], room: &mut [u32]) -> usize
+    ensures length { result ≡ length (text_of_cells cells.now) }
+    ensures laid { room.new ≡ laid (text_of_cells cells.now) room.old }
+{
+    for i in 0..cells.len().min(room.len()) {
+        put(u32::from(character_of(&cells[i])), i, room);
+    }
+    cells.len()
+}
+
+/// Puts the codes of the neutral string to the front of a buffer, as many as fit, and gives how
+/// many there are.
+pub(crate) fn lay_neutral(machine: &mut Machine<'static>, room: &mut [u32]) -> usize
+    ensures { Lays (codes_of_neutral (neutral_in machine.old.memory)) result room.old room.new ×
+        (machine.new ≡ machine.old) }
+{
+    lay_marks(machine.neutral(), room)
+}
+
+/// The same of the cells of a neutral string. A comma mark outside all calls, where none ever
+/// stands, counts as a character.
+fn lay_marks(cells: &[Cell], room: &mut [u32]) -> usize
+    ensures length { result ≡ length (codes_of_neutral (neutral_of cells.now)) }
+    ensures laid { room.new ≡ laid (codes_of_neutral (neutral_of cells.now)) room.old }
+{
+    let mut in_call = false;
+    for i in 0..cells.len() {
+        put(code(cells[i], in_call), i, room);
+        in_call = is_in_call(cells[i], in_call);
+    }
+    cells.len()
+}
+
+/// Whether a call is open behind a cell of the neutral string.
+fn is_in_call(cell: Cell, in_call: bool) -> bool
+    ensures { result ≡ is_open_after cell in_call }
+{
+    match cell {
+        Cell::Call(_, _) => true,
+        _ => in_call,
+    }
+}
+
+/// The code of a cell of the neutral string.
+fn code(cell: Cell, in_call: bool) -> u32
+    ensures { result ≡ cell_code in_call cell }
+{
+    match cell {
+        Cell::Byte(byte) => u32::from(byte),
+        Cell::Call(mode, _) => mark_code(mode),
+        Cell::Comma => comma_code(in_call),
+        Cell::Gap(_) => 0,
+        Cell::Head(_) => 0,
+    }
+}
+
+/// The code of the mark of a call.
+fn mark_code(mode: Mode) -> u32
+    ensures { result ≡ mark_code mode }
+{
+    match mode {
+        Mode::Active => 256,
+        Mode::Neutral => 257,
+    }
+}
+
+/// The code of a comma mark.
+fn comma_code(in_call: bool) -> u32
+    ensures { result ≡ comma_code in_call }
+{
+    if in_call { 258 } else { u32::from(b',') }
+}
+
+/// The number of the rule that the next step follows, in the order of the table of rules.
+pub(crate) fn rule_number(machine: &mut Machine<'static>) -> u32
+    ensures { (result ≡ rule_number (row_of (rule machine.old.memory.active))) ×
+        (machine.new ≡ machine.old) }
+{
+    match machine.next_rule() {
+        ScanningRule::Idling => 0,
+        ScanningRule::Layout => 1,
+        ScanningRule::Protection => 2,
+        ScanningRule::Argument => 3,
+        ScanningRule::ActiveCall => 4,
+        ScanningRule::NeutralCall => 5,
+        ScanningRule::NumberSign => 6,
+        ScanningRule::EndOfCall => 7,
+        ScanningRule::Character => 8,
+    }
+}
+
+/// The number of what the next step reads.
+pub(crate) fn awaits_number(machine: &mut Machine<'static>) -> u32
+    ensures { (result ≡ awaits_number (awaited (next_function machine.old))) ×
+        (machine.new ≡ machine.old) }
+{
+    match machine.awaits() {
+        Awaits::Nothing => 0,
+        Awaits::Text => 1,
+        Awaits::Byte => 2,
+    }
+}
+
+/// The meta character.
+pub(crate) fn meta(machine: &mut Machine<'static>) -> u32
+    ensures { (result ≡ machine.old.memory.meta) × (machine.new ≡ machine.old) }
+{
+    u32::from(machine.meta())
+}
+
+/// The cells of a part of the block.
+pub(crate) fn part(machine: &mut Machine<'static>, which: u32) -> usize
+    ensures { (result ≡ part_cells which machine.old) × (machine.new ≡ machine.old) }
+{
+    match which {
+        0 => store_cells(machine),
+        1 => neutral_cells(machine),
+        2 => free_cells(machine),
+        3 => machine.active().len(),
+        _ => 0,
+    }
+}
+
+/// The cells of the store of forms.
+fn store_cells(machine: &Machine<'static>) -> usize
+    ensures { result ≡ cells machine.now.memory.forms }
+{
+    let rest = (machine.size() as usize).saturating_sub(machine.active().len());
+    rest.saturating_sub(neutral_cells(machine))
+}
+
+/// The cells of the neutral string.
+fn neutral_cells(machine: &Machine<'static>) -> usize
+    ensures { result ≡ length (codes_of_neutral (neutral_in machine.now.memory)) }
+{
+    machine.neutral().len()
+}
+
+/// The cells that are free.
+fn free_cells(machine: &Machine<'static>) -> usize
+    ensures { result ≡ machine.now.room - size machine.now.memory }
+{
+    (machine.room() as usize).saturating_sub(machine.size() as usize)
+}

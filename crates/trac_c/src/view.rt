@@ -1,0 +1,143 @@
+//! What C sees of a machine that it keeps. None of these changes the machine.
+ghost use Rattle.std.specs.Prelude.{◌≡◌, length, slice_get};
+ghost use Rattle.trac_language.specs.Rule.{rule};
+ghost use Rattle.trac_core.specs.Machine.{MachineState};
+ghost use Rattle.trac_core.specs.Session.{awaited, next_function};
+ghost use Rattle.trac_core.specs.View.{neutral_in, row_of};
+ghost use Rattle.trac_c.specs.Kept.{machine_at};
+ghost use Rattle.trac_c.specs.Laid.{Lays};
+ghost use Rattle.trac_c.specs.Shown.{name_of, display_of, codes_of, pointer_of};
+ghost use Rattle.trac_c.specs.View.{codes_of_neutral, rule_number, awaits_number, part_cells};
+ghost use types.Logic.{sem};
+
+use crate::forms::{count, lay_codes, lay_display, lay_name, pointer};
+use crate::strings;
+use trac_core::Machine;
+
+/// How many forms the machine at a place has.
+#[unsafe(no_mangle)]
+pub unsafe extern "C" fn trac_engine_form_count(machine: *mut u64) -> usize
+    ghost held: { MachineState }
+    requires* { sem 𝓛 (machine_at machine held) }
+    ensures* { sem 𝓛 (machine_at machine held) ∗ ⌜ result ≡ length held.memory.forms ⌝ }
+{
+    count(&mut *(machine as *mut Machine<'static>))
+}
+
+/// The length of the name of form `k`, from 0, in the order of definition; the name goes to the
+/// front of `to`, as much of it as fits. Where there is no such form, 0, and `to` stays as it is.
+#[unsafe(no_mangle)]
+pub unsafe extern "C" fn trac_engine_form_name(machine: *mut u64, k: usize, to: &mut [u8]) -> usize
+    ghost held: { MachineState }
+    requires* { sem 𝓛 (machine_at machine held) }
+    ensures* { sem 𝓛 (machine_at machine held) ∗
+        ⌜ Lays (name_of (slice_get held.memory.forms k)) result to.old to.new ⌝ }
+{
+    lay_name(&mut *(machine as *mut Machine<'static>), k, to)
+}
+
+/// The same of the display of form `k`, as `pf` prints it: gaps as their ordinals in angle brackets,
+/// and `<^>` at the pointer.
+#[unsafe(no_mangle)]
+pub unsafe extern "C" fn trac_engine_form_text(machine: *mut u64, k: usize, to: &mut [u8]) -> usize
+    ghost held: { MachineState }
+    requires* { sem 𝓛 (machine_at machine held) }
+    ensures* { sem 𝓛 (machine_at machine held) ∗
+        ⌜ Lays (display_of (slice_get held.memory.forms k)) result to.old to.new ⌝ }
+{
+    lay_display(&mut *(machine as *mut Machine<'static>), k, to)
+}
+
+/// The same of the body of form `k`, a number for each item: a byte as it is, a gap as 255 more than
+/// its ordinal.
+#[unsafe(no_mangle)]
+pub unsafe extern "C" fn trac_engine_form_codes(
+    machine: *mut u64,
+    k: usize,
+    to: &mut [u32],
+) -> usize
+    ghost held: { MachineState }
+    requires* { sem 𝓛 (machine_at machine held) }
+    ensures* { sem 𝓛 (machine_at machine held) ∗
+        ⌜ Lays (codes_of (slice_get held.memory.forms k)) result to.old to.new ⌝ }
+{
+    lay_codes(&mut *(machine as *mut Machine<'static>), k, to)
+}
+
+/// How many items of form `k` stand in front of its pointer, 0 where there is no such form.
+#[unsafe(no_mangle)]
+pub unsafe extern "C" fn trac_engine_form_pointer(machine: *mut u64, k: usize) -> usize
+    ghost held: { MachineState }
+    requires* { sem 𝓛 (machine_at machine held) }
+    ensures* { sem 𝓛 (machine_at machine held) ∗
+        ⌜ result ≡ pointer_of (slice_get held.memory.forms k) ⌝ }
+{
+    pointer(&mut *(machine as *mut Machine<'static>), k)
+}
+
+/// The length of the neutral string; its codes go to the front of `to`, as many as fit: a byte as it
+/// is, 256 for the mark of an active call, 257 for that of a neutral call, 258 for a comma mark.
+#[unsafe(no_mangle)]
+pub unsafe extern "C" fn trac_engine_neutral(machine: *mut u64, to: &mut [u32]) -> usize
+    ghost held: { MachineState }
+    requires* { sem 𝓛 (machine_at machine held) }
+    ensures* { sem 𝓛 (machine_at machine held) ∗
+        ⌜ Lays (codes_of_neutral (neutral_in held.memory)) result to.old to.new ⌝ }
+{
+    strings::lay_neutral(&mut *(machine as *mut Machine<'static>), to)
+}
+
+/// The length of the active string; its bytes go to the front of `to`, as many as fit.
+#[unsafe(no_mangle)]
+pub unsafe extern "C" fn trac_engine_active(machine: *mut u64, to: &mut [u32]) -> usize
+    ghost held: { MachineState }
+    requires* { sem 𝓛 (machine_at machine held) }
+    ensures* { sem 𝓛 (machine_at machine held) ∗
+        ⌜ Lays held.memory.active result to.old to.new ⌝ }
+{
+    strings::lay_active(&mut *(machine as *mut Machine<'static>), to)
+}
+
+/// The rule that the next step follows: 0 idling, 1 layout, 2 protection, 3 argument, 4 active call,
+/// 5 neutral call, 6 number sign, 7 end of call, 8 character.
+#[unsafe(no_mangle)]
+pub unsafe extern "C" fn trac_engine_rule(machine: *mut u64) -> u32
+    ghost held: { MachineState }
+    requires* { sem 𝓛 (machine_at machine held) }
+    ensures* { sem 𝓛 (machine_at machine held) ∗
+        ⌜ result ≡ rule_number (row_of (rule held.memory.active)) ⌝ }
+{
+    strings::rule_number(&mut *(machine as *mut Machine<'static>))
+}
+
+/// The cells of a part of the block: 0 the store of forms, 1 the neutral string, 2 what is free, 3
+/// the active string; 0 of any other number.
+#[unsafe(no_mangle)]
+pub unsafe extern "C" fn trac_engine_part(machine: *mut u64, which: u32) -> usize
+    ghost held: { MachineState }
+    requires* { sem 𝓛 (machine_at machine held) }
+    ensures* { sem 𝓛 (machine_at machine held) ∗ ⌜ result ≡ part_cells which held ⌝ }
+{
+    strings::part(&mut *(machine as *mut Machine<'static>), which)
+}
+
+/// The meta character.
+#[unsafe(no_mangle)]
+pub unsafe extern "C" fn trac_engine_meta(machine: *mut u64) -> u32
+    ghost held: { MachineState }
+    requires* { sem 𝓛 (machine_at machine held) }
+    ensures* { sem 𝓛 (machine_at machine held) ∗ ⌜ result ≡ held.memory.meta ⌝ }
+{
+    strings::meta(&mut *(machine as *mut Machine<'static>))
+}
+
+/// What the next step reads: 0 nothing, 1 a string, 2 a byte.
+#[unsafe(no_mangle)]
+pub unsafe extern "C" fn trac_engine_awaits(machine: *mut u64) -> u32
+    ghost held: { MachineState }
+    requires* { sem 𝓛 (machine_at machine held) }
+    ensures* { sem 𝓛 (machine_at machine held) ∗
+        ⌜ result ≡ awaits_number (awaited (next_function held)) ⌝ }
+{
+    strings::awaits_number(&mut *(machine as *mut Machine<'static>))
+}
