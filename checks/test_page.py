@@ -1,0 +1,560 @@
+"""dist/trac.html in a browser: it runs what `trac` runs, shows the steps that trac_trace shows, asks
+for nothing, and can be used by keyboard, by screen reader and on a phone."""
+import glob
+import json
+import os
+import re
+import subprocess
+import sys
+import time
+import unittest
+
+from test_trace import rows as traced
+from trac import TOP, report, run, trace
+
+# Where Debian puts what belongs to no Python of one's own.
+sys.path.append('/usr/lib/python3/dist-packages')
+from selenium import webdriver  # noqa: E402
+from selenium.webdriver.common.by import By  # noqa: E402
+from selenium.webdriver.common.keys import Keys  # noqa: E402
+from selenium.webdriver.support.ui import WebDriverWait  # noqa: E402
+
+PAGE = os.path.join(TOP, 'dist', 'trac.html')
+PLACE = 'file://' + PAGE
+PICTURES = os.path.join(TOP, 'checks', 'pictures')
+MARKS = {256: '<#>', 257: '<##>', 258: '<,>'}
+ESCAPES = {9: '\\t', 10: '\\n', 13: '\\r', 92: '\\\\'}
+LOOP = "#(ds,loop,(#(gr,N,0,(#(cl,loop,#(su,N,1))))))#(ss,loop,N)#(cl,loop,{})'"
+
+# What a box shows, as codes: marks and escaped bytes by their own, text as UTF-8.
+CODES = """
+    const found = [];
+    const walk = (node) => {
+        if (node.nodeType === 3) found.push(...new TextEncoder().encode(node.data));
+        else if (node.matches('.depth, .nothing, .unseen')) return;
+        else if (node.dataset.code) found.push(Number(node.dataset.code));
+        else node.childNodes.forEach(walk);
+    };
+    document.getElementById(arguments[0]).childNodes.forEach(walk);
+    return found;
+"""
+
+# The texts of the page that can be seen, with the contrast to what lies behind each.
+CONTRAST = """
+    const parts = (text) => (text.match(/[\\d.]+/g) || []).map(Number);
+    const light = ([r, g, b]) => [r, g, b].map((part) => part / 255)
+        .map((part) => (part <= 0.04045 ? part / 12.92 : ((part + 0.055) / 1.055) ** 2.4))
+        .reduce((sum, part, i) => sum + part * [0.2126, 0.7152, 0.0722][i], 0);
+    const behind = (node) => {
+        for (let at = node; at; at = at.parentElement) {
+            const colour = parts(getComputedStyle(at).backgroundColor);
+            if (colour.length === 3 || colour[3] > 0) return colour;
+        }
+        return [255, 255, 255];
+    };
+    return [...document.body.querySelectorAll('*')].filter((node) => node.offsetParent
+        && !node.closest('.sheet pre, .unseen, :disabled')
+        && [...node.childNodes].some((child) => child.nodeType === 3 && child.data.trim()))
+        .map((node) => {
+            const [a, b] = [light(parts(getComputedStyle(node).color)), light(behind(node))];
+            const ratio = (Math.max(a, b) + 0.05) / (Math.min(a, b) + 0.05);
+            return [`${node.tagName} ${node.id || node.className} ${node.textContent}`, ratio];
+        });
+"""
+
+
+def setUpModule():
+    global browser
+    subprocess.run([os.path.join(TOP, 'release')], check=True)
+    options = webdriver.ChromeOptions()
+    options.binary_location = '/usr/bin/chromium'
+    for word in ('--headless=new', '--no-sandbox', '--disable-gpu', '--disable-dev-shm-usage'):
+        options.add_argument(word)
+    options.set_capability('goog:loggingPrefs', {'browser': 'ALL', 'performance': 'ALL'})
+    service = webdriver.chrome.service.Service('/usr/bin/chromedriver')
+    browser = webdriver.Chrome(service=service, options=options)
+    unittest.addModuleCleanup(browser.quit)
+
+
+def shown(codes):
+    """Codes as trac_trace shows them."""
+    return ''.join(MARKS.get(code) or ESCAPES.get(code) or (
+        chr(code) if 32 <= code < 127 else f'\\x{code:02x}') for code in codes)
+
+
+def example(name):
+    with open(os.path.join(TOP, 'examples', name), 'rb') as file:
+        return file.read()
+
+
+class Page(unittest.TestCase):
+    """A page that was just opened."""
+
+    def setUp(self):
+        self.open(PLACE)
+
+    def open(self, place):
+        browser.get('about:blank')
+        browser.get(place)
+        self.wait(lambda: self.script('return document.readyState') == 'complete')
+        self.assertGreater(self.script("return document.getElementById('example').length"), 1)
+
+    def script(self, text, *words):
+        return browser.execute_script(text, *words)
+
+    def wait(self, condition, seconds=20):
+        WebDriverWait(browser, seconds, poll_frequency=0.02).until(lambda _: condition())
+
+    def find(self, name):
+        return browser.find_element(By.ID, name)
+
+    def text(self, name):
+        return self.script('return document.getElementById(arguments[0]).textContent', name)
+
+    def put(self, name, text):
+        self.script('const box = document.getElementById(arguments[0]); box.value = arguments[1];'
+                    "box.dispatchEvent(new Event('input'))", name, text)
+
+    def run_script(self, script, more='', cells=65536, steps=1000000):
+        for name, value in (('script', script), ('input', more), ('cells', cells),
+                            ('steps', steps)):
+            self.put(name, value)
+        self.run_it()
+
+    def run_it(self):
+        self.find('run').click()
+        self.wait(lambda: self.script("return document.getElementById('main').ariaBusy") == 'false')
+
+    def wait_for_calls(self):
+        self.wait(lambda: self.script(
+            "return document.getElementById('calls').dataset.listed") == 'all')
+
+    def steps(self):
+        """The steps done, and those of the whole run."""
+        return tuple(int(number.replace(',', ''))
+                     for number in re.findall(r'[\d,]+', self.text('count')))
+
+    def go(self, step):
+        self.put('slider', step)
+        self.assertEqual(self.steps()[0], step)
+
+    def walk(self, text):
+        """What a piece of JavaScript gives at each step from the first to the last."""
+        return self.script("""
+            const find = (id) => document.getElementById(id);
+            const look = new Function('find', `return ${arguments[0]}`);
+            find('first').click();
+            const found = [look(find)];
+            while (!find('step').disabled) {
+                find('step').click();
+                found.push(look(find));
+            }
+            return found;
+        """, text)
+
+    def strings(self):
+        return tuple(shown(self.script(CODES, name)) for name in ('neutral', 'active'))
+
+    def rule(self):
+        return self.text('rule-name').rstrip('.')
+
+
+class Runs(Page):
+    def test_examples(self):
+        names = sorted(glob.glob('*.trac', root_dir=os.path.join(TOP, 'examples')))
+        options = self.find('example').find_elements(By.TAG_NAME, 'option')
+        self.assertEqual([option.text for option in options[1:]], [name[:-5] for name in names])
+        for name in names:
+            with self.subTest(example=name):
+                self.script("const choice = document.getElementById('example');"
+                            'choice.value = arguments[0];'
+                            "choice.dispatchEvent(new Event('change'))", name[:-5])
+                self.assertEqual(self.script("return document.getElementById('script').value"),
+                                 example(name).decode())
+                self.run_it()
+                self.assertEqual(self.text('output'), example(name[:-5] + '.out').decode())
+                _, steps, peak, _ = report(example(name))
+                self.assertIn(f'{steps:,} steps, peak {peak:,} cells', self.text('fate'))
+
+    def test_input_behind_the_script(self):
+        self.run_script("#(ps,(Hello, )##(rs)!)'", "Ann'")
+        self.assertEqual(self.text('output'), 'Hello, Ann!')
+        self.assertTrue(self.text('fate').startswith('Ended: all input is read.'))
+
+    def test_ends(self):
+        for script, cells, steps, words, last in (
+                ("#(ps,a)#(hl)#(ps,b)'", 65536, 1000000, 'Ended: the script called hl.',
+                 'The run is over: the script called hl.'),
+                ("#(ps,a)'", 65536, 12, 'Allowance used up: the script goes on after 12 steps.',
+                 'Not done: the allowance is used up.'),
+                ("#(ps,a)'", 14, 1000, 'Workspace full: the next step needs more than the 14 cells',
+                 'Not done, for want of cells.'),
+                ("#(ps,a)'", 14, 12, 'Workspace full', 'Not done, for want of cells.')):
+            with self.subTest(script=script, cells=cells, steps=steps):
+                self.run_script(script, '', cells, steps)
+                self.assertTrue(self.text('fate').startswith(words), self.text('fate'))
+                self.assertTrue(self.text('rule-says').endswith(last), self.text('rule-says'))
+                lines, _ = trace(script.encode(), '--cells', str(cells), '--steps', str(steps))
+                self.assertEqual(self.strings(), traced(lines)[-1][4:])
+                output, done, _, _ = report(
+                    script, '--cells', str(cells), '--steps', str(steps))
+                self.assertEqual((self.text('output'), self.steps()),
+                                 (output.decode(), (done, done)))
+
+    def test_limits_that_are_refused(self):
+        self.run_script("#(ps,a)'")
+        for name, values in (('cells', ('0', '16777217', '', '1.5')),
+                             ('steps', ('0', '1000000000001'))):
+            for value in values:
+                self.put(name, value)
+                self.find('run').click()
+                self.assertIn('must be a whole number from 1 to', self.text('told'))
+                self.assertEqual(self.script('return document.activeElement.id'), name)
+            self.put(name, '1000')
+
+    def test_a_run_that_is_stopped(self):
+        self.run_script(LOOP.format(10))
+        self.put('script', "#(ds,a,(#(cl,a)))#(cl,a)'")
+        self.put('steps', '1000000000000')
+        self.find('run').click()
+        self.wait(lambda: self.find('stop').is_displayed())
+        self.find('stop').click()
+        self.wait(lambda: self.text('fate').startswith('Stopped by you.'))
+        self.assertGreater(self.steps()[1], 0)
+
+    def test_odd_bytes(self):
+        self.run_script("#(ps,\u00e9\u202e\x01\t(\t\n))'")
+        self.assertEqual(self.text('output'), 'é\\xe2\\x80\\xae\\x01\t\n')
+
+
+class Steps(Page):
+    def test_strings_of_steps(self):
+        for script in (example('factorial.trac').decode(), "#(ps,(é\t,)##(ps,(\\)))x'"):
+            lines = traced(trace(script.encode(), '--steps', '1000000')[0])
+            self.run_script(script)
+            last = len(lines)
+            self.assertEqual(self.steps(), (last, last))
+            chosen = sorted({1 + last * k // 13 for k in range(13)} | {last - 1})
+            for step in chosen[::2] + chosen[1::2]:
+                with self.subTest(script=script, step=step):
+                    self.go(step)
+                    self.assertEqual(self.strings(), lines[step - 1][4:])
+                    if step < last:
+                        self.assertEqual(self.rule(), lines[step][1])
+
+    def test_buttons(self):
+        script = example('factorial.trac')
+        lines = traced(trace(script, '--steps', '1000000')[0])
+        calls = [number - 1 for number, rule, *_ in lines if rule == 'end of call']
+        self.run_script(script.decode())
+        self.wait_for_calls()
+        self.assertEqual(self.text('listed'), f'{len(calls):,}')
+        last = len(lines)
+        for name, step in (('first', 0), ('step', 1), ('step', 2), ('back', 1),
+                           ('call-step', calls[0]), ('call-step', calls[1]), ('call-back', calls[0]),
+                           ('last', last), ('back', last - 1), ('call-back', calls[-2])):
+            self.find(name).click()
+            self.assertEqual(self.steps(), (step, last), name)
+            if step:
+                self.assertEqual(self.strings(), lines[step - 1][4:])
+        for index in (0, len(calls) // 2, len(calls) - 1):
+            self.put('calls', index)
+            self.assertEqual((self.steps()[0], self.rule()), (calls[index], 'end of call'))
+        self.find('first').click()
+        self.assertFalse(self.find('back').is_enabled() or self.find('call-back').is_enabled())
+
+    def test_output_so_far(self):
+        self.run_script("#(ps,one)#(ps,two)'")
+        late = self.walk("find('output').querySelector('.later')?.textContent ?? ''")
+        self.assertEqual(list(dict.fromkeys(late)), ['onetwo', 'two', ''])
+
+    def test_calls_and_rules_in_words(self):
+        self.run_script("#(ds,a,b)##(cl,a)),)'")
+        said = self.walk("find('rule-says').textContent")
+        for words in ('performed: ds with 2 arguments.', 'performed: cl with 1 argument.',
+                      'performed: ps with 1 argument.', 'No call is open: the comma is deleted.',
+                      'No call is open: the right parenthesis is deleted.',
+                      'A neutral call is opened', 'The active string is empty'):
+            self.assertTrue(any(words in each for each in said), words)
+
+    def body(self):
+        """The kinds and the texts of what the body of the first form is shown by."""
+        return self.script("return [...document.querySelector('#forms dd').childNodes]"
+                           ".map((node) => `${node.className ?? ''}:${node.textContent.trim()}`)")
+
+    def test_forms(self):
+        self.run_script("#(ds,a,xyz)#(ss,a,y)#(cc,a)#(ds,,)#(cm,;)'")
+        forms = self.find('forms')
+        self.assertEqual([name.text for name in forms.find_elements(By.TAG_NAME, 'dt')],
+                         ['a pointer at 1 of 3', 'null name pointer at 0 of 0'])
+        self.assertEqual(self.body(), [':x', 'pointer:pointer', 'gap:gap 1', ':z'])
+        self.assertEqual(self.text('meta'), 'meta character ;')
+        for text, wanted in (('xyz', [':x', 'pointer:pointer', ':yz']),
+                             ('é', ['escape:\\xc3', 'pointer:pointer', 'escape:\\xa9'])):
+            self.run_script(f"#(ds,a,{text})#(cc,a)'")
+            self.assertEqual(self.body(), wanted)
+
+    def test_block(self):
+        script = "#(ds,a,bcd)#(ps,x)'"
+        self.run_script(script, '', 100)
+        lines = traced(trace(script.encode(), '--cells', '100')[0])
+        for step in (8, 20, len(lines) - 1):
+            self.go(step)
+            told = self.find('block').get_attribute('aria-label')
+            found = dict(re.findall(r'(forms|neutral string|free|active string|peak) (\d+)', told))
+            parts = {name: int(number) for name, number in found.items()}
+            size = lines[step][2]
+            self.assertEqual(sum(parts.values()) - parts['peak'], 100)
+            self.assertEqual(100 - parts['free'], size)
+            self.assertEqual(parts['peak'], max(line[3] for line in lines[:step]))
+            widths = self.script("return [...document.querySelectorAll('#block i')]"
+                                 '.map((part) => part.getBoundingClientRect().width)')
+            whole = self.script("return document.getElementById('block').clientWidth")
+            for width, name in zip(widths, ('forms', 'neutral string', 'free', 'active string')):
+                self.assertAlmostEqual(width, whole * parts[name] / 100, delta=1)
+
+
+class Faults(Page):
+    def test_the_place_of_a_fault(self):
+        script = "#(ps,a)'\n\n  #(ds,é,(#(cl,é)#(cl,é)))'#(cl,é)'"
+        self.run_script(script, '', 60)
+        self.assertTrue(self.text('fate').startswith('Workspace full'))
+        self.assertIn('begins in line 3, column 28.', self.text('fate'))
+        marked = self.script("return document.querySelector('#script-marks mark.fault').textContent")
+        self.assertEqual(marked, "#(cl,é)'")
+        self.find('place').click()
+        self.assertEqual(self.script(
+            "const box = document.getElementById('script');"
+            'return [document.activeElement.id,'
+            ' box.value.slice(box.selectionStart, box.selectionEnd)]'), ['script', "#(cl,é)'"])
+        self.find('script').send_keys('x')
+        self.assertEqual(self.text('script-marks'), '')
+
+    def test_a_fault_in_the_further_input(self):
+        self.run_script("#(ps,a)'", "\n#(ds,a,(#(cl,a)b))#(cl,a)'", 100)
+        self.assertIn('begins in line 2, column 1 of the further input.', self.text('fate'))
+        self.assertEqual(self.text('script-marks'), '')
+        self.assertIn('#(ds,a', self.script(
+            "return document.querySelector('#input-marks mark').textContent"))
+
+    def test_the_string_of_a_step(self):
+        self.run_script("#(ps,one)'\n#(ps,two)'")
+        marked = self.walk("find('script-marks').querySelector('mark')?.textContent ?? ''")
+        self.assertEqual(list(dict.fromkeys(marked)), ['', "#(ps,one)'", "#(ps,two)'"])
+
+
+class Safety(Page):
+    EVIL = ('<img src=x onerror="window.hit=1"><script>window.hit=1</script>'
+            '</textarea></pre><b id=bold>&lt;')
+
+    def test_text_stays_text(self):
+        scripts = self.script('return document.scripts.length')
+        self.run_script(f"#(ds,{self.EVIL},{self.EVIL})#(ps,{self.EVIL})'")
+        self.find('first').click()
+        self.assertEqual(self.text('output'), self.EVIL)
+        last = self.steps()[1]
+        for step in range(0, last, 17):
+            self.go(step)
+        self.go(last)
+        self.assertIn(self.EVIL, self.text('forms'))
+        self.assertEqual(self.script(
+            "return [window.hit ?? 0, document.images.length, document.querySelectorAll('#bold')"
+            '.length, document.scripts.length]'), [0, 0, 0, scripts])
+
+    def test_it_asks_for_nothing(self):
+        browser.get_log('performance')
+        self.open(PLACE)
+        self.run_script(example('hanoi.trac').decode())
+        self.find('first').click()
+        asked = [message['params']['request']['url']
+                 for message in (json.loads(entry['message'])['message']
+                                 for entry in browser.get_log('performance'))
+                 if message['method'] == 'Network.requestWillBeSent']
+        self.assertEqual([place for place in asked if place != 'about:blank'], [PLACE])
+        self.assertEqual(self.script("return performance.getEntriesByType('resource').length"), 0)
+
+    def test_its_policy(self):
+        broken = browser.execute_async_script("""
+            const done = arguments[0];
+            const found = [];
+            document.addEventListener('securitypolicyviolation', (event) => {
+                found.push(event.effectiveDirective);
+                if (found.length === 3) done(found.sort());
+            });
+            fetch('https://example.invalid/').catch(() => {});
+            new Image().src = 'https://example.invalid/picture.png';
+            const button = document.createElement('button');
+            button.setAttribute('onclick', 'window.hit = 1');
+            document.body.append(button);
+            button.click();
+            setTimeout(() => done(found), 3000);
+        """)
+        self.assertEqual(broken, ['connect-src', 'img-src', 'script-src-attr'])
+        self.assertIsNone(self.script('return window.hit ?? null'))
+        browser.get_log('browser')
+
+    def test_no_error(self):
+        browser.get_log('browser')
+        self.open(PLACE)
+        self.run_script(example('itself.trac').decode())
+        self.find('first').click()
+        self.assertEqual(browser.get_log('browser'), [])
+
+
+class Links(Page):
+    def test_round_trip(self):
+        texts = ("#(ps,é \U0001f600 <b>+/=&#%)'", "more\n'")
+        for name, value in zip(('script', 'input', 'cells', 'steps'), (*texts, '123', '4567')):
+            self.put(name, value)
+        self.find('link').click()
+        self.wait(lambda: '#' in browser.current_url)
+        link = browser.current_url
+        self.assertRegex(link, r'#script=[\w-]+&input=[\w-]+&cells=123&steps=4567$')
+        self.assertIn('carries the script', self.text('told'))
+        self.open(link)
+        self.assertEqual([self.find(name).get_property('value')
+                          for name in ('script', 'input', 'cells', 'steps')],
+                         [*texts, '123', '4567'])
+        self.assertEqual(self.text('output'), '')
+        self.assertTrue(self.find('input').is_displayed())
+
+    def test_a_link_that_is_broken(self):
+        for part in ('script=%%%', 'script=_w', 'script=a'):
+            self.open(f'{PLACE}#{part}')
+            self.assertIn('can’t be read', self.text('told'))
+        self.open(f'{PLACE}#script=&cells=<b>')
+        self.assertEqual(self.find('cells').get_property('value'), '65536')
+
+
+class Hands(Page):
+    def test_keys(self):
+        self.put('script', "#(ps,a)'")
+        self.find('script').send_keys(Keys.CONTROL, Keys.ENTER)
+        self.wait(lambda: self.text('output') == 'a')
+        self.wait_for_calls()
+        last = self.steps()[1]
+        at = self.find('output')
+        for keys, step in ((Keys.HOME, 0), (Keys.ARROW_RIGHT, 1), (Keys.ARROW_RIGHT, 2),
+                           (Keys.ARROW_LEFT, 1), (Keys.SHIFT + Keys.ARROW_RIGHT, 8),
+                           (Keys.END, last), (Keys.SHIFT + Keys.ARROW_LEFT, last - 1)):
+            at.send_keys(keys)
+            self.assertEqual(self.steps()[0], step)
+        self.find('slider').send_keys(Keys.HOME)
+        self.find('slider').send_keys(Keys.ARROW_RIGHT)
+        self.assertEqual(self.steps()[0], 1)
+        self.find('script').send_keys(Keys.HOME, Keys.ARROW_LEFT)
+        self.assertEqual(self.steps()[0], 1)
+
+    def test_order_of_tab(self):
+        self.run_script("#(ps,a)'")
+        self.wait_for_calls()
+        self.go(12)
+        self.find('example').send_keys(Keys.TAB)
+        met = []
+        for _ in range(24):
+            at = browser.switch_to.active_element
+            met.append(at.get_attribute('id') or at.tag_name)
+            at.send_keys(Keys.TAB)
+        wanted = ['script', 'summary', 'cells', 'steps', 'run', 'link', 'output', 'first',
+                  'call-back', 'back', 'step', 'call-step', 'last', 'slider', 'calls', 'neutral',
+                  'active', 'forms', 'summary']
+        self.assertEqual(met[:len(wanted)], wanted)
+
+    def test_names(self):
+        self.run_script("#(ps,a)'")
+        self.script("document.getElementById('more').open = true")
+        found = browser.find_elements(By.CSS_SELECTOR, 'button, input, select, textarea, '
+                                      '[tabindex], [role=img]')
+        self.assertGreaterEqual(len(found), 20)
+        for each in found:
+            if each.is_displayed():
+                self.assertTrue(each.accessible_name.strip(), each.get_attribute('outerHTML'))
+        for name in ('fate', 'rule', 'told'):
+            self.assertEqual(self.find(name).aria_role, 'status')
+        self.find('first').click()
+        self.assertEqual(self.find('slider').get_attribute('aria-valuetext'),
+                         f'step 0 of {self.steps()[1]}')
+
+
+class Speed(Page):
+    CLICKS = """
+        const button = document.getElementById(arguments[0]);
+        const times = [];
+        for (let i = 0; i < arguments[1]; i += 1) {
+            const start = performance.now();
+            button.click();
+            document.body.getBoundingClientRect();
+            times.push(performance.now() - start);
+        }
+        return times.sort((a, b) => a - b);
+    """
+
+    def test_ten_thousand_steps(self):
+        self.run_script(LOOP.format(400))
+        self.assertGreater(self.steps()[1], 10000)
+        self.wait_for_calls()
+        for place in (0, self.steps()[1] // 2):
+            self.go(place)
+            for name in ('step', 'back', 'call-step', 'call-back'):
+                times = self.script(self.CLICKS, name, 100)
+                self.assertLess(times[50], 40, name)
+                self.assertLess(times[90], 150, name)
+
+    def test_a_million_steps(self):
+        script = LOOP.format(40000)
+        self.script("""
+            window.longest = 0;
+            let last = performance.now();
+            setInterval(() => {
+                window.longest = Math.max(window.longest, performance.now() - last);
+                last = performance.now();
+            }, 10);
+        """)
+        start = time.monotonic()
+        self.run_script(script, '', 16777216 // 16)
+        self.assertEqual(self.steps(), (1000000, 1000000))
+        self.wait_for_calls()
+        self.assertLess(time.monotonic() - start, 40)
+        self.assertLess(self.script('return window.longest'), 500)
+        for name in ('first', 'last'):
+            self.find(name).click()
+            for move in ('call-step', 'call-back'):
+                times = self.script(self.CLICKS, move, 50)
+                self.assertLess(times[25], 60, move)
+        count = int(self.text('listed').replace(',', ''))
+        self.put('calls', count // 2)
+        self.assertEqual(self.rule(), 'end of call')
+
+
+class Looks(Page):
+    def show(self, width, height, scheme):
+        browser.execute_cdp_cmd('Emulation.setDeviceMetricsOverride', {
+            'width': width, 'height': height, 'deviceScaleFactor': 1, 'mobile': width < 500})
+        browser.execute_cdp_cmd('Emulation.setEmulatedMedia', {
+            'features': [{'name': 'prefers-color-scheme', 'value': scheme}]})
+
+    def tearDown(self):
+        browser.execute_cdp_cmd('Emulation.clearDeviceMetricsOverride', {})
+        browser.execute_cdp_cmd('Emulation.setEmulatedMedia', {'features': []})
+
+    def test_widths_and_colours(self):
+        os.makedirs(PICTURES, exist_ok=True)
+        for width, height in ((1280, 900), (390, 844), (360, 640)):
+            for scheme in ('light', 'dark'):
+                with self.subTest(width=width, scheme=scheme):
+                    self.show(width, height, scheme)
+                    self.open(PLACE)
+                    self.run_script(example('hanoi.trac').decode())
+                    self.go(1500)
+                    self.assertLessEqual(*self.script(
+                        'const page = document.documentElement;'
+                        'return [page.scrollWidth, page.clientWidth]'))
+                    for name, ratio in self.script(CONTRAST):
+                        self.assertGreaterEqual(ratio, 4.5, name)
+                    self.show(width, self.script(
+                        'return document.documentElement.scrollHeight'), scheme)
+                    browser.save_screenshot(os.path.join(PICTURES, f'{width}-{scheme}.png'))
+
+
+if __name__ == '__main__':
+    unittest.main()
