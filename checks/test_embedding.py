@@ -11,7 +11,7 @@ from trac import TOP
 
 SECTION = re.compile(r'^## From nothing to a proved program\n(.*?)^## ', re.MULTILINE | re.DOTALL)
 COMMANDS = re.compile(r'^```sh\n(.*?)^```$', re.MULTILINE | re.DOTALL)
-FILE = re.compile(r'^`(crates/\S+)`.*:\n\n```rust\n(.*?)^```$', re.MULTILINE | re.DOTALL)
+FILE = re.compile(r'^`(crates/\S+)`[^\n]*:\n\n```rust\n(.*?)^```$', re.MULTILINE | re.DOTALL)
 OUTPUT = re.compile(r'^```output\n(.*?)^```$', re.MULTILINE | re.DOTALL)
 
 
