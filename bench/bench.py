@@ -1,11 +1,14 @@
 #!/usr/bin/env python3
-"""bench.py [--smoke] [PROGRAM]: runs the built program on jobs of several kinds, and prints a
-table.
+"""bench.py [--smoke | --growth] [--beside FILE ..] [PROGRAM]: runs the built program on jobs of
+several kinds, and prints a table.
 
 Without PROGRAM it takes the one that ./trac builds. With --smoke the jobs are small, and the output
-alone is looked at: a wrong one is a failure, no time is. m4 and valgrind add their columns where
-they are installed.
+alone is looked at: a wrong one is a failure, no time is. With --growth there is a job for each
+function, of two lengths. FILE is another processor of the language, whose words are cells and steps,
+or its source in C, which gcc builds: its instructions stand in a column of their own. m4 and valgrind
+add their columns where they are installed.
 """
+import argparse
 import os
 import random
 import re
@@ -14,6 +17,8 @@ import subprocess
 import sys
 import tempfile
 import time
+
+from growing import GROWING, GROWS, WORDS
 
 TOP = os.path.dirname(os.path.dirname(os.path.abspath(__file__)))
 BUILT = os.path.join(TOP, 'crates', 'trac_cli', 'out', 'trac_cli')
@@ -38,6 +43,7 @@ def text_jobs(small):
     text = LINE * (20 if small else 60000)
     yield Job('plain text', text + "'", text, 2 * len(text), text)
     yield Job('protected text', f"#(ps,({text}))'", text, 2 * len(text), f"`{text}'")
+    yield Job('ten strings of text', (text + "'") * 10, text * 10, 20 * len(text), text * 10)
 
 
 def call_jobs(small):
@@ -53,6 +59,8 @@ def call_jobs(small):
     n = 20 if small else 3000
     deep = f"#(ds,D,(#(gr,N,0,(#(ad,1,#(cl,D,#(su,N,1)))))))#(ss,D,N)#(ps,#(cl,D,{n}))'"
     yield Job('deep recursion', deep, str(n))
+    n = 20 if small else 100000
+    yield Job('open calls', '#(zz,' * n + ')' * n + "'", '')
     n = 10 if small else 2000
     sums = ('#(ds,G,(#(gr,N,0,(#(ds,Z,#(ml,#(ad,12345678901234567890,N),9876543210987654321))'
             f"#(cl,G,#(su,N,1))))))#(ss,G,N)#(cl,G,{n})#(cl,Z)'")
@@ -140,6 +148,11 @@ def instructions(words, given):
     return int(found.group(1)) if found else None
 
 
+def cost(program, script):
+    """The instructions of a job that grows."""
+    return instructions([program, *WORDS], f"{script}'".encode())
+
+
 def shown(number, unit=''):
     return '-' if number is None else f'{number:,.0f}{unit}'
 
@@ -152,15 +165,16 @@ def checked(job, words):
     return took, int(report.group(1))
 
 
-def row(job, program):
+def row(job, program, others):
     words = [program, '--cells', str(CELLS), '--steps', '1000000000']
     took, steps = min(checked(job, words) for _ in range(5))
     count = instructions(words, job.script)
     other, theirs = beside_m4(job)
+    beside = [instructions([path, *words[2::2]], job.script) for path in others]
     return (job.name, shown(steps), f'{took * 1000:.1f} ms',
             shown(steps / took), shown(job.cells and job.cells / took),
             shown(count), shown(count and count / steps), theirs, shown(other),
-            shown((memory(words, job.script) - 8 * CELLS) / 1024, ' KB'))
+            shown((memory(words, job.script) - 8 * CELLS) / 1024, ' KB'), *map(shown, beside))
 
 
 def beside_m4(job):
@@ -172,21 +186,56 @@ def beside_m4(job):
     return instructions(words, given), f'{best * 1000:.1f} ms'
 
 
+def built(path, folder):
+    """A program, which gcc builds where its source is given."""
+    if not path.endswith('.c'):
+        return path
+    program = os.path.join(folder, os.path.basename(path)[:-2])
+    subprocess.run(['gcc', '-O2', '-w', '-o', program, path], check=True)
+    return program
+
+
+def print_table(head, rows):
+    print('| ' + ' | '.join(head) + ' |')
+    print('|' + '---|' * len(head))
+    for cells in rows:
+        print('| ' + ' | '.join(cells) + ' |', flush=True)
+
+
+def growth(program):
+    """A row for each job that grows: its instructions, those of four times its length, and how
+    often they are more, beside its bound."""
+    start = cost(program, '')
+    for name, n, script, bound in GROWING:
+        small, great = (cost(program, script(k)) - start for k in (n, GROWS * n))
+        yield (name, shown(n), shown(small), shown(great), f'{great / small:.2f}',
+               f'{bound(GROWS * n) / bound(n):.0f}')
+
+
 def main():
-    words = [word for word in sys.argv[1:] if word != '--smoke']
-    program = words[0] if words else BUILT
-    if not words:
+    reader = argparse.ArgumentParser(usage=__doc__.split(':')[0], add_help=False)
+    reader.add_argument('--smoke', action='store_true')
+    reader.add_argument('--growth', action='store_true')
+    reader.add_argument('--beside', action='append', default=[])
+    reader.add_argument('program', nargs='?')
+    given = reader.parse_args()
+    if not given.program:
         subprocess.run([os.path.join(TOP, 'trac'), '--help'], stdout=subprocess.DEVNULL, check=True)
-    if '--smoke' in sys.argv[1:]:
+    program = given.program or BUILT
+    if given.smoke:
         done = [checked(job, [program]) for job in jobs(True)]
         print(f'bench.py: {len(done)} jobs printed what they should')
         return
+    if given.growth:
+        print_table(('job', 'length', 'instructions', 'of four times that', 'more', 'bound'),
+                    growth(program))
+        return
     head = ('job', 'steps', 'best of 5', 'steps/s', 'cells moved/s', 'instructions', 'each step',
             'm4 best of 5', 'm4 instructions', 'beside the block')
-    print('| ' + ' | '.join(head) + ' |')
-    print('|' + '---|' * len(head))
-    for job in jobs(False):
-        print('| ' + ' | '.join(row(job, program)) + ' |', flush=True)
+    with tempfile.TemporaryDirectory() as folder:
+        others = [built(path, folder) for path in given.beside]
+        print_table(head + tuple(map(os.path.basename, others)),
+                    (row(job, program, others) for job in jobs(False)))
 
 
 if __name__ == '__main__':

@@ -14,3 +14,5 @@ pub mod RuleRows
 pub mod ReadTexts
 pub mod Sessions
 pub mod Printed
+pub mod PlainEnds
+pub mod OrdinaryBlocks

@@ -1,17 +1,14 @@
 -- The search for the right parenthesis that matches, character by character.
-use Rattle.std.proofs.Common.{◌≡◌, ◌≢◌, ℕ, ◌+◌, ◌-◌, ◌<◌, ◌≤◌, true, false, ◌&&◌, [], ◌∷◌, ◌++◌, length, take, drop, Some, None, get_or, refl, sym, ap, ◌∙◌, arith, eq-eqb}
+use Rattle.std.proofs.Common.{◌≡◌, ◌≢◌, ℕ, ◌+◌, ◌-◌, ◌<◌, ◌≤◌, Bool, true, false, ◌&&◌, ◌||◌, subst, [], ◌∷◌, ◌++◌, length, take, drop, Some, None, get_or, refl, sym, ap, ◌∙◌, arith, eq-eqb}
 use Rattle.std.specs.Prelude.{◌==◌}
-use Rattle.std.proofs.lemmas.Bool.{ne_eqb}
+use Rattle.std.proofs.lemmas.Bool.{ne_eqb, eqb-true}
 use Rattle.std.proofs.lemmas.List.{drop_more, take_more}
 use Rattle.std.proofs.Math.ListN.{drop_of_length-le}
 use Rattle.trac_language.specs.Text.{Text}
 use Rattle.trac_language.specs.Protected.{count, split_at_match, protected}
+use Rattle.trac_core.specs.Matching.{IsAt, GoesBy}
+use Rattle.trac_core.specs.StepsInRow.{is_parenthesis}
 use Rattle.trac_laws.proofs.Parentheses.{weight, count_push, matches, split_found, split_passed, split_none}
-
--- the search has passed i characters, and so many left parentheses are open
-pub record IsAt (text : Text) (i depth : ℕ) : Type 0 where
-  pub none : split_at_match [] text ≡ split_at_match (take i text) (drop i text)
-  pub open_is : depth + count 41 (take i text) ≡ count 40 (take i text)
 
 module _ (text : Text) (i depth c : ℕ) (within : i < length text) (c_is : c ≡ get_or text i 0) (at : IsAt text i depth) where
   rest-is : drop i text ≡ c ∷ drop (i + 1) text
@@ -63,6 +60,24 @@ module _ (text : Text) (i depth c : ℕ) (within : i < length text) (c_is : c �
       let l : count 40 (take (i + 1) text) ≡ count 40 (take i text) + 0 = counts 40 ∙ ap (λ b. count 40 (take i text) + weight b) no_left in
       let r : count 41 (take (i + 1) text) ≡ count 41 (take i text) + 0 = counts 41 ∙ ap (λ b. count 41 (take i text) + weight b) wrong in
       record { none = passes (ap (λ b. b && (count 40 (take i text) == count 41 (take i text))) wrong); open_is = omega arith }
+
+-- a character that is no parenthesis
+pub goes-by : (text : Text) (i c : ℕ) → i < length text → c ≡ get_or text i 0 → is_parenthesis c ≡ false → GoesBy text i (i + 1)
+goes-by text i c within here other depth at = passes-other text i depth c within here at (not-left c other) (not-right c other)
+  where
+    not-left : (c : ℕ) → is_parenthesis c ≡ false → c ≢ 40
+    not-left c other e = let yes : is_parenthesis 40 ≡ false = subst (λ k. is_parenthesis k ≡ false) e other in cc
+
+    not-right : (c : ℕ) → is_parenthesis c ≡ false → c ≢ 41
+    not-right c other e = let yes : is_parenthesis 41 ≡ false = subst (λ k. is_parenthesis k ≡ false) e other in cc
+
+-- a parenthesis that is no left one
+pub other-one : (c : ℕ) → is_parenthesis c ≡ true → c ≢ 40 → c ≡ 41
+other-one c is not_left = eqb-true c 41 (go (c == 40) (c == 41) is (ne_eqb c 40 not_left))
+  where
+    go : (a b : Bool) → (a || b) ≡ true → a ≡ false → b ≡ true
+    go true b h k = absurd cc
+    go false b h k = h
 
 -- the search is through
 pub unmatched : (text : Text) (i depth : ℕ) → length text ≤ i → IsAt text i depth → protected text ≡ None

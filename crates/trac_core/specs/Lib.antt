@@ -1,6 +1,7 @@
 pub mod Performed
 pub mod ReadTexts
 pub mod Machine
+pub mod Matching
 pub mod View
 pub mod Session
 pub mod Attempts

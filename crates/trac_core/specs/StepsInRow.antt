@@ -1,14 +1,16 @@
 -- Steps that perform no call in a row, which are done at once.
 use Rattle.std.specs.Prelude.{◌≡◌, ℕ, zero, suc, max, Bool, true, false, ◌||◌, ◌==◌, ◌+◌, ◌<◌, ◌≤◌}
-use Rattle.std.specs.Prelude.{length, [], Option, Some, None, Result, Ok, Err, slice_get}
+use Rattle.std.specs.Prelude.{if◌then◌else◌, length, List, [], drop, Option, Some, None, Result, Ok, Err, slice_get}
 use Rattle.trac_language.specs.Text.{Text}
 use Rattle.trac_language.specs.State.{Input, Memory, size}
 use Rattle.trac_language.specs.Rule.{is_layout}
 use Rattle.trac_language.specs.Step.{Next, step, need}
 use Rattle.trac_laws.specs.LastRead.{reads_to_end}
+use Rattle.trac_space.specs.declared.cell.Cell.{Cell}
 use Rattle.trac_space.specs.Calls.{IsLastCall}
-use Rattle.trac_space.specs.Texts.{text_of_cells}
+use Rattle.trac_space.specs.Texts.{text_of_cells, character_of}
 use Rattle.trac_forms.specs.Contents.{Contents}
+use Rattle.trac_functions.specs.Calls.{NoComma}
 use Rattle.trac_functions.specs.Flat.{memory_of}
 use Rattle.trac_core.specs.declared.scan.Front.{Front}
 use Rattle.trac_core.specs.declared.scan.Front.TheVariants.{Empty, Closes}
@@ -21,6 +23,18 @@ is_special c = is_layout c || (c == 35) || (c == 40) || (c == 41) || (c == 44)
 -- a character that has none
 abbrev pub IsOrdinary : ℕ → Type 0
 IsOrdinary c = is_special c ≡ false
+
+-- a parenthesis
+abbrev pub is_parenthesis : ℕ → Bool
+is_parenthesis c = (c == 40) || (c == 41)
+
+-- 16 for a parenthesis, 1 for another character that has a rule of its own, 0 for the rest
+abbrev pub kind_of : ℕ → ℕ
+kind_of c = if is_parenthesis c then 16 else (if is_special c then 1 else 0)
+
+-- the same of a cell's
+abbrev pub kind_in : Cell → ℕ
+kind_in cell = kind_of (character_of cell)
 
 -- a character that is deleted
 abbrev pub IsLayout : ℕ → Type 0
@@ -51,12 +65,22 @@ pub record SomeSteps (n most : ℕ) (old new : Contents) : Type 0 where
   pub few : n ≤ most
   pub shorter : length new.active < length old.active
 
--- what the next step asks for: the idling procedure, since the active string is empty; or the call
--- whose mark stands at the place, since a right parenthesis that begins that string closes it
+-- from this place on no comma mark stands in a neutral string
+abbrev pub IsPlainFrom : ℕ → List Cell → Type 0
+IsPlainFrom place neutral = NoComma (drop place neutral)
+
+-- whatever that place is, it is one still
+abbrev pub KeepsPlain : Contents → Contents → Type 0
+KeepsPlain old new =
+    (place : ℕ) → IsPlainFrom place old.neutral → IsPlainFrom place new.neutral
+
+-- what the next step asks for: the idling procedure, since the active string is empty; or the
+-- innermost call, since a right parenthesis that begins that string closes it
 abbrev pub AsksFor : Front → Contents → Type 0
 AsksFor Empty w = w.active ≡ []
-AsksFor (Closes place) w =
-    (slice_get (text_of_cells w.active) 0 ≡ Some 41) × IsLastCall w.neutral place
+AsksFor (Closes call) w =
+    (slice_get (text_of_cells w.active) 0 ≡ Some 41) × IsLastCall w.neutral call.place
+    × IsPlainFrom call.plain w.neutral
 
 -- what the rule that fits the beginning of the active string comes to: some of those steps, at most
 -- so many, or none

@@ -12,12 +12,12 @@ ghost use Rattle.trac_core.specs.Performed.{is_plain, performs, reads_input, pri
 ghost use Rattle.trac_core.specs.Machine.{input_failures, output_failures};
 ghost use Rattle.trac_core.specs.Attempts.{scene, Tried, TriedCall, function_at, TakesFrom};
 ghost use Rattle.trac_core.specs.Attempts.{TakesAtMost, AnswersCall, Stands, fate_after};
-ghost use Rattle.trac_core.specs.StepsInRow.{AsksFor};
+ghost use Rattle.trac_core.specs.StepsInRow.{AsksFor, IsPlainFrom};
 
 use crate::delivery::settle;
 use crate::display::print_form;
 use crate::input_output::{change_meta, print_string, read_character, read_string};
-use crate::scan::{Attempt, Front, load_idling, scan_on};
+use crate::scan::{Attempt, Front, InnermostCall, load_idling, scan_on};
 use trac_devices::{Sink, Source};
 use trac_forms::Work;
 use trac_functions::arguments::{Arguments, Made, text};
@@ -108,21 +108,21 @@ pub(crate) fn carry_out<I: Source, O: Sink>(
 {
     match front {
         Front::Empty => load_idling(work),
-        Front::Closes(place) => close(work, place, meta, source, sink),
+        Front::Closes(call) => close(work, call, meta, source, sink),
     }
 }
 
-/// The right parenthesis is deleted, and the innermost
-/// call, whose mark stands at the place, is performed.
+/// The right parenthesis is deleted, and the innermost call is performed.
 fn close<I: Source, O: Sink>(
     work: &mut Work,
-    place: u32,
+    call: InnermostCall,
     meta: &mut u8,
     source: &mut I,
     sink: &mut O,
 ) -> Attempt
     requires closes { slice_get (text_of_cells work.old.active) 0 ≡ Some 41 }
-    requires innermost { IsLastCall work.old.neutral place }
+    requires innermost { IsLastCall work.old.neutral call.place }
+    requires plain { IsPlainFrom call.plain work.old.neutral }
     requires source_counts { I.failure_count source.old < 2 ^ 64 - 1 }
     requires sink_counts { O.failure_count sink.old < 2 ^ 64 - 1 }
     requires sound { IsSound work.old }
@@ -153,24 +153,24 @@ fn close<I: Source, O: Sink>(
     ensures sound { IsSound work.new }
 {
     work.drop_active(1);
-    perform(work, place, meta, source, sink)
+    perform(work, call, meta, source, sink)
 }
 
-/// The innermost call, whose mark stands at the place and
-/// whose right parenthesis was deleted, is performed.
+/// The innermost call, whose right parenthesis was deleted, is performed.
 fn perform<I: Source, O: Sink>(
     work: &mut Work,
-    place: u32,
+    call: InnermostCall,
     meta: &mut u8,
     source: &mut I,
     sink: &mut O,
 ) -> Attempt
-    requires innermost { IsLastCall work.old.neutral place }
+    requires innermost { IsLastCall work.old.neutral call.place }
+    requires plain { IsPlainFrom call.plain work.old.neutral }
     requires source_counts { I.failure_count source.old < 2 ^ 64 - 1 }
     requires sink_counts { O.failure_count sink.old < 2 ^ 64 - 1 }
     requires sound { IsSound work.old }
     ensures tried { I.tells source.old → O.tells sink.old →
-        TriedCall place (scene work.old meta.old (I.stream source.old) (O.written sink.old))
+        TriedCall call.place (scene work.old meta.old (I.stream source.old) (O.written sink.old))
         result.fate result.need
         (scene work.new meta.new (I.stream source.new) (O.written sink.new)) }
     ensures input_failed { I.failure_count source.new ≡
@@ -182,9 +182,9 @@ fn perform<I: Source, O: Sink>(
     ensures unspent { result.fate ≢ Some Fate.Steps }
     ensures stay { result.fate ≢ None →
         (work.new.forms ≡ work.old.forms) × (meta.new ≡ meta.old) }
-    ensures unread { reads_input (function_at work.old.neutral place) ≡ false →
+    ensures unread { reads_input (function_at work.old.neutral call.place) ≡ false →
         source.new ≡ source.old }
-    ensures unprinted { prints_output (function_at work.old.neutral place) ≡ false →
+    ensures unprinted { prints_output (function_at work.old.neutral call.place) ≡ false →
         sink.new ≡ sink.old }
     ensures takes { I.tells source.old → (taken : Text) ×
         TakesFrom work.old (I.stream source.old) (I.stream source.new) taken }
@@ -197,25 +197,26 @@ fn perform<I: Source, O: Sink>(
 {
     let before = work.used();
     let end = work.neutral_len();
-    let made = answer(work, place, meta, source, sink);
-    settle(work, (place, end), before, made)
+    let made = answer(work, call, meta, source, sink);
+    settle(work, (call.place, end), before, made)
 }
 
-/// What the function of the call whose mark stands at the place answers. A call of a name that is
-/// no function has a null value (this processor's own choice).
+/// What the function of the innermost call answers. A call of a name that is no function has a null
+/// value (this processor's own choice).
 fn answer<I: Source, O: Sink>(
     work: &mut Work,
-    place: u32,
+    call: InnermostCall,
     meta: &mut u8,
     source: &mut I,
     sink: &mut O,
 ) -> Made
-    requires innermost { IsLastCall work.old.neutral place }
+    requires innermost { IsLastCall work.old.neutral call.place }
+    requires plain { IsPlainFrom call.plain work.old.neutral }
     requires source_counts { I.failure_count source.old < 2 ^ 64 - 1 }
     requires sink_counts { O.failure_count sink.old < 2 ^ 64 - 1 }
     requires sound { IsSound work.old }
     ensures answers { I.tells source.old → O.tells sink.old →
-        AnswersCall place (scene work.old meta.old (I.stream source.old) (O.written sink.old))
+        AnswersCall call.place (scene work.old meta.old (I.stream source.old) (O.written sink.old))
         result (scene work.new meta.new (I.stream source.new) (O.written sink.new)) }
     ensures stands { Stands result (used work.old) (length work.old.neutral) work.new }
     ensures input_failed { I.failure_count source.new ≡
@@ -227,9 +228,9 @@ fn answer<I: Source, O: Sink>(
     ensures unspent { result ≢ Made.Over Fate.Steps }
     ensures stay { fate_after result ≢ None →
         (work.new.forms ≡ work.old.forms) × (meta.new ≡ meta.old) }
-    ensures unread { reads_input (function_at work.old.neutral place) ≡ false →
+    ensures unread { reads_input (function_at work.old.neutral call.place) ≡ false →
         source.new ≡ source.old }
-    ensures unprinted { prints_output (function_at work.old.neutral place) ≡ false →
+    ensures unprinted { prints_output (function_at work.old.neutral call.place) ≡ false →
         sink.new ≡ sink.old }
     ensures takes { I.tells source.old → (taken : Text) ×
         TakesFrom work.old (I.stream source.old) (I.stream source.new) taken }
@@ -240,8 +241,9 @@ fn answer<I: Source, O: Sink>(
     ensures sound { IsSound work.new }
 {
     let mut arguments = Arguments {
-        from: place + 1,
+        from: call.place + 1,
         end: work.neutral_len(),
+        plain: call.plain,
     };
     let name = arguments.next(work);
     let Some(function) = function_named(text(work, name)) else {

@@ -7,6 +7,7 @@ mod delivery;
 mod display;
 mod input_output;
 mod machine;
+mod runs;
 mod scan;
 mod text_io;
 

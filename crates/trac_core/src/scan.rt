@@ -1,15 +1,13 @@
 //! The scanner: the rules that perform no call.
 ghost use Rattle.std.specs.Prelude.{◌≡◌, ◌≢◌, ◌+◌, ◌<◌, ◌≤◌, [], ◌∷◌, ℕ, length};
-ghost use Rattle.std.specs.Prelude.{take, drop, slice_get, MatchOption, IsTrue, ◌↔◌, None, Some};
-ghost use Rattle.std.specs.Prelude.{true, false, ◌++◌, All};
-ghost use Rattle.trac_language.specs.Protected.{protected};
-ghost use Rattle.trac_language.specs.Rule.{is_layout};
+ghost use Rattle.std.specs.Prelude.{take, drop, slice_get, IsTrue, ◌↔◌, None, Some, ◌++◌, All};
 ghost use Rattle.trac_space.specs.Texts.{character_of, text_of_cells, IsByte};
 ghost use Rattle.trac_forms.specs.Contents.{used, IsSound};
 ghost use Rattle.trac_core.specs.Attempts.{Scans, Scanned, NoneFailed};
-ghost use Rattle.trac_core.specs.StepsInRow.{is_special, IsOrdinary, IsLayout, Advances, SomeSteps};
-ghost use Rattle.trac_core.specs.StepsInRow.{ComesTo, StopsAt};
+ghost use Rattle.trac_core.specs.StepsInRow.{IsOrdinary, IsLayout, Advances, SomeSteps};
+ghost use Rattle.trac_core.specs.StepsInRow.{ComesTo, StopsAt, IsPlainFrom, KeepsPlain};
 
+use crate::runs::{layout_characters, matching, ordinary_characters};
 use trac_forms::Work;
 use trac_language::{Fate, Mode};
 use trac_space::{Cell, byte_in};
@@ -53,8 +51,17 @@ pub(crate) fn is_at(work: &Work, place: u32, byte: u8) -> bool
 pub(crate) enum Front {
     /// It is empty: the idling procedure.
     Empty,
-    /// A right parenthesis: the call whose mark stands at this place.
-    Closes(u32),
+    /// A right parenthesis: the innermost call.
+    Closes(InnermostCall),
+}
+
+/// The innermost call that is open.
+#[derive(Clone, Copy, Debug, PartialEq, Eq)]
+pub(crate) struct InnermostCall {
+    /// Where its mark stands in the neutral string.
+    pub(crate) place: u32,
+    /// A place of that string from which on no comma mark stands.
+    pub(crate) plain: u32,
 }
 
 /// Steps that perform no call, one after the other, at most so many. Gives how many they were, and
@@ -69,8 +76,9 @@ pub(crate) fn scan_on(work: &mut Work, most: u64) -> (u64, Option<Front>)
     ensures sound { IsSound work.new }
 {
     let mut count = 0;
+    let mut plain = work.neutral_len();
     while count < most {
-        match pass(work, most - count) {
+        match pass(work, most - count, &mut plain) {
             Ok(more) => count += more,
             Err(front) => return (count, Some(front)),
         }
@@ -80,12 +88,15 @@ pub(crate) fn scan_on(work: &mut Work, most: u64) -> (u64, Option<Front>)
 
 /// The table of the rules of scanning (Mooers 1966). Makes the steps of the rule that fits the
 /// beginning of the active string, at most so many: all of a run of ordinary characters, or of
-/// layout characters, at once, and one of another rule that performs no call.
+/// layout characters, at once, and one of another rule that performs no call. From the plain place
+/// on no comma mark stands in the neutral string.
 #[inline]
-fn pass(work: &mut Work, most: u64) -> Result<u64, Front>
+fn pass(work: &mut Work, most: u64, plain: &mut u32) -> Result<u64, Front>
     requires some { 0 < most }
+    requires plain { IsPlainFrom plain.old work.old.neutral }
     requires sound { IsSound work.old }
     ensures comes { ComesTo result most work.old work.new }
+    ensures plain { IsPlainFrom plain.new work.new.neutral }
     ensures room { work.new.room ≡ work.old.room }
     ensures sound { IsSound work.new }
 {
@@ -93,8 +104,11 @@ fn pass(work: &mut Work, most: u64) -> Result<u64, Front>
         None => return Err(Front::Empty),
         Some(b'\t' | b'\n' | b'\r') => return Ok(delete_layout(work, most)),
         Some(b'(') => protect(work),
-        Some(b')') => return end_call(work),
-        Some(b',') => begin_argument(work),
+        Some(b')') => return end_call(work, *plain),
+        Some(b',') => {
+            begin_argument(work);
+            *plain = work.neutral_len();
+        }
         Some(b'#') => number_sign(work),
         Some(_) => return Ok(add_characters(work, most)),
     }
@@ -104,15 +118,17 @@ fn pass(work: &mut Work, most: u64) -> Result<u64, Front>
 /// A right parenthesis closes the innermost call, or, where none is
 /// open, is deleted (this processor's own choice).
 #[inline]
-fn end_call(work: &mut Work) -> Result<u64, Front>
+fn end_call(work: &mut Work, plain: u32) -> Result<u64, Front>
     requires closes { slice_get (text_of_cells work.old.active) 0 ≡ Some 41 }
+    requires plain { IsPlainFrom plain work.old.neutral }
     requires sound { IsSound work.old }
     ensures comes { ComesTo result 1 work.old work.new }
+    ensures plain { KeepsPlain work.old work.new }
     ensures room { work.new.room ≡ work.old.room }
     ensures sound { IsSound work.new }
 {
     match work.last_call() {
-        Some(place) => Err(Front::Closes(place)),
+        Some(place) => Err(Front::Closes(InnermostCall { place, plain })),
         None => {
             work.drop_active(1);
             Ok(1)
@@ -129,6 +145,7 @@ fn add_characters(work: &mut Work, most: u64) -> u64
         ((slice_get (text_of_cells work.old.active) 0 ≡ Some c) × IsOrdinary c) }
     requires sound { IsSound work.old }
     ensures passes { SomeSteps result most work.old work.new }
+    ensures plain { KeepsPlain work.old work.new }
     ensures room { work.new.room ≡ work.old.room }
     ensures sound { IsSound work.new }
 {
@@ -146,6 +163,7 @@ fn delete_layout(work: &mut Work, most: u64) -> u64
         ((slice_get (text_of_cells work.old.active) 0 ≡ Some c) × IsLayout c) }
     requires sound { IsSound work.old }
     ensures passes { SomeSteps result most work.old work.new }
+    ensures plain { KeepsPlain work.old work.new }
     ensures room { work.new.room ≡ work.old.room }
     ensures sound { IsSound work.new }
 {
@@ -169,61 +187,6 @@ fn after_first<'a>(work: &'a Work, most: u64) -> &'a [Cell]
 {
     let all = work.active_len();
     work.active_part(1, most.min(u64::from(all)) as u32)
-}
-
-/// How many layout characters begin the cells.
-fn layout_characters(cells: &[Cell]) -> u32
-    requires few { length cells.now ≤ 16777216 }
-    requires bytes { All IsByte cells.now }
-    ensures within { result ≤ length cells.now }
-    ensures layout { All IsLayout (take result (text_of_cells cells.now)) }
-{
-    for (i, cell) in cells.iter().enumerate() {
-        if !is_layout(byte_in(cell)) {
-            return i as u32;
-        }
-    }
-    cells.len() as u32
-}
-
-/// Whether a character is a tab, a line feed or a carriage return.
-#[inline]
-fn is_layout(character: u8) -> bool
-    ensures { result ≡ is_layout character }
-{
-    matches!(character, b'\t' | b'\n' | b'\r')
-}
-
-/// How many ordinary characters begin the cells.
-fn ordinary_characters(cells: &[Cell]) -> u32
-    requires few { length cells.now ≤ 16777216 }
-    requires bytes { All IsByte cells.now }
-    ensures within { result ≤ length cells.now }
-    ensures ordinary { All IsOrdinary (take result (text_of_cells cells.now)) }
-{
-    for (i, cell) in cells.iter().enumerate() {
-        if is_special(byte_in(cell)) {
-            return i as u32;
-        }
-    }
-    cells.len() as u32
-}
-
-/// Whether a character has a rule of its own. An arm for each makes one test of a bit of them.
-#[inline]
-fn is_special(character: u8) -> bool
-    ensures { result ≡ is_special character }
-{
-    match character {
-        b'\t' => true,
-        b'\n' => true,
-        b'\r' => true,
-        b'#' => true,
-        b'(' => true,
-        b')' => true,
-        b',' => true,
-        _ => false,
-    }
 }
 
 /// The active string is empty: the neutral string is cleared,
@@ -257,6 +220,7 @@ fn protect(work: &mut Work)
     requires sound { IsSound work.old }
     requires first { slice_get (text_of_cells work.old.active) 0 ≡ Some 40 }
     ensures scans { Scans work.old work.new (used work.old) }
+    ensures plain { KeepsPlain work.old work.new }
     ensures no_larger { used work.new ≤ used work.old }
     ensures shorter { length work.new.active < length work.old.active }
     ensures room { work.new.room ≡ work.old.room }
@@ -271,33 +235,6 @@ fn protect(work: &mut Work)
         }
         None => work.clear_active(),
     }
-}
-
-/// Where the right parenthesis stands that matches a left one before the cells.
-fn matching(cells: &[Cell]) -> Option<u32>
-    requires few { length cells.now ≤ 16777216 }
-    requires bytes { All IsByte cells.now }
-    ensures { let text = text_of_cells cells.now in
-        MatchOption result
-        (protected text ≡ None)
-        (λ place. (place < length cells.now)
-        × (protected text ≡ Some (take place text, drop (place + 1) text))) }
-{
-    let mut depth = 0u32;
-    for (i, cell) in cells.iter().enumerate() {
-        let character = byte_in(cell);
-        if character < b'(' || character > b')' {
-            continue;
-        }
-        if character == b'(' {
-            depth += 1;
-        } else if depth == 0 {
-            return Some(i as u32);
-        } else {
-            depth -= 1;
-        }
-    }
-    None
 }
 
 /// A comma is deleted. Where a call is open, a new argument of the innermost begins.
@@ -325,6 +262,7 @@ fn number_sign(work: &mut Work)
     requires sound { IsSound work.old }
     requires first { slice_get (text_of_cells work.old.active) 0 ≡ Some 35 }
     ensures scans { Scans work.old work.new (used work.old) }
+    ensures plain { KeepsPlain work.old work.new }
     ensures no_larger { used work.new ≤ used work.old }
     ensures shorter { length work.new.active < length work.old.active }
     ensures room { work.new.room ≡ work.old.room }

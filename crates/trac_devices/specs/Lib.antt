@@ -1,4 +1,5 @@
 pub mod Buffered
+pub mod Characters
 pub mod Counted
 pub mod Devices
 pub mod HeldBytes

@@ -1,5 +1,6 @@
 //! Characters of cells, as bytes.
-ghost use Rattle.std.specs.Prelude.{◌≡◌, length};
+ghost use Rattle.std.specs.Prelude.{◌≡◌, ◌≤◌, ◌<◌, ◌+◌, ℕ, length};
+ghost use Rattle.trac_devices.specs.Characters.{AreWritten};
 ghost use Rattle.trac_space.specs.Texts.{text_of_cells};
 
 use trac_space::{Cell, character_of};
@@ -10,7 +11,43 @@ pub fn write_characters(text: &[Cell], bytes: &mut [u8])
     requires { length text.now ≡ length bytes.old }
     ensures { bytes.new ≡ text_of_cells text.now }
 {
-    for (i, cell) in text.iter().enumerate() {
-        bytes[i] = character_of(cell);
+    let mut i = write_blocks(text, bytes);
+    while i < text.len() {
+        write_character(text, bytes, i);
+        i += 1;
     }
+}
+
+// The same, of as many whole blocks of eight as there are, and gives how many bytes these are.
+#[inline]
+fn write_blocks(text: &[Cell], bytes: &mut [u8]) -> usize
+    requires { length text.now ≡ length bytes.old }
+    ensures within { result ≤ length text.now }
+    ensures written { AreWritten result text.now bytes.new }
+{
+    let mut i = 0;
+    while text.len() - i >= 8 {
+        write_character(text, bytes, i);
+        write_character(text, bytes, i + 1);
+        write_character(text, bytes, i + 2);
+        write_character(text, bytes, i + 3);
+        write_character(text, bytes, i + 4);
+        write_character(text, bytes, i + 5);
+        write_character(text, bytes, i + 6);
+        write_character(text, bytes, i + 7);
+        i += 8;
+    }
+    i
+}
+
+// Makes one byte the character at its place; those before it are written then, if they were.
+#[inline]
+fn write_character(text: &[Cell], bytes: &mut [u8], i: usize)
+    requires within { i < length text.now }
+    requires same { length text.now ≡ length bytes.old }
+    ensures written { (next : ℕ) → next ≡ i + 1 → AreWritten i text.now bytes.old →
+        AreWritten next text.now bytes.new }
+    ensures same { length bytes.new ≡ length bytes.old }
+{
+    bytes[i] = character_of(&text[i]);
 }

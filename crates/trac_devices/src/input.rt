@@ -51,12 +51,13 @@ impl<R: Read> Source for Input<R> {
     fn next(&mut self) -> Next
         requires { self.old.failures < 2 ^ 64 - 1 }
         ensures ended { self.old.ended ≡ true → (result ≡ Next.End) × (self.new ≡ self.old) }
-        ensures gives { IfTells (unread (λ r. R.remaining r.reader) self.old.reader) self.old.ended →
-            Gives (told_stream (unread (λ r. R.remaining r.reader) self.old.reader) self.old.ended)
-            result
-            (told_stream (unread (λ r. R.remaining r.reader) self.new.reader) self.new.ended) }
-        ensures told { IfTells (unread (λ r. R.remaining r.reader) self.old.reader) self.old.ended →
-            IfTells (unread (λ r. R.remaining r.reader) self.new.reader) self.new.ended }
+        ensures gives { let old = unread (λ r. R.remaining r.reader) self.old.reader in
+            let new = unread (λ r. R.remaining r.reader) self.new.reader in
+            IfTells old self.old.ended →
+            Gives (told_stream old self.old.ended) result (told_stream new self.new.ended) }
+        ensures told { let old = unread (λ r. R.remaining r.reader) self.old.reader in
+            let new = unread (λ r. R.remaining r.reader) self.new.reader in
+            IfTells old self.old.ended → IfTells new self.new.ended }
         ensures counts { self.new.failures ≡ self.old.failures + failures_of_next result }
     {
         if self.ended {

@@ -14,7 +14,7 @@ use Rattle.trac_forms.specs.Arguments.{before_comma}
 use Rattle.trac_forms.proofs.Parted.{before_comma-within}
 use Rattle.trac_functions.specs.declared.arguments.Arguments.{Arguments}
 use Rattle.trac_functions.specs.Flat.{in_first, texts_of}
-use Rattle.trac_functions.specs.Calls.{texts_from, texts, AreArguments}
+use Rattle.trac_functions.specs.Calls.{texts_from, texts, AreArguments, NoComma}
 
 -- ---- cells as contracts see them
 
@@ -228,8 +228,8 @@ taken-part w a are le =
       bytes = λ k d within. byte-plain (get_or part k d) (strings k d within) (calls k d within) (commas k d within);
     }
 
-pub taken-left : (w : Contents) (a b : Arguments) → AreArguments w a → a.from ≤ a.end → b.from ≡ a.from + before_comma (slice_range w.neutral a.from a.end) + 1 → b.end ≡ a.end → AreArguments w b
-taken-left w a b are le from_is end_is =
+pub taken-left : (w : Contents) (a b : Arguments) → AreArguments w a → a.from ≤ a.end → b.from ≡ a.from + before_comma (slice_range w.neutral a.from a.end) + 1 → b.end ≡ a.end → b.plain ≡ a.plain → AreArguments w b
+taken-left w a b are le from_is end_is plain_is =
     let here = slice_range w.neutral a.from a.end in
     let n = before_comma here in
     let inside = are.within in
@@ -245,7 +245,24 @@ taken-left w a b are le from_is end_is =
           subst (λ k. NoCall (slice_range w.neutral k a.end)) e (no_call-later w.neutral a.from (n + 1) a.end (omega arith) are.no_call))
           (λ last. let none : a.end - (a.from + n + 1) ≡ 0 = omega arith in rw none (λ k d within. absurd (omega arith)))
           (cases_lt (a.from + n) a.end));
+      no_comma = rw (plain_is, end_is) are.no_comma;
     }
+
+-- where no comma mark stands, all is before the first
+before_comma-all : (cells : List Cell) → NoComma cells → before_comma cells ≡ length cells
+before_comma-all [] h = refl
+before_comma-all (cell ∷ cells) h = rw (h 0 (Byte 0) (omega arith), before_comma-all cells (λ k d within. h (suc k) d (omega arith))) refl
+
+-- the last argument, which begins where no comma mark follows, goes up to the end
+pub last-long : (w : Contents) (a : Arguments) → AreArguments w a → a.from ≤ a.end → a.plain ≤ a.from → a.end ≡ a.from + before_comma (slice_range w.neutral a.from a.end)
+last-long w a are le late =
+    let n = a.from - a.plain in
+    let here : a.plain + n ≡ a.from = omega arith in
+    let rest = subst (λ k. NoComma (slice_range w.neutral k a.end)) here
+    (subst NoComma (drop-range w.neutral a.plain n a.end (omega arith)) (All-drop (λ cell. is_comma cell ≡ false) n (slice_range w.neutral a.plain a.end) are.no_comma)) in
+    let long = length-range w.neutral a.from a.end are.within in
+    let whole = before_comma-all (slice_range w.neutral a.from a.end) rest in
+    omega arith
 
 -- a part of no cells is a null text
 pub null-part : (w : Contents) (end : ℕ) → end ≤ length w.neutral → IsTextPart w.neutral end end

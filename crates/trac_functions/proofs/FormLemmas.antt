@@ -58,7 +58,7 @@ names-none before forms k past = ap (names before) (drop_all k forms past)
 
 pub arguments-kept : (w v : Contents) (a : Arguments) → AreArguments w a → IsSound v → v.neutral ≡ w.neutral → AreArguments v a
 arguments-kept w v a are sound same =
-    record { sound = sound; order = are.order; within = rw same are.within; no_call = rw same are.no_call }
+    record { sound = sound; order = are.order; within = rw same are.within; no_call = rw same are.no_call; no_comma = rw same are.no_comma }
 
 texts_from-some : (neutral : List Cell) (from end : ℕ) → from ≤ end → texts_from neutral from end ≡ texts_of (slice_range neutral from end)
 texts_from-some neutral from end le = let yes : nat_le from end ≡ true = grind arith in rw yes refl
@@ -105,10 +105,10 @@ parts-left : (w : Contents) (fuel : ℕ) (a : Arguments) → AreArguments w a �
 parts-left w zero a are few = parts-past w a (omega (arith, few))
 parts-left w (suc fuel) a are few = ⊎_elim (parts-past w a) (λ le.
     let n = before_comma (slice_range w.neutral a.from a.end) in
-    let b : Arguments = record { from = a.from + n + 1; end = a.end } in
+    let b : Arguments = record { from = a.from + n + 1; end = a.end; plain = a.plain } in
     let first = parts-first w.neutral a.from a.end n le are.within refl in
     let rest = taken-rest w a are le in
-    let later = parts-left w fuel b (taken-left w a b are le refl refl) (omega (arith, few)) in (
+    let later = parts-left w fuel b (taken-left w a b are le refl refl refl) (omega (arith, few)) in (
       rw first (All-cons (Part w) (a.from, a.from + n) (parts_between w.neutral b.from b.end) (taken-part w a are le) later.0),
       ap (part_texts w.neutral) first
           ∙ ap (λ text. text ∷ texts_between w.neutral b.from b.end) (taken-text w a are le)

@@ -1,10 +1,11 @@
 //! The arguments of a call, taken one after the other, and the value that is put behind them.
 ghost use Rattle.std.specs.Prelude.{◌≡◌, ◌↔◌, ◌+◌, ◌≤◌, ◌++◌, ℕ, true, false, length, drop};
-ghost use Rattle.std.specs.Prelude.{IsTrue};
+ghost use Rattle.std.specs.Prelude.{IsTrue, slice_range};
 ghost use Rattle.std.specs.Bool.{OnTrue, OnFalse};
 ghost use Rattle.trac_language.specs.State.{argument};
 ghost use Rattle.trac_space.specs.Texts.{flat_text, text_of_cells};
 ghost use Rattle.trac_values.specs.Cells.{IsText};
+ghost use Rattle.trac_forms.specs.Arguments.{before_comma};
 ghost use Rattle.trac_forms.specs.Contents.{used, part_text, IsTextPart, IsSound};
 ghost use Rattle.trac_functions.specs.Calls.{MakesValue, AreArguments, texts};
 ghost use Rattle.trac_functions.specs.Taking.{TakesPart};
@@ -18,6 +19,9 @@ use trac_language::Fate;
 pub struct Arguments {
     pub from: u32,
     pub end: u32,
+    /// From this place on no comma mark stands before the end, as the caller knows: the last
+    /// argument is found without a search if it begins there or later.
+    pub plain: u32,
 }
 
 /// What a function answers to a call.
@@ -51,9 +55,22 @@ impl Arguments {
         if from > self.end {
             return (self.end, self.end);
         }
-        let to = from + before_comma(work.neutral_part(from, self.end));
+        let to = self.end_of_next(work);
         self.from = to + 1;
         (from, to)
+    }
+
+    // Where the next argument ends, of those that are left.
+    fn end_of_next(&self, work: &Work) -> u32
+        requires arguments { AreArguments work.now self.now }
+        requires some { self.now.from ≤ self.now.end }
+        ensures { let left = slice_range work.now.neutral self.now.from self.now.end in
+            result ≡ self.now.from + before_comma left }
+    {
+        if self.from >= self.plain {
+            return self.end;
+        }
+        self.from + before_comma(work.neutral_part(self.from, self.end))
     }
 
     /// Whether no argument is left.

@@ -65,6 +65,7 @@ fn call_len(work: &mut Work, place: u32) -> u32
     let mut arguments = Arguments {
         from: place + 1,
         end,
+        plain: end,
     };
     let name = arguments.next(work);
     let part = arguments.next(work);

@@ -175,6 +175,7 @@ fn named_at(work: &Work, place: u32) -> Option<Function>
     let mut arguments = Arguments {
         from: place + 1,
         end,
+        plain: end,
     };
     let name = arguments.next(work);
     function_named(text(work, name))

@@ -10,7 +10,7 @@ use Rattle.trac_core.proofs.call.answer.Goals as goal
 pub returns-in_default-clause-answers : goal.returns-in_default-clause-answers
 returns-in_default-clause-answers g c = λ told_source told_sink.
     let w = c.args.work.now in
-    let place = c.args.place in
+    let place = c.args.call.place in
     let all = ap (texts_from w.neutral (place + 1)) c.neutral_len.ensures.value ∙ texts-all w.neutral place c.requires.innermost.mark.0 in
     let name = c.text.ensures.text ∙ c.next-name.ensures.text ∙ ap (λ l. argument l 0) all in
     answers-nothing w place (sym (sym c.in_default.is ∙ c.function_named.ensures ∙ ap function_named name)) c.requires.sound c.args.meta.now _ _
@@ -18,7 +18,7 @@ returns-in_default-clause-answers g c = λ told_source told_sink.
 pub returns-in-Halt-clause-answers : goal.returns-in-Halt-clause-answers
 returns-in-Halt-clause-answers g c = λ told_source told_sink.
     let w = c.args.work.now in
-    let place = c.args.place in
+    let place = c.args.call.place in
     let all = ap (texts_from w.neutral (place + 1)) c.neutral_len.ensures.value ∙ texts-all w.neutral place c.requires.innermost.mark.0 in
     let name = c.text.ensures.text ∙ c.next-name.ensures.text ∙ ap (λ l. argument l 0) all in
     answers-halt w place
@@ -28,7 +28,7 @@ returns-in-Halt-clause-answers g c = λ told_source told_sink.
 pub returns-in_default-function-clause-answers : goal.returns-in_default-function-clause-answers
 returns-in_default-function-clause-answers g c = λ told_source told_sink.
     let w = c.args.work.now in
-    let place = c.args.place in
+    let place = c.args.call.place in
     let d = c.in_default-function in
     let all = ap (texts_from w.neutral (place + 1)) c.neutral_len.ensures.value ∙ texts-all w.neutral place c.requires.innermost.mark.0 in
     let name = c.text.ensures.text ∙ c.next-name.ensures.text ∙ ap (λ l. argument l 0) all in
@@ -41,14 +41,14 @@ returns-in_default-function-clause-stands g c =
     let w = c.args.work.now in
     let d = c.in_default-function in
     let plain = plain-rest c.in-Some.function d.not-ReadString d.not-ReadCharacter d.not-ChangeMeta d.not-PrintString d.not-PrintForm d.not-Halt in
-    stands-made c.in-Some.function _ w c.value_of.new.work c.value_of.result (c.value_of.ensures.makes plain (argument (arguments_at w.neutral c.args.place) 0))
+    stands-made c.in-Some.function _ w c.value_of.new.work c.value_of.result (c.value_of.ensures.makes plain (argument (arguments_at w.neutral c.args.call.place) 0))
 
 pub returns-in_default-function-clause-input_failed : goal.returns-in_default-function-clause-input_failed
 returns-in_default-function-clause-input_failed g c =
     let w = c.args.work.now in
     let d = c.in_default-function in
     let plain = plain-rest c.in-Some.function d.not-ReadString d.not-ReadCharacter d.not-ChangeMeta d.not-PrintString d.not-PrintForm d.not-Halt in
-    let none = no-failure-made c.in-Some.function _ w c.value_of.new.work c.value_of.result (c.value_of.ensures.makes plain (argument (arguments_at w.neutral c.args.place) 0)) in
+    let none = no-failure-made c.in-Some.function _ w c.value_of.new.work c.value_of.result (c.value_of.ensures.makes plain (argument (arguments_at w.neutral c.args.call.place) 0)) in
     omega (arith, none.0)
 
 pub returns-in_default-function-clause-output_failed : goal.returns-in_default-function-clause-output_failed
@@ -56,7 +56,7 @@ returns-in_default-function-clause-output_failed g c =
     let w = c.args.work.now in
     let d = c.in_default-function in
     let plain = plain-rest c.in-Some.function d.not-ReadString d.not-ReadCharacter d.not-ChangeMeta d.not-PrintString d.not-PrintForm d.not-Halt in
-    let none = no-failure-made c.in-Some.function _ w c.value_of.new.work c.value_of.result (c.value_of.ensures.makes plain (argument (arguments_at w.neutral c.args.place) 0)) in
+    let none = no-failure-made c.in-Some.function _ w c.value_of.new.work c.value_of.result (c.value_of.ensures.makes plain (argument (arguments_at w.neutral c.args.call.place) 0)) in
     omega (arith, none.1.0)
 
 pub returns-in_default-function-clause-unspent : goal.returns-in_default-function-clause-unspent
@@ -64,7 +64,7 @@ returns-in_default-function-clause-unspent g c =
     let w = c.args.work.now in
     let d = c.in_default-function in
     let plain = plain-rest c.in-Some.function d.not-ReadString d.not-ReadCharacter d.not-ChangeMeta d.not-PrintString d.not-PrintForm d.not-Halt in
-    let none = no-failure-made c.in-Some.function _ w c.value_of.new.work c.value_of.result (c.value_of.ensures.makes plain (argument (arguments_at w.neutral c.args.place) 0)) in
+    let none = no-failure-made c.in-Some.function _ w c.value_of.new.work c.value_of.result (c.value_of.ensures.makes plain (argument (arguments_at w.neutral c.args.call.place) 0)) in
     none.1.1
 
 pub returns-in_default-function-clause-stay : goal.returns-in_default-function-clause-stay
@@ -72,5 +72,5 @@ returns-in_default-function-clause-stay g c = λ some.
     let w = c.args.work.now in
     let d = c.in_default-function in
     let plain = plain-rest c.in-Some.function d.not-ReadString d.not-ReadCharacter d.not-ChangeMeta d.not-PrintString d.not-PrintForm d.not-Halt in
-    let full = only-full c.in-Some.function _ w c.value_of.new.work c.value_of.result (c.value_of.ensures.makes plain (argument (arguments_at w.neutral c.args.place) 0)) some in
+    let full = only-full c.in-Some.function _ w c.value_of.new.work c.value_of.result (c.value_of.ensures.makes plain (argument (arguments_at w.neutral c.args.call.place) 0)) some in
     (c.value_of.ensures.unmade full, refl)

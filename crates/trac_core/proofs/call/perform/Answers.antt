@@ -8,5 +8,5 @@ pub returns-clause-stay : goal.returns-clause-stay
 returns-clause-stay g c = λ some.
     let ends : fate_after c.answer-made.result ≢ None = λ e. some (c.settle.ensures.fate ∙ e) in
     let stays = c.answer-made.ensures.stay ends in
-    let same = c.settle.ensures.settled ∙ unsettled c.answer-made.result c.args.place c.neutral_len-end.result c.answer-made.new.work ends in
+    let same = c.settle.ensures.settled ∙ unsettled c.answer-made.result c.args.call.place c.neutral_len-end.result c.answer-made.new.work ends in
     (ap (λ (w : Contents). w.forms) same ∙ stays.0, stays.1)

@@ -1,7 +1,9 @@
 use Rattle.std.proofs.Common.{◌≡◌, ◌+◌, length, take, drop, sym, ap, ◌∙◌, arith}
+use Rattle.std.proofs.lemmas.List.Elements.{All-take}
 use Rattle.std.proofs.lemmas.List.{length-map, length-drop}
-use Rattle.trac_space.specs.Texts.{text_of_cells, character_of}
+use Rattle.trac_space.specs.Texts.{text_of_cells, character_of, IsByte}
 use Rattle.trac_core.specs.StepsInRow.{IsOrdinary}
+use Rattle.trac_core.proofs.PlainEnds.{bytes-plain, plain-appended}
 use Rattle.trac_core.proofs.Scanning.{some-active}
 use Rattle.trac_core.proofs.StepsInRow.{characters-pass, All-after}
 use Rattle.trac_core.proofs.scan.add_characters.Goals as goal
@@ -28,3 +30,9 @@ returns-clause-passes c =
       few = omega arith;
       shorter = omega arith;
     })
+
+pub returns-clause-plain : goal.returns-clause-plain
+returns-clause-plain c = λ place plain.
+    let old = c.args.work.now in
+    rw c.active_to_neutral.ensures.moved
+    (plain-appended old.neutral (take (1 + c.ordinary_characters-count.result) old.active) (bytes-plain _ (All-take IsByte _ old.active c.requires.sound.active)) place plain)

@@ -1,3 +1,5 @@
+use Rattle.std.proofs.Common.{refl, sym}
+use Rattle.trac_core.proofs.Scanning.{none-active}
 use Rattle.trac_core.proofs.StepsInRow.{one-step}
 use Rattle.trac_core.proofs.scan.pass.Goals as goal
 
@@ -9,3 +11,6 @@ returns-in-Some-eq44-clause-comes c = one-step _ _ c.args.most c.begin_argument.
 
 pub returns-in-Some-eq35-clause-comes : goal.returns-in-Some-eq35-clause-comes
 returns-in-Some-eq35-clause-comes c = one-step _ _ c.args.most c.number_sign.ensures.scans c.number_sign.ensures.no_larger c.number_sign.ensures.shorter c.requires.some
+
+pub returns-in-None-clause-comes : goal.returns-in-None-clause-comes
+returns-in-None-clause-comes c = (refl, none-active c.args.work.now.active (sym c.in-None.ensures))

@@ -5,6 +5,7 @@ use Rattle.trac_space.specs.Cells.{seen}
 use Rattle.trac_space.specs.Texts.{IsByte}
 use Rattle.trac_forms.specs.Contents.{Contents}
 use Rattle.trac_functions.proofs.ArgumentLemmas.{text_of_cells-seen, bytes-seen}
+use Rattle.trac_core.proofs.PlainEnds.{bytes-plain, plain-appended}
 use Rattle.trac_core.proofs.Scanning.{scans-protected, scans-unmatched, text-after}
 use Rattle.trac_core.proofs.scan.protect.Goals as goal
 
@@ -31,3 +32,13 @@ returns-in-None-clause-scans c =
     let part = c.active_part.result.now in
     let text = sym (text_of_cells-seen part) ∙ text-after old.active (map seen part) (c.active_part.ensures ∙ ap (λ n. slice_range old.active 1 n) c.active_len.ensures.value) in
     rw c.clear_active.ensures.empty (scans-unmatched old c.requires.first (subst (λ t. protected t ≡ None) text c.in-None.ensures))
+
+pub returns-in-Some-clause-plain : goal.returns-in-Some-clause-plain
+returns-in-Some-clause-plain c = λ place plain.
+    let old = c.args.work.now in
+    let text = take c.in-Some.len (drop 1 old.active) in
+    let moved = ap (λ (w : Contents). w.neutral) c.drop_active-in-Some.ensures.rest
+    ∙ ap (λ (w : Contents). w.neutral) c.active_to_neutral.ensures.moved
+    ∙ ap (λ (w : Contents). w.neutral ++ take c.in-Some.len w.active) c.drop_active.ensures.rest in
+    rw moved
+    (plain-appended old.neutral text (bytes-plain text (All-take IsByte c.in-Some.len (drop 1 old.active) (All-drop IsByte 1 old.active c.requires.sound.active))) place plain)

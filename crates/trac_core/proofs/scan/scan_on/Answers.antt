@@ -11,6 +11,7 @@ loop-count-preserved c =
     record {
       passes = λ meta. passes-then c.loop-count.count c.in-Ok.more (memory_of meta c.args.work.now) (memory_of meta c.loop-count.work) (memory_of meta c.pass.new.work) (i.passes meta) (some.passes meta);
       few = omega (arith, i.few, some.few);
+      plain = h.plain;
       none = λ e. absurd (omega (arith, some.some));
       room = h.room ∙ i.room;
       sound = h.sound;

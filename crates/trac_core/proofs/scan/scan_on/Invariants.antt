@@ -1,7 +1,7 @@
 use Rattle.std.proofs.Common.{◌≡◌, ℕ, ◌≤◌, length}
 use Rattle.trac_forms.specs.Contents.{IsSound}
 use Rattle.trac_functions.specs.Flat.{memory_of}
-use Rattle.trac_core.specs.StepsInRow.{PassesTimes}
+use Rattle.trac_core.specs.StepsInRow.{PassesTimes, IsPlainFrom}
 use Rattle.trac_core.proofs.scan.scan_on.Given as goal
 
 -- the steps so far
@@ -10,6 +10,7 @@ invariant-loop-count l =
     record {
       passes : (meta : ℕ) → PassesTimes l.count (memory_of meta l.fn.work) (memory_of meta l.work);
       few : l.count ≤ l.most;
+      plain : IsPlainFrom l.plain l.work.neutral;
       none : l.count ≡ 0 → l.work ≡ l.fn.work;
       room : l.work.room ≡ l.fn.work.room;
       sound : IsSound l.work;

@@ -1,11 +1,14 @@
-use Rattle.std.proofs.Common.{◌≡◌, take, length}
-use Rattle.trac_space.specs.Texts.{text_of_cells}
+use Rattle.std.proofs.Common.{◌≤◌, ◌-◌, ◌+◌, length}
+use Rattle.trac_devices.specs.Characters.{AreWritten}
 use Rattle.trac_devices.proofs.characters.write_characters.Given as goal
 
 -- the characters so far are written
 abbrev pub invariant-loop-i : goal.invariant-loop-i
 invariant-loop-i l =
     record {
-      written : take l.i l.bytes ≡ text_of_cells (take l.i l.text);
-      long : length l.bytes ≡ length l.text;
+      within : l.i ≤ length l.text;
+      written : AreWritten l.i l.text l.bytes;
     }
+
+abbrev pub decreases-loop-i : goal.decreases-loop-i
+decreases-loop-i l = length l.text + 1 - l.i

@@ -1,4 +1,4 @@
-use Rattle.std.proofs.Common.{◌≡◌, None, ◌∙◌, arith, sym, ap, subst, refl, inl}
+use Rattle.std.proofs.Common.{◌∙◌, arith, sym, ap, subst, refl, inl}
 use Rattle.trac_functions.proofs.FlatLemmas.{size-used}
 use Rattle.trac_core.specs.Machine.{MachineState, moment}
 use Rattle.trac_core.proofs.Moments.{Along, along-none, along-more, along-passes}

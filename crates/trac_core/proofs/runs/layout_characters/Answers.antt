@@ -4,7 +4,7 @@ use Rattle.std.proofs.lemmas.List.Elements.{All-push}
 use Rattle.trac_space.specs.declared.cell.Cell.TheVariants.{Byte}
 use Rattle.trac_space.specs.Texts.{text_of_cells, character_of}
 use Rattle.trac_core.specs.StepsInRow.{IsLayout}
-use Rattle.trac_core.proofs.scan.layout_characters.Goals as goal
+use Rattle.trac_core.proofs.runs.layout_characters.Goals as goal
 
 pub loop-i-preserved : goal.loop-i-preserved
 loop-i-preserved c =

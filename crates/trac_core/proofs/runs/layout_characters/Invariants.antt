@@ -1,7 +1,7 @@
 use Rattle.std.proofs.Common.{take, All}
 use Rattle.trac_space.specs.Texts.{text_of_cells}
 use Rattle.trac_core.specs.StepsInRow.{IsLayout}
-use Rattle.trac_core.proofs.scan.layout_characters.Given as goal
+use Rattle.trac_core.proofs.runs.layout_characters.Given as goal
 
 -- the characters so far are layout
 abbrev pub invariant-loop-i : goal.invariant-loop-i

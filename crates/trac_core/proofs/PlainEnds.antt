@@ -1,0 +1,51 @@
+-- The end of the neutral string in which no comma mark stands.
+use Rattle.std.proofs.Common.{◌≡◌, ℕ, ◌-◌, ◌+◌, false, List, [], ◌∷◌, ◌++◌, length, drop, slice_range, All, refl, sym, subst, arith, ⊎_elim}
+use Rattle.std.proofs.lemmas.Bool.{cases_lt}
+use Rattle.std.proofs.lemmas.List.{drop-append-le, length-drop, take_all}
+use Rattle.std.proofs.lemmas.List.Elements.{All-append, All-cons, All-drop}
+use Rattle.std.proofs.Math.Seq.{drop-append-add, drop-length}
+use Rattle.trac_space.specs.declared.cell.Cell.{Cell}
+use Rattle.trac_space.specs.declared.cell.Cell.TheVariants.{Byte, Call, Comma, Gap, Head}
+use Rattle.trac_space.specs.Cells.{is_comma}
+use Rattle.trac_space.specs.Texts.{IsByte}
+use Rattle.trac_functions.specs.Calls.{NoComma}
+use Rattle.trac_core.specs.StepsInRow.{IsPlainFrom}
+
+no-comma : (cell : Cell) → IsByte cell → is_comma cell ≡ false
+no-comma (Byte c) h = refl
+no-comma (Call mode k) h = absurd h
+no-comma Comma h = absurd h
+no-comma (Gap k) h = absurd h
+no-comma (Head k) h = absurd h
+
+-- characters are no comma marks
+pub bytes-plain : (cells : List Cell) → All IsByte cells → NoComma cells
+bytes-plain cells h = λ k d within. no-comma _ (h k d within)
+
+-- cells that are no comma marks, added at the end
+pub plain-appended : (neutral more : List Cell) → NoComma more → (place : ℕ) → IsPlainFrom place neutral → IsPlainFrom place (neutral ++ more)
+plain-appended neutral more none place plain =
+    ⊎_elim
+    (λ inside. subst NoComma (sym (drop-append-le place neutral more (omega arith)))
+    (All-append (λ cell. is_comma cell ≡ false) (drop place neutral) more plain none))
+    (λ past.
+    let n = place - length neutral in
+    let e : length neutral + n ≡ place = omega arith in
+    subst (λ k. IsPlainFrom k (neutral ++ more)) e
+    (subst NoComma (sym (drop-append-add neutral more n)) (All-drop (λ cell. is_comma cell ≡ false) n more none)))
+    (cases_lt place (length neutral))
+
+-- no cell stands behind the last
+pub plain-end : (neutral : List Cell) (place : ℕ) → place ≡ length neutral → IsPlainFrom place neutral
+plain-end neutral place e = rw (e, drop-length neutral) (λ k d within. absurd (omega arith))
+
+-- up to the end of the neutral string
+pub plain-range : (neutral : List Cell) (place end : ℕ) → end ≡ length neutral → IsPlainFrom place neutral → NoComma (slice_range neutral place end)
+plain-range neutral place end e plain =
+    let long = length-drop place neutral in
+    subst NoComma (sym (take_all (end - place) (drop place neutral) (omega arith))) plain
+
+-- one cell that is no comma mark, added at the end
+pub plain-one : (neutral : List Cell) (cell : Cell) → is_comma cell ≡ false → (place : ℕ) → IsPlainFrom place neutral → IsPlainFrom place (neutral ++ cell ∷ [])
+plain-one neutral cell other =
+    plain-appended neutral (cell ∷ []) (All-cons (λ cell. is_comma cell ≡ false) cell [] other (λ k d within. absurd (omega arith)))

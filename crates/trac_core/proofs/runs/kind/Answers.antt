@@ -1,0 +1,16 @@
+use Rattle.std.proofs.Common.{◌≡◌, ◌∙◌, arith, subst, sym, ◌≤◌}
+use Rattle.std.proofs.lemmas.List.FromFn.{get_or-map-range_with_len}
+use Rattle.trac_space.specs.Texts.{character_of}
+use Rattle.trac_core.specs.StepsInRow.{kind_of}
+use Rattle.trac_core.proofs.OrdinaryBlocks.{kind-small}
+use Rattle.trac_core.proofs.runs.kind.Goals as goal
+
+pub returns-clause-kind : goal.returns-clause-kind
+returns-clause-kind c =
+    let same : c.from.result ≡ character_of c.args.cell.now = c.from.ensures ∙ c.byte_in.ensures in
+    get_or-map-range_with_len kind_of 0 256 c.from.result (character_of c.args.cell.now) 0 (omega (arith, c.from.ensures)) (omega (arith, same))
+
+pub returns-clause-small : goal.returns-clause-small
+returns-clause-small c =
+    let same : c.from.result ≡ character_of c.args.cell.now = c.from.ensures ∙ c.byte_in.ensures in
+    subst (λ n. n ≤ 16) (sym (get_or-map-range_with_len kind_of 0 256 c.from.result (character_of c.args.cell.now) 0 (omega (arith, c.from.ensures)) (omega (arith, same)))) (kind-small (character_of c.args.cell.now))

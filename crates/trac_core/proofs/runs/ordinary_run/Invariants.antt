@@ -1,0 +1,14 @@
+use Rattle.std.proofs.Common.{◌+◌, ◌-◌, ◌≤◌, length, take, All}
+use Rattle.trac_space.specs.Texts.{text_of_cells}
+use Rattle.trac_core.specs.StepsInRow.{IsOrdinary}
+use Rattle.trac_core.proofs.runs.ordinary_run.Given as goal
+
+-- the characters so far have no rule of their own
+abbrev pub invariant-loop-i : goal.invariant-loop-i
+invariant-loop-i l = record {
+  within : l.i ≤ length l.cells;
+  ordinary : All IsOrdinary (take l.i (text_of_cells l.cells));
+}
+
+abbrev pub decreases-loop-i : goal.decreases-loop-i
+decreases-loop-i l = length l.cells + 1 - l.i
