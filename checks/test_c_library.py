@@ -46,10 +46,10 @@ def build_library():
     subprocess.run([os.path.join(TOP, 'release'), 'library'], check=True)
 
 
-def compiled(folder, compiler, flags, source=DRIVER):
+def compiled(folder, compiler, flags, source=DRIVER, headers=DIST, engine=LIBRARY):
     program = os.path.join(folder, f'{compiler}{len(os.listdir(folder))}')
-    subprocess.run([compiler, '-I', DIST, '-o', program, *flags, source, '-x', 'none', LIBRARY],
-                   check=True)
+    subprocess.run([compiler, '-I', headers, '-I', DIST, '-o', program, *flags, source,
+                    '-x', 'none', engine], check=True)
     return program
 
 
@@ -89,19 +89,13 @@ def view(program, row, most):
 def traced(row):
     """The steps of a row's trace: the rule, the size before it, and both strings after it."""
     lines, _ = trace(row.script, '--cells', str(row.cells), '--steps', str(row.allowed))
-    return [(line[8:21].rstrip(), int(line[21:27]), line[35:]) for line in lines[1:-1]
-            if 'prints: ' not in line[:16]]
+    return [(line[8:21].rstrip(), int(line[21:27]), line[35:]) for line in lines
+            if re.match(r' *\d+  [a-z]', line)]
 
 
-class Library(unittest.TestCase):
-    @classmethod
-    def setUpClass(cls):
-        build_library()
-        cls.folder = tempfile.mkdtemp()
-        cls.addClassCleanup(shutil.rmtree, cls.folder)
-        cls.programs = [compiled(cls.folder, 'gcc', STRICT), compiled(cls.folder, 'clang', STRICT),
-                        compiled(cls.folder, 'gcc', SANITIZED),
-                        compiled(cls.folder, 'g++', AS_CPP)]
+class Engine:
+    """What holds of an engine behind the names of trac.h, where `programs` are the driver with it: by
+    two compilers, and one by which most is run, sanitized where that sees more."""
 
     def test_each_row_at_once(self):
         for row in rows():
@@ -119,7 +113,7 @@ class Library(unittest.TestCase):
     def test_each_row_in_turns(self):
         for piece in PIECES:
             for most in (1, 1000):
-                # the sanitized program at one size of a turn, which is enough for it
+                # the third program at one size of a turn, which is enough for it
                 program = self.programs[2 if most == 1000 else 0]
                 for row in rows():
                     with self.subTest(row=row, piece=piece, most=most):
@@ -222,6 +216,17 @@ class Library(unittest.TestCase):
             self.assertEqual(call(program, hello, 16777217, 1000, 9), (b'', REFUSED, 0, 0, 0, 0, 0))
         self.assertEqual(call(self.programs[0], hello, 16777216, 1000, 9)[:2],
                          (b'hello', INPUT_ENDED))
+
+
+class Library(Engine, unittest.TestCase):
+    @classmethod
+    def setUpClass(cls):
+        build_library()
+        cls.folder = tempfile.mkdtemp()
+        cls.addClassCleanup(shutil.rmtree, cls.folder)
+        cls.programs = [compiled(cls.folder, 'gcc', STRICT), compiled(cls.folder, 'clang', STRICT),
+                        compiled(cls.folder, 'gcc', SANITIZED),
+                        compiled(cls.folder, 'g++', AS_CPP)]
 
     def test_pointers_that_are_refused(self):
         done = subprocess.run([self.programs[2], 'pointers'], capture_output=True, timeout=60)

@@ -7,11 +7,16 @@ import subprocess
 import tempfile
 import unittest
 
+import test_c_library
 from rows import rows
 from trac import PROGRAM, TOP, run
+from test_c_library import SANITIZED, STRICT, compiled
 from test_program import REFUSED as WORDS_REFUSED
 
 DIST = os.path.join(TOP, 'dist')
+PLAIN = os.path.join(TOP, 'checks', 'plain')
+ENGINE = os.path.join(DIST, 'trac_engine.c')
+KINDS = (('gcc', STRICT), ('clang', STRICT), ('gcc', SANITIZED))
 FATES = {'halted': 0, 'input ended': 0, 'workspace': 1, 'steps': 3}
 
 
@@ -98,6 +103,27 @@ class Module(unittest.TestCase):
 
     def test_text_and_version(self):
         self.assertEqual((self.answers['text'], self.answers['version']), ('été', version()))
+
+
+class PlainEngine(test_c_library.Engine, unittest.TestCase):
+    @classmethod
+    def setUpClass(cls):
+        cls.folder = tempfile.mkdtemp()
+        cls.addClassCleanup(shutil.rmtree, cls.folder)
+        engines = [os.path.join(cls.folder, f'engine{at}.o') for at in range(len(KINDS))]
+        makers = [subprocess.Popen([compiler, *flags, '-c', '-o', engine, ENGINE])
+                  for (compiler, flags), engine in zip(KINDS, engines)]
+        if any([maker.wait() for maker in makers]):
+            raise AssertionError('the engine of plain C is not built')
+        built = [compiled(cls.folder, compiler, flags, headers=PLAIN, engine=engine)
+                 for (compiler, flags), engine in zip(KINDS[:2], engines)]
+        cls.programs = [*built, built[0]]
+        cls.rooms = [compiled(cls.folder, compiler, flags, os.path.join(PLAIN, 'rooms.c'), PLAIN,
+                              engine) for (compiler, flags), engine in zip(KINDS, engines)]
+
+    def test_its_rooms(self):
+        for program in self.rooms:
+            subprocess.run([program], check=True)
 
 
 class Plain(unittest.TestCase):

@@ -1,4 +1,6 @@
+mod Again
 mod Coding
+mod Further
 mod Laying
 mod Limits
 mod Listing

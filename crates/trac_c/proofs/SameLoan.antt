@@ -38,7 +38,7 @@ module _ (m m' : MachineState) (s s' : Stream) (x y : ℕ) (xs ys : Text) where
   pub loan_stays :
       (ended : Bool) (part : Turn) →
       TurnsTo ended (moment m s (x ∷ xs)) part (moment m' s' (y ∷ ys)) → y ≡ x
-  loan_stays ended Went t = goes t.1
+  loan_stays ended Went t = goes t.1.0
   loan_stays ended Waits t = same (ap (λ moment. moment.written) t.1)
   loan_stays ended Full t = same (ap (λ moment. moment.written) t.1)
   loan_stays ended (Over fate) t = ends fate t.1

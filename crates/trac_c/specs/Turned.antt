@@ -1,6 +1,7 @@
 -- What C is told of a machine that it keeps.
-use Rattle.std.specs.Prelude.{◌≡◌, ℕ, zero, suc, ◌+◌, ◌-◌, ◌<◌, ◌≤◌, [], ◌∷◌, length, take}
-use Rattle.std.specs.Prelude.{Bool, true, false, not, ◌&&◌, nat_le, nat_eq, Some, None, IsSome}
+use Rattle.std.specs.Prelude.{◌≡◌, ℕ, zero, suc, ◌+◌, ◌-◌, ◌<◌, ◌≤◌, [], ◌∷◌, ◌++◌, length, take}
+use Rattle.std.specs.Prelude.{Bool, true, false, not, ◌&&◌, nat_le, nat_eq, Some, None}
+use Rattle.trac_language.specs.declared.fate.Fate.{Fate}
 use Rattle.trac_language.specs.Text.{Text}
 use Rattle.trac_language.specs.State.{Input, size}
 use Rattle.trac_devices.specs.Devices.{Stream, has_byte}
@@ -32,7 +33,8 @@ waits_for_input ended m bytes = not ended && is_short (awaited (next_function m)
 -- since it waits for input; or a step with which the run is over
 abbrev pub TurnsTo : Bool → Moment → Turn → Moment → Type 0
 TurnsTo ended old Went new =
-    (waits_for_input ended old.machine old.source.bytes ≡ false) × GoesOn old new
+    (waits_for_input ended old.machine old.source.bytes ≡ false)
+    × (GoesOn old new × (new.machine.fate ≡ None))
 TurnsTo ended old Waits new =
     (waits_for_input ended old.machine old.source.bytes ≡ true) × (new ≡ old)
 TurnsTo ended old Full new =
@@ -45,6 +47,16 @@ abbrev pub Goes : Bool → ℕ → Moment → Moment → Type 0
 Goes ended zero old new = new ≡ old
 Goes ended (suc n) old new =
     (middle : Moment) × (Goes ended n old middle × TurnsTo ended middle Went new)
+
+-- the moment with more bytes behind those of its source
+abbrev pub followed_by : Text → Moment → Moment
+followed_by more m = record m { source = record m.source { bytes = m.source.bytes ++ more } }
+
+-- so many steps lead from one moment to another with any more bytes behind those of the source too,
+-- which stay behind those that are left; whether the input then ends or not
+abbrev pub GoesWithMore : ℕ → Moment → Moment → Type 0
+GoesWithMore n old new =
+    (more : Text) (ended : Bool) → Goes ended n (followed_by more old) (followed_by more new)
 
 -- what a turn ends with: its steps are used up; or what is no step that was done
 abbrev pub EndsTurn : Bool → (most done : ℕ) → Moment → Turn → Moment → Type 0
@@ -90,7 +102,8 @@ wanted_by Waits printed = 0
 wanted_by (Over fate) printed = 0
 
 -- in numbers, a turn over this input, whose output stands at the front of a buffer. What was
--- written before the turn is any list of one number: no step looks at it
+-- written before the turn is any list of one number: no step looks at it. Where the input goes on
+-- behind these bytes, the steps that were done are those over all of it
 pub record TellsTurn (ended : Bool) (most : ℕ) (input buffer : Text) (old new : MachineState)
     (told : TracReport) (last : Turn) (earlier : ℕ) (left : Stream) : Type 0 where
   pub turned :
@@ -98,6 +111,10 @@ pub record TellsTurn (ended : Bool) (most : ℕ) (input buffer : Text) (old new 
       (moment old (record { bytes = input; ended = false }) (earlier ∷ []))
       last
       (moment new left (earlier ∷ take told.written buffer))
+  pub whole :
+      ended ≡ false →
+      GoesWithMore turned.0 (moment old (record { bytes = input; ended = false }) (earlier ∷ []))
+      turned.1.0
   pub fate : told.fate ≡ turn_number last
   pub steps : told.steps ≡ new.steps
   pub peak : told.peak ≡ new.peak
@@ -116,8 +133,27 @@ TurnOf ended most input buffer old new told =
 abbrev pub is_ended : ℕ → Bool
 is_ended flag = not (nat_eq flag 0)
 
--- a turn of a machine whose run is not over; one whose run is over stays as it is
+-- what a turn ends with that may make so many steps, where the run is over with this fate
+abbrev pub last_over : (most : ℕ) → Fate → Turn
+last_over zero fate = Went
+last_over (suc n) fate = Over fate
+
+-- the report of a turn of a machine whose run is over: nothing is read, written or counted
+abbrev pub told_again : (most : ℕ) → Fate → MachineState → TracReport
+told_again most fate m =
+    record {
+      fate = turn_number (last_over most fate);
+      peak = m.peak;
+      steps = m.steps;
+      written = 0;
+      consumed = 0;
+      wanted = 0;
+    }
+
+-- a turn of a machine whose run is not over; one whose run is over
+-- stays as it is, and its fate is told again
 pub record TurnedOrOver (ended : Bool) (most : ℕ) (input buffer : Text) (old : MachineState)
     (told : TracReport) (new : MachineState) : Type 0 where
   pub turn : old.fate ≡ None → TurnOf ended most input buffer old new told
-  pub over : IsSome old.fate → new ≡ old
+  pub over :
+      (fate : Fate) → old.fate ≡ Some fate → (new ≡ old) × (told ≡ told_again most fate old)

@@ -1,9 +1,9 @@
 //! A machine that C keeps, and which makes some steps a turn.
-ghost use Rattle.std.specs.Prelude.{◌≡◌, ◌≢◌, ◌+◌, ◌^◌, ◌<◌, None, IsSome, length};
+ghost use Rattle.std.specs.Prelude.{◌≡◌, ◌+◌, ◌^◌, ◌<◌, None, Some, length};
 ghost use Rattle.trac_core.specs.Session.{awaited, next_function, next_printed};
 ghost use Rattle.trac_language.specs.State.{Input};
 ghost use Rattle.trac_c.specs.Turned.{TurnsTo, LacksRoom, is_short, is_ended, stands, SomeTurned};
-ghost use Rattle.trac_c.specs.Turned.{TurnedOrOver, turn_number, wanted_by};
+ghost use Rattle.trac_c.specs.Turned.{TurnedOrOver, turn_number, last_over, wanted_by};
 
 use crate::lent_sink::LentSink;
 use crate::report::{TracReport, number};
@@ -87,7 +87,9 @@ fn go_on(
         (stands machine.new source.new sink.new) }
     ensures same_buffer { sink.new.buffer.ghost_name ≡ sink.old.buffer.ghost_name }
     ensures full { result ≡ Turn.Full → LacksRoom machine.new sink.new }
-    ensures over { IsSome machine.old.fate → machine.new ≡ machine.old }
+    ensures over { (fate : Fate) → machine.old.fate ≡ Some fate →
+        (result ≡ last_over most fate) × (machine.new ≡ machine.old)
+        × (source.new ≡ source.old) × (sink.new.len ≡ sink.old.len) }
 {
     let mut done = 0;
     while done < most {
@@ -112,7 +114,9 @@ fn step_on(
     ensures turns { machine.old.fate ≡ None →
         TurnsTo ended (stands machine.old source.old sink.old) result
         (stands machine.new source.new sink.new) }
-    ensures over { IsSome machine.old.fate → (result ≢ Turn.Went) × (machine.new ≡ machine.old) }
+    ensures over { (fate : Fate) → machine.old.fate ≡ Some fate →
+        (result ≡ Turn.Over fate) × (machine.new ≡ machine.old)
+        × (source.new ≡ source.old) × (sink.new.len ≡ sink.old.len) }
     ensures same_buffer { sink.new.buffer.ghost_name ≡ sink.old.buffer.ghost_name }
     ensures full { result ≡ Turn.Full → LacksRoom machine.new sink.new }
     ensures went { result ≡ Turn.Went →

@@ -14,3 +14,4 @@ pub mod Rules
 pub mod Runs
 pub mod Stepping
 pub mod FormsKept
+pub mod FurtherInput

@@ -12,7 +12,7 @@ use Rattle.trac_language.specs.State.{OpenCall, Memory, State, arguments, size, 
 use Rattle.trac_language.specs.Meaning.{World, Meaning, Gives, Ends, read_string, meaning_of, meaning, built}
 use Rattle.trac_language.specs.Rule.{Rule, LoadIdling, DeleteLayout, AddProtected, ClearActive, BeginArgument, BeginCall, EndCall, AddCharacter, rule}
 use Rattle.trac_language.specs.Step.{Outcome, Next, Over, idling, function_of, world_of, deliver, perform, end_call, with_active, follow, end_need, need_by, step, need}
-use Rattle.trac_laws.specs.LastRead.{reads_last, end_reads_last, reads_last_by, reads_to_end}
+use Rattle.trac_laws.specs.LastRead.{is_read_string, reads_last, end_reads_last, reads_last_by, reads_to_end}
 use Rattle.trac_laws.proofs.UnreadInput.{with_source, reads, elsewhere, built_elsewhere}
 
 abbrev pub standing : Memory → Text → Bool → Text → State
@@ -65,37 +65,37 @@ position_is p [] c v none e = ap (λ b. cond (not b) (1 + position_or_len p v) 0
 position_is p (x ∷ u) c v none e = let rest = position_is p u c v none.1 e in ap (λ b. cond (not b) (1 + position_or_len p (u ++ c ∷ v)) 0) none.0 ∙ omega arith
 
 -- one of three kinds of functions
-data Kind (f : Function) : Type 0 where
+pub data Kind (f : Function) : Type 0 where
   IsString : f ≡ ReadString → Kind f
   IsCharacter : f ≡ ReadCharacter → Kind f
-  IsOther : reads f ≡ false → Kind f
+  IsOther : reads f ≡ false → is_read_string f ≡ false → Kind f
 
-kind : (f : Function) → Kind f
+pub kind : (f : Function) → Kind f
 kind ReadString = IsString refl
 kind ReadCharacter = IsCharacter refl
-kind ChangeMeta = IsOther refl
-kind PrintString = IsOther refl
-kind Halt = IsOther refl
-kind DefineString = IsOther refl
-kind SegmentString = IsOther refl
-kind DeleteDefinition = IsOther refl
-kind DeleteAll = IsOther refl
-kind ListNames = IsOther refl
-kind PrintForm = IsOther refl
-kind CallForm = IsOther refl
-kind CallSegment = IsOther refl
-kind CallCharacter = IsOther refl
-kind CallNumber = IsOther refl
-kind InitialPart = IsOther refl
-kind CallRestore = IsOther refl
-kind Equal = IsOther refl
-kind Greater = IsOther refl
-kind (Arithmetic operation) = IsOther refl
-kind Union = IsOther refl
-kind Intersection = IsOther refl
-kind Complement = IsOther refl
-kind Shift = IsOther refl
-kind Rotate = IsOther refl
+kind ChangeMeta = IsOther refl refl
+kind PrintString = IsOther refl refl
+kind Halt = IsOther refl refl
+kind DefineString = IsOther refl refl
+kind SegmentString = IsOther refl refl
+kind DeleteDefinition = IsOther refl refl
+kind DeleteAll = IsOther refl refl
+kind ListNames = IsOther refl refl
+kind PrintForm = IsOther refl refl
+kind CallForm = IsOther refl refl
+kind CallSegment = IsOther refl refl
+kind CallCharacter = IsOther refl refl
+kind CallNumber = IsOther refl refl
+kind InitialPart = IsOther refl refl
+kind CallRestore = IsOther refl refl
+kind Equal = IsOther refl refl
+kind Greater = IsOther refl refl
+kind (Arithmetic operation) = IsOther refl refl
+kind Union = IsOther refl refl
+kind Intersection = IsOther refl refl
+kind Complement = IsOther refl refl
+kind Shift = IsOther refl refl
+kind Rotate = IsOther refl refl
 
 -- ---- a call that is performed
 
@@ -187,7 +187,7 @@ module _ (mode : Mode) (args : List Text) (m : Memory) (out : Text) where
       go : Kind f → Same (Some f) g r m' out'
       go (IsString e) = subst (λ f. Same (Some f) g r m' out') (sym e) (string_same g r m' out' (meets (list_any is_meta (g ++ r)) (subst (λ f. reads_last (Some f) (world (g ++ r) false) ≡ false) e more)) (sym (ap (λ f. done (Some f) (g ++ r) false) e) ∙ h))
       go (IsCharacter e) = subst (λ f. Same (Some f) g r m' out') (sym e) (character_same g r m' out' (sym (ap (λ f. done (Some f) (g ++ r) false) e) ∙ h))
-      go (IsOther e) = other_same f e g r m' out' h
+      go (IsOther e other) = other_same f e g r m' out' h
 
 -- ---- a step
 

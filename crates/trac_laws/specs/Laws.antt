@@ -1,16 +1,17 @@
 -- Laws of whole runs.
-use Rattle.std.specs.Prelude.{◌≡◌, ◌≢◌, ◌↔◌, ℕ, ◌+◌, ◌<◌, ◌≤◌, false, [], ◌∷◌}
+use Rattle.std.specs.Prelude.{◌≡◌, ◌≢◌, ◌↔◌, ℕ, ◌+◌, ◌<◌, ◌≤◌, Bool, false, [], ◌∷◌}
 use Rattle.std.specs.Prelude.{◌++◌, length, codes, All, Some}
 use Rattle.trac_language.specs.declared.fate.Fate.TheVariants.{InputEnded, Workspace, Steps}
 use Rattle.trac_language.specs.Text.{Text}
 use Rattle.trac_language.specs.Store.{IsStore}
 use Rattle.trac_language.specs.Protected.{protected}
 use Rattle.trac_language.specs.State.{State, Input, first}
-use Rattle.trac_language.specs.Step.{Outcome, step, Next}
+use Rattle.trac_language.specs.Step.{Outcome, step, need, Next}
 use Rattle.trac_language.specs.Rule.{Rule, rule}
 use Rattle.trac_language.specs.Run.{Run, run}
 use Rattle.trac_laws.specs.Balance.{IsBalanced, IsProtected}
 use Rattle.trac_laws.specs.Fitting.{Fits}
+use Rattle.trac_laws.specs.LastRead.{reads_to_end}
 use Rattle.trac_laws.specs.Stepping.{Leads}
 
 -- the second text begins with the first
@@ -100,6 +101,22 @@ KeepsForms =
     IsStore before.memory.forms →
     step before ≡ Next after →
     IsStore after.memory.forms
+
+-- the state with more behind its input, and with this end of it
+abbrev pub with_more : Text → Bool → State → State
+with_more more fails s =
+    record s { input = record { text = s.input.text ++ more; fails = fails } }
+
+-- a step that doesn't read to the end of its input does the same, and needs as much, where more
+-- stands behind that input and however that ends: it leaves it there
+abbrev pub ReadsNoFurther : Type 0
+ReadsNoFurther =
+    (before after : State) (more : Text) (fails : Bool) →
+    before.input.fails ≡ false →
+    reads_to_end before ≡ false →
+    step before ≡ Next after →
+    (step (with_more more fails before) ≡ Next (with_more more fails after))
+    × (need (with_more more fails before) ≡ need before)
 
 -- the rule of a step is the one that fits, and no other does
 abbrev pub RuleFits : Type 0

@@ -4,7 +4,7 @@
 
 ghost use Rattle.trac_laws.specs.Laws.{MoreRoom, MoreSteps, FewerSteps, LeastRoom, LessRoom};
 ghost use Rattle.trac_laws.specs.Laws.{Quoted, OneProtected, FindsProtected, KeepsForms, RuleFits};
-ghost use Rattle.trac_laws.specs.Laws.{StepFits};
+ghost use Rattle.trac_laws.specs.Laws.{ReadsNoFurther, StepFits};
 
 /// A run whose fate isn't `Workspace` is the same in every larger room.
 pub fn more_room()
@@ -42,6 +42,12 @@ pub fn one_protected()
 /// A step keeps the names of forms distinct and each pointer within its form's body.
 pub fn forms_kept()
     ensures { KeepsForms }
+{}
+
+/// A step that doesn't read to the end of its input reads no further than what it takes: with more
+/// behind that input, and however that ends, it does the same, needs as much, and leaves it there.
+pub fn reads_no_further()
+    ensures { ReadsNoFurther }
 {}
 
 /// The rule of scanning by which a step goes is the one that fits the active string (Mooers 1966),

@@ -1,8 +1,10 @@
-use Rattle.std.proofs.Common.{◌≡◌, ◌-◌, ◌≤◌, None, IsSome}
+use Rattle.std.proofs.Common.{◌≡◌, ◌-◌, ◌≤◌, None, Some}
+use Rattle.trac_language.specs.declared.fate.Fate.{Fate}
 use Rattle.trac_c.specs.Turned.{Goes, stands}
 use Rattle.trac_c.proofs.turn.go_on.Given as goal
 
--- so many steps are done, the run is not over, and no device has failed
+-- so many steps are done, the run is not over, and no device has failed; where the run was over
+-- before, no step is done
 abbrev pub invariant-loop-done : goal.invariant-loop-done
 invariant-loop-done l =
     record {
@@ -10,7 +12,10 @@ invariant-loop-done l =
           l.initial.machine.fate ≡ None →
           Goes l.ended l.done (stands l.initial.machine l.initial.source l.initial.sink)
           (stands l.machine l.source l.sink) × (l.machine.fate ≡ None);
-      over : IsSome l.initial.machine.fate → l.machine ≡ l.initial.machine;
+      over :
+          (fate : Fate) → l.initial.machine.fate ≡ Some fate →
+          (l.done ≡ 0) × (l.machine ≡ l.initial.machine)
+          × (l.source ≡ l.initial.source) × (l.sink.len ≡ l.initial.sink.len);
       same_buffer : l.sink.buffer.ghost_name ≡ l.initial.sink.buffer.ghost_name;
       bound : l.done ≤ l.most;
       source : l.source.failures ≡ 0;

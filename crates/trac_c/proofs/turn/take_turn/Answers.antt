@@ -1,5 +1,8 @@
-use Rattle.std.proofs.Common.{rules, refl, ap, ◌∙◌}
+use Rattle.std.proofs.Common.{rules, refl, [], ap, ◌∙◌}
+use Rattle.trac_core.specs.Machine.{ending}
 use Rattle.trac_devices.specs.Slices.{stream_in}
+use Rattle.trac_c.proofs.Again.{told-again}
+use Rattle.trac_c.proofs.Further.{tells}
 use Rattle.trac_c.proofs.SameLoan.{told_turn, told_full}
 use Rattle.trac_c.proofs.turn.take_turn.Goals as goal
 
@@ -13,25 +16,25 @@ returns c =
           c.new-sink.result.buffer.ghost_name,
           (
             stream_in c.go_on-last.new.source,
-            record {
-              turned =
-                  told_turn _ _ _ _ _ c.new-source.result c.go_on-last.new.source
-                  c.new-sink.result c.go_on-last.new.sink _ _ _ _ _ (ap stream_in c.new-source.ensures)
-                  refl c.new-sink.ensures.empty
-                  c.go_on-last.ensures.same_buffer (search rules) c.len.ensures.len same
-                  (c.go_on-last.ensures.turned going);
-              fate = c.turn_number.ensures;
-              steps = c.steps.ensures;
-              peak = c.peak.ensures;
-              written = search rules;
-              consumed = search rules;
-              wanted = search rules;
-              full =
-                  told_full _ c.go_on-last.new.machine c.go_on-last.new.sink _ _ _ (search rules) c.len.ensures.len c.wanted-wanted.ensures.bytes
-                  c.go_on-last.ensures.full;
-            },
+            tells _ _ _ _ _ _ _ _ _ _ going
+                (told_turn _ _ _ _ _ c.new-source.result c.go_on-last.new.source
+                c.new-sink.result c.go_on-last.new.sink _ _ _ _ _ (ap stream_in c.new-source.ensures)
+                refl c.new-sink.ensures.empty
+                c.go_on-last.ensures.same_buffer (search rules) c.len.ensures.len same
+                (c.go_on-last.ensures.turned going))
+                c.turn_number.ensures c.steps.ensures c.peak.ensures
+                (search rules) (search rules) (search rules)
+                (told_full _ c.go_on-last.new.machine c.go_on-last.new.sink _ _ _ (search rules) c.len.ensures.len c.wanted-wanted.ensures.bytes
+                c.go_on-last.ensures.full),
           ),
         ),
       );
-      over = λ over. same ∙ c.go_on-last.ensures.over over;
+      over = λ fate over.
+          let again = c.go_on-last.ensures.over fate over in (
+            same ∙ again.1,
+            told-again c.args.most fate c.args.machine.now c.go_on-last.result _ _ again.0 c.turn_number.ensures
+                (c.peak.ensures ∙ ap (λ m. m.peak) (same ∙ again.1)) (c.steps.ensures ∙ ap (λ m. m.steps) (same ∙ again.1))
+                (c.len.ensures.len ∙ again.3 ∙ c.new-sink.ensures.empty) (search rules)
+                (c.wanted-wanted.ensures.bytes (ending [])),
+          );
     }

@@ -1,0 +1,49 @@
+-- A turn of a machine whose run is over.
+use Rattle.std.proofs.Common.{◌≡◌, ℕ, [], zero, suc, ◌<◌, ◌≤◌, false, Some, None, refl, ap, ◌∙◌, arith}
+use Rattle.std.specs.Prelude.{is_none, nat_lt, ◌&&◌, if◌then◌else◌}
+use Rattle.trac_language.specs.declared.fate.Fate.{Fate}
+use Rattle.trac_language.specs.Text.{Text}
+use Rattle.trac_language.specs.State.{Input}
+use Rattle.trac_core.specs.Machine.{MachineState}
+use Rattle.trac_core.specs.Performed.{performs}
+use Rattle.trac_core.specs.Session.{awaited, next_function, next_printed, step_prints}
+use Rattle.trac_c.specs.Turned.{is_short, last_over, told_again, turn_number, wanted_by}
+use Rattle.trac_c.specs.declared.report.TracReport.{TracReport}
+use Rattle.trac_c.specs.declared.turn.Turn.{Turn}
+use Rattle.trac_c.specs.declared.turn.Turn.TheVariants.{Went, Over}
+
+-- it doesn't wait
+pub never-short : (m : MachineState) (fate : Fate) (bytes : Text) → m.fate ≡ Some fate → is_short (awaited (next_function m)) m bytes ≡ false
+never-short m fate bytes over =
+    ap (λ f. is_short (awaited (if is_none f && nat_lt m.steps m.allowance then performs m.memory else None)) m bytes) over
+
+-- and prints nothing
+pub prints-none : (m : MachineState) (fate : Fate) (input : Input) → m.fate ≡ Some fate → next_printed m input ≡ []
+prints-none m fate input over =
+    ap (λ f. if is_none f && nat_lt m.steps m.allowance then step_prints m.memory input else []) over
+
+pub over-some : (most : ℕ) (fate : Fate) → 0 < most → Over fate ≡ last_over most fate
+over-some zero fate some = absurd (omega arith)
+over-some (suc n) fate some = refl
+
+pub over-none : (most : ℕ) (fate : Fate) → most ≤ 0 → Went ≡ last_over most fate
+over-none zero fate none = refl
+over-none (suc n) fate none = absurd (omega arith)
+
+wants-none : (most : ℕ) (fate : Fate) (printed : ℕ) → wanted_by (last_over most fate) printed ≡ 0
+wants-none zero fate printed = refl
+wants-none (suc n) fate printed = refl
+
+abbrev report : ℕ → ℕ → ℕ → ℕ → ℕ → ℕ → TracReport
+report fate peak steps written consumed wanted =
+    record { fate = fate; peak = peak; steps = steps; written = written; consumed = consumed; wanted = wanted }
+
+pub told-again : (most : ℕ) (fate : Fate) (m : MachineState) (last : Turn) (told : TracReport) (printed : ℕ) → last ≡ last_over most fate → told.fate ≡ turn_number last → told.peak ≡ m.peak → told.steps ≡ m.steps → told.written ≡ 0 → told.consumed ≡ 0 → told.wanted ≡ wanted_by last printed → told ≡ told_again most fate m
+told-again most fate m last told printed is fated peak steps written consumed wanted =
+    let again = turn_number (last_over most fate) in
+    ap (λ (n : ℕ). report n told.peak told.steps told.written told.consumed told.wanted) (fated ∙ ap turn_number is)
+    ∙ ap (λ (n : ℕ). report again n told.steps told.written told.consumed told.wanted) peak
+    ∙ ap (λ (n : ℕ). report again m.peak n told.written told.consumed told.wanted) steps
+    ∙ ap (λ (n : ℕ). report again m.peak m.steps n told.consumed told.wanted) written
+    ∙ ap (λ (n : ℕ). report again m.peak m.steps 0 n told.wanted) consumed
+    ∙ ap (λ (n : ℕ). report again m.peak m.steps 0 0 n) (wanted ∙ ap (λ (t : Turn). wanted_by t printed) is ∙ wants-none most fate printed)

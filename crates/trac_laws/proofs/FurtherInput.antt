@@ -1,0 +1,135 @@
+-- A step that doesn't read to the end of its input does the same where more stands behind that.
+use Rattle.std.proofs.Common.{◌≡◌, ℕ, Bool, true, false, not, ◌||◌, List, [], ◌∷◌, ◌++◌, Option, Some, None, refl, sym, ap, ap₂, subst, ◌∙◌, append_assoc, append-nil, ⊎_elim, take-append-drop}
+use Rattle.std.specs.Prelude.{◌==◌}
+use Rattle.std.specs.List.{list_any, position_or_len}
+use Rattle.std.proofs.lemmas.Bool.{and_cases, and_left, and_right}
+use Rattle.std.proofs.lemmas.List.Folds.{list_any-append}
+use Rattle.trac_language.specs.declared.mode.Mode.{Mode}
+use Rattle.trac_language.specs.declared.function.Function.{Function}
+use Rattle.trac_language.specs.Text.{Text}
+use Rattle.trac_language.specs.State.{Input, OpenCall, State, arguments}
+use Rattle.trac_language.specs.Meaning.{World, Meaning, Gives, Ends, before_meta, from_meta, read_all, read_string, read_character, meaning_of, meaning}
+use Rattle.trac_language.specs.Rule.{Rule, LoadIdling, DeleteLayout, AddProtected, ClearActive, BeginArgument, BeginCall, EndCall, AddCharacter, rule}
+use Rattle.trac_language.specs.Step.{Outcome, Next, Over, function_of, world_of, perform, end_call, follow, step, need}
+use Rattle.trac_laws.specs.LastRead.{is_read_string, reads_last, end_reads_last, reads_last_by, reads_to_end}
+use Rattle.trac_laws.specs.Laws.{ReadsNoFurther, with_more}
+use Rattle.trac_laws.proofs.UnreadInput.{with_source, elsewhere}
+use Rattle.trac_laws.proofs.TakenInput.{Kind, IsString, IsCharacter, IsOther, kind, standing, step_anywhere}
+
+-- ---- what is left of the input stands at its end
+
+-- of an input another is left
+abbrev LeftOf : Input → Input → Type 0
+LeftOf before after = (front : Text) × ((before.text ≡ front ++ after.text) × (after.fails ≡ before.fails))
+
+abbrev Leaves : Input → Meaning → Type 0
+Leaves i (Gives answer) = LeftOf i answer.world.input
+Leaves i (Ends fate) = Unit {0}
+
+unread : (i : Input) (m : Meaning) → Leaves i (with_source i m)
+unread i (Gives answer) = ([], (refl, refl))
+unread i (Ends fate) = tt
+
+all_read : (fails : Bool) (text : Text) (world : World) → Leaves world.input (read_all fails text world)
+all_read true text world = tt
+all_read false [] world = tt
+all_read false (c ∷ text) world = (world.input.text, (sym (append-nil world.input.text), refl))
+
+string_read : (text from front : Text) (world : World) → world.input.text ≡ front ++ from → Leaves world.input (read_string text from world)
+string_read text [] front world e = all_read world.input.fails text world
+string_read text (meta ∷ rest) front world e = (front ++ meta ∷ [], (e ∙ sym (append_assoc front (meta ∷ []) rest), refl))
+
+character_read : (text : Text) (fails : Bool) (world : World) → world.input.text ≡ text → Leaves world.input (read_character text fails world)
+character_read (c ∷ rest) fails world e = (c ∷ [], (e, refl))
+character_read [] true world e = tt
+character_read [] false world e = tt
+
+call_leaves : (f : Function) (args : List Text) (world : World) → Leaves world.input (meaning_of f args world)
+unfolding meaning_of
+call_leaves f args world = go (kind f)
+  where
+    go : Kind f → Leaves world.input (meaning_of f args world)
+    go (IsString e) = subst (λ f. Leaves world.input (meaning_of f args world)) (sym e) (string_read (before_meta world) (from_meta world) (before_meta world) world (sym (take-append-drop (position_or_len (λ c. c == world.meta) world.input.text) world.input.text)))
+    go (IsCharacter e) = subst (λ f. Leaves world.input (meaning_of f args world)) (sym e) (character_read world.input.text world.input.fails world refl)
+    go (IsOther e other) = subst (Leaves world.input) (sym (elsewhere f args world world.input e)) (unread world.input (meaning_of f args world))
+
+meaning_leaves : (f : Option Function) (args : List Text) (world : World) → Leaves world.input (meaning f args world)
+meaning_leaves None args world = ([], (refl, refl))
+meaning_leaves (Some f) args world = call_leaves f args world
+
+abbrev LeavesNext : Input → Outcome → Type 0
+LeavesNext i (Next s) = LeftOf i s.input
+LeavesNext i (Over fate) = Unit {0}
+
+perform_leaves : (mode : Mode) (m : Meaning) (i : Input) (s : State) → Leaves i m → LeavesNext i (perform mode m s)
+perform_leaves mode (Gives answer) i s left = left
+perform_leaves mode (Ends fate) i s left = tt
+
+end_leaves : (calls : List OpenCall) (s : State) → LeavesNext s.input (end_call calls s)
+end_leaves [] s = ([], (refl, refl))
+end_leaves (call ∷ outer) s = perform_leaves call.mode (meaning (function_of call) (arguments call) (world_of s)) s.input _ (meaning_leaves (function_of call) (arguments call) (world_of s))
+
+follow_leaves : (r : Rule) (s : State) → LeavesNext s.input (follow r s)
+follow_leaves LoadIdling s = ([], (refl, refl))
+follow_leaves (DeleteLayout rest) s = ([], (refl, refl))
+follow_leaves (AddProtected inside rest) s = ([], (refl, refl))
+follow_leaves ClearActive s = ([], (refl, refl))
+follow_leaves (BeginArgument rest) s = ([], (refl, refl))
+follow_leaves (BeginCall mode rest) s = ([], (refl, refl))
+follow_leaves (EndCall rest) s = end_leaves s.memory.calls _
+follow_leaves (AddCharacter c rest) s = ([], (refl, refl))
+
+step_leaves : (s t : State) → step s ≡ Next t → LeftOf s.input t.input
+unfolding step
+step_leaves s t e = subst (LeavesNext s.input) e (follow_leaves (rule s.memory.active) s)
+
+-- ---- the law
+
+pub reads_no_further_law : ReadsNoFurther
+reads_no_further_law before after more fails open_still last e =
+    let left = step_leaves before after e in
+    let g = left.0 in
+    let r = after.input.text in
+    let here : before ≡ standing before.memory (g ++ r) false before.output = ap₂ (λ t b. standing before.memory t b before.output) left.1.0 open_still in
+    let there : after ≡ standing after.memory r false after.output = ap (λ b. standing after.memory r b after.output) (left.1.1 ∙ open_still) in
+    let same = step_anywhere g r before.output after.output after.memory before.memory (sym (ap reads_to_end here) ∙ last) (sym (ap step here) ∙ e ∙ ap Next there) (r ++ more) fails in
+    let text : before.input.text ++ more ≡ g ++ (r ++ more) = ap (λ t. t ++ more) left.1.0 ∙ append_assoc g r more in (
+      ap (λ t. step (standing before.memory t fails before.output)) text ∙ same.0,
+      ap (λ t. need (standing before.memory t fails before.output)) text ∙ same.1 ∙ sym (ap need here),
+    )
+
+-- ---- nor does it read to the end then
+
+abbrev behind : Text → Bool → World → World
+behind more fails world = record world { input = record { text = world.input.text ++ more; fails = fails } }
+
+pub any_still : (any more : Bool) → not any ≡ false → not (any || more) ≡ false
+any_still true more e = refl
+any_still false more e = cc
+
+call_still : (f : Option Function) (world : World) (more : Text) (fails : Bool) → reads_last f world ≡ false → reads_last f (behind more fails world) ≡ false
+call_still None world more fails e = refl
+call_still (Some f) world more fails e =
+    let is_meta = λ (c : ℕ). c == world.meta in
+    let text = world.input.text in
+    ⊎_elim
+    (λ other. and_left (is_read_string f) (not (list_any is_meta (text ++ more))) other)
+    (λ any. and_right (is_read_string f) (not (list_any is_meta (text ++ more))) (ap not (list_any-append is_meta text more) ∙ any_still (list_any is_meta text) (list_any is_meta more) any))
+    (and_cases (is_read_string f) (not (list_any is_meta text)) e)
+
+end_still : (calls : List OpenCall) (world : World) (more : Text) (fails : Bool) → end_reads_last calls world ≡ false → end_reads_last calls (behind more fails world) ≡ false
+end_still [] world more fails e = refl
+end_still (call ∷ outer) world more fails e = call_still (function_of call) world more fails e
+
+rule_still : (r : Rule) (s : State) (more : Text) (fails : Bool) → reads_last_by r s ≡ false → reads_last_by r (with_more more fails s) ≡ false
+rule_still LoadIdling s more fails e = refl
+rule_still (DeleteLayout rest) s more fails e = refl
+rule_still (AddProtected inside rest) s more fails e = refl
+rule_still ClearActive s more fails e = refl
+rule_still (BeginArgument rest) s more fails e = refl
+rule_still (BeginCall mode rest) s more fails e = refl
+rule_still (EndCall rest) s more fails e = end_still s.memory.calls (world_of s) more fails e
+rule_still (AddCharacter c rest) s more fails e = refl
+
+pub still_not_last : (s : State) (more : Text) (fails : Bool) → reads_to_end s ≡ false → reads_to_end (with_more more fails s) ≡ false
+still_not_last s more fails e = rule_still (rule s.memory.active) s more fails e
