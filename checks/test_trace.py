@@ -1,8 +1,12 @@
 """Traces: the tables of steps of two scripts that were worked by hand, row by row, and what becomes
 of odd bytes and of faults."""
+import re
+import subprocess
+import time
 import unittest
 
-from trac import trace
+from rows import rows as known
+from trac import PROGRAM, TRACER, trace
 
 # A run over no input: the step, its rule, the size before it, its need, the active string after it.
 NOTHING = [
@@ -44,7 +48,7 @@ def rows(lines):
     """The steps of a trace: number, rule, size, need, neutral and active string."""
     return [(int(line[:6]), line[8:21].rstrip(), int(line[21:27]), int(line[27:33]),
              *line[35:].split('|', 1))
-            for line in lines[1:-1] if 'prints: ' not in line[:16]]
+            for line in lines if re.match(r' *\d+  [a-z]', line)]
 
 
 def later(steps, more):
@@ -93,10 +97,152 @@ class Lines(unittest.TestCase):
                 (['--cells', '18'], 'workspace full: 8 steps, peak 11 cells', 1),
                 (['--steps', '18'], 'allowance used up: 18 steps, peak 19 cells', 3)]:
             lines, got = trace(b"#(ps,hello)'", *words)
-            self.assertEqual((lines[-1], got), (last, status))
+            self.assertEqual(got, status)
+            self.assertIn(last, lines)
         self.assertEqual(trace(b"#(hl)'")[0][-1], 'halted: 13 steps, peak 13 cells')
 
     def test_words_that_are_refused(self):
         for words in [['--cells', '0'], ['--steps', '0'], ['--cells', '16777217'], ['extra']]:
             lines, status = trace(b'', *words)
             self.assertEqual((lines, status), ([], 2))
+
+
+SCRIPT = (b"#(ds,A,(xTy))'#(ss,A,T)##(cl,A,\xc3\xa4)#(cs,A,Z)#(zz)#(cl,b)#(,remark)##(dv,1,0,Z)"
+          b"#(dd,A,Q)'#(ds,A,b)#(ds,B,c)#(da)#(cm,!)'#(ds,C,x)!")
+
+# The calls of that script, behind the number and two blanks, but for those of the idling procedure.
+CALLED = [
+    '  #(ds<,>A<,>xTy) form A: <^>xTy',
+    '  #(ss<,>A<,>T) form A: <^>x<1>y',
+    '  ##(cl<,>A<,>\u00e4) = x\u00e4y',
+    '  #(cs<,>A<,>Z) = x form A: x<1><^>y',
+    '  #(zz) [no function]',
+    '  #(cl<,>b) [no form]',
+    '  #(<,>remark)',
+    '  ##(dv<,>1<,>0<,>Z) = Z [default]',
+    '  #(dd<,>A<,>Q) deletes A',
+    '#(ps<,>x\u00e4yxZ) prints x\u00e4yxZ',
+    '  #(ds<,>A<,>b) form A: <^>b',
+    '  #(ds<,>B<,>c) form B: <^>c',
+    '  #(da) deletes A deletes B',
+    '  #(cm<,>!)',
+    '  #(ds<,>C<,>x) form C: <^>x',
+]
+
+# The forms of it.
+CHANGED = [
+    'form A: <^>xTy', 'form A: <^>x<1>y', 'form A: x<1><^>y', 'deletes A', 'form A: <^>b',
+    'form B: <^>c', 'deletes A deletes B', 'form C: <^>x',
+]
+
+
+def outside_idling(calls):
+    return [call for call in calls if '#(rs)' not in call and call != '#(ps<,>)']
+
+
+class Views(unittest.TestCase):
+    def test_some_of_the_steps(self):
+        whole, _ = trace(b"#(ps,hello)'")
+        for words, first, last in [
+                (['--from', '3', '--to', '5'], 3, 5), (['--from', '28'], 28, 29),
+                (['--to', '2'], 1, 2), (['--last', '3'], 27, 29),
+                (['--last', '100'], 1, 29), (['--last', '5', '--to', '26'], 25, 26)]:
+            with self.subTest(words=words):
+                lines, status = trace(b"#(ps,hello)'", *words)
+                self.assertEqual(status, 0)
+                self.assertEqual((lines[0], lines[-1]), (whole[0], whole[-1]))
+                self.assertEqual([row[0] for row in rows(lines)], list(range(first, last + 1)))
+                self.assertEqual(rows(lines), rows(whole)[first - 1:last])
+
+    def test_calls(self):
+        lines, status = trace(SCRIPT, '--calls')
+        self.assertEqual((lines[0], status), ('  step  call', 0))
+        self.assertEqual(outside_idling(line[8:] for line in lines[1:-1]), CALLED)
+        numbers = [int(line[:6]) for line in lines[1:-1]]
+        ended = [row[0] for row in rows(trace(SCRIPT)[0]) if row[1] == 'end of call']
+        self.assertEqual(numbers, ended)
+
+    def test_forms(self):
+        lines, status = trace(SCRIPT, '--forms')
+        self.assertEqual((lines[0], status), ('  step  form', 0))
+        self.assertEqual([line[8:] for line in lines[1:-3]], CHANGED)
+        self.assertRegex(lines[-3], '^input ended: ')
+        self.assertEqual(lines[-2:], ['form C: <^>x', 'meta character: !'])
+        both, _ = trace(SCRIPT, '--forms', '--calls')
+        calls, _ = trace(SCRIPT, '--calls')
+        self.assertEqual(both, calls + lines[-2:])
+
+    def test_texts_that_are_cut(self):
+        lines, _ = trace(b"#(ps,0123456789)'", '--calls', '--width', '8')
+        self.assertIn('#(ps<, .. 6789) prints 0123 .. 6789', [line[10:] for line in lines])
+        lines, _ = trace(b"#(ps,0123456789)'", '--calls', '--width', '0')
+        self.assertIn('#(ps<,>0123456789) prints 0123456789', [line[10:] for line in lines])
+
+    def test_what_is_told_of_a_fault(self):
+        script = b"#(ds,A,abc)'\n #(ds,long,abcdef)'\n\n\t\t#(ps,(x)#(ad,1,"
+        steps = int(trace(script)[0][-1].split(': ')[1].split()[0])
+        for words in [[], ['--calls'], ['--last', '2']]:
+            with self.subTest(words=words):
+                lines, status = trace(script, '--steps', str(steps - 11), *words)
+                self.assertEqual(status, 3)
+                at = next(i for i, line in enumerate(lines) if line.startswith('allowance'))
+                self.assertEqual(lines[at + 1:-1], [
+                    f'at step {steps - 10}, in the string that begins at line 4, column 3',
+                    'open call: #(ps<,>', 'open call: #(ps<,>x', 'open call: #(ad<,>1<,>',
+                    'form of 13 cells: long', 'form of 7 cells: A'])
+                self.assertRegex(lines[-1], '^cells: forms 20, neutral string ')
+                self.assertEqual(sum(int(n) for n in re.findall(r'\d+', lines[-1])), 65536)
+
+    def test_each_view_does_what_the_program_does(self):
+        for row in known():
+            few = row.steps <= 2000
+            views = [['--calls', '--width', '40'], ['--forms'], ['--last', '3']] + [[]] * few
+            words = ['--cells', str(row.cells), '--steps', str(row.allowed)]
+            end = b': %d steps, peak %d cells\n' % (row.steps, row.peak)
+            for view in views:
+                with self.subTest(row=row, view=view):
+                    lines, status = trace_bytes(row.script, *words, *view)
+                    self.assertEqual(status, row.status)
+                    self.assertIn(end, lines)
+                    if not view:
+                        self.assertEqual(printed_in(lines), shown(row.output))
+
+    def test_a_view_of_what_is_suspicious_ends_as_the_program_does(self):
+        for row in known():
+            with self.subTest(row=row):
+                lines, status = trace_bytes(row.script, '--warn', '--cells', str(row.cells),
+                                            '--steps', str(row.allowed))
+                self.assertEqual(status, row.status)
+                end = b': %d steps, peak %d cells\n' % (row.steps, row.peak)
+                self.assertEqual(lines.endswith(end), status != 0)
+
+    def test_the_last_steps_cost_little(self):
+        script = b"#(ds,f,(#(cl,f)))#(cl,f)'"
+        words = ['--steps', '10000000']
+        times = []
+        for program, more in [(PROGRAM, []), (TRACER, ['--last', '20'])]:
+            before = time.monotonic()
+            done = subprocess.run([program, *words, *more], input=script, capture_output=True)
+            times.append(time.monotonic() - before)
+            self.assertEqual(done.returncode, 3)
+        self.assertIn(b'10000000', done.stdout)
+        self.assertLess(times[1], 5 * times[0] + 0.5)
+
+
+def trace_bytes(script, *words):
+    """What a trace writes, and its status."""
+    done = subprocess.run([TRACER, *words], input=script, capture_output=True, timeout=60)
+    return done.stdout, done.returncode
+
+
+def printed_in(lines):
+    """What the lines of steps say was printed, as they show it."""
+    head = b'        prints: '
+    return b''.join(line[len(head):] for line in lines.split(b'\n') if line.startswith(head))
+
+
+def shown(output):
+    """Printed bytes, as the lines of steps show them."""
+    names = {9: b'\\t', 10: b'\\n', 13: b'\\r', 92: b'\\\\'}
+    return b''.join(names.get(c) or (bytes([c]) if 32 <= c < 127 else b'\\x%02x' % c)
+                    for c in output)

@@ -23,5 +23,6 @@ pub fn settings_from(alloc: Global, words: Vec<String>) -> Result<Settings, Erro
     ensures kinds { FailsBy (fault_of trac_command (map string_bytes words.items)) result }
 {
     let about = "Runs a TRAC T-64 script from standard input";
-    trac_words::settings_from(alloc, "trac", about, "1000000", true, words)
+    let usage = "trac [OPTIONS] < SCRIPT";
+    trac_words::settings_from(alloc, "trac", about, usage, "1000000", true, words)
 }

@@ -17,8 +17,11 @@ pub struct Words {
 /// that it refuses, for help, or for want of memory. The command is this processor's own choice.
 pub fn words_from(alloc: Global, mut words: Vec<String>) -> Result<Words, Error> {
     let files = words.split_off(options_len(words.as_slice()))?;
-    let about = "Runs files, and then the TRAC T-64 strings that are typed: [OPTIONS] [FILE ..]";
-    let settings = settings_from(alloc, "trac_terminal", about, "1000000", false, words)?;
+    let name = "trac_terminal";
+    let about =
+        "Runs files, and then the TRAC T-64 strings that are typed, each with its own steps";
+    let usage = "trac_terminal [OPTIONS] [FILE ..]";
+    let settings = settings_from(alloc, name, about, usage, "1000000", false, words)?;
     Ok(Words { settings, files })
 }
 

@@ -1,2 +1,5 @@
 pub mod Texts
 pub mod Failures
+pub mod Command
+pub mod Shows
+pub mod LargestTold

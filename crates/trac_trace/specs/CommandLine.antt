@@ -1,8 +1,70 @@
--- The command line of the program.
-use Rattle.std.specs.Prelude.{false, codes}
-use Rattle.clap.specs.Words.{App}
-use Rattle.trac_words.specs.CommandLine.{command_of}
+-- The command line of the program, and the views that its matches give.
+use Rattle.std.specs.Prelude.{◌≡◌, List, false, pos, Some, codes}
+use Rattle.clap.specs.Words.{App, Row, Rule, Text, new_rule, with_rule}
+use Rattle.clap.specs.declared.builder.action.ArgAction.TheVariants.{SetTrue}
+use Rattle.clap.specs.declared.builder.value_parser.ValueParser.TheVariants as parser
+use Rattle.trac_words.specs.CommandLine.{gives, has_flag, number_of, number_option}
+use Rattle.trac_words.specs.CommandLine.{numbers_command}
+use Rattle.trac_trace.specs.declared.views.Views.{Views}
 
--- `trac_trace [--cells N] [--steps N]`, with 1000 steps where the words don't say
+-- the flag `--name`
+abbrev pub flag_of : Text → Rule
+flag_of name = record (new_rule name) {
+  long = Some name;
+  action = Some SetTrue;
+  parser = Some parser.Bool;
+}
+
+unfoldable pub from_option : Rule
+from_option = number_option (codes "from") (parser.Unsigned 1 1000000000000) (codes "1")
+
+unfoldable pub to_option : Rule
+to_option = number_option (codes "to") (parser.Unsigned 1 1000000000000) (codes "1000000000000")
+
+unfoldable pub last_option : Rule
+last_option = number_option (codes "last") (parser.Unsigned 0 1000000) (codes "0")
+
+unfoldable pub width_option : Rule
+width_option = number_option (codes "width") (parser.Signed (pos 0) (pos 16777216)) (codes "100")
+
+unfoldable pub calls_flag : Rule
+calls_flag = flag_of (codes "calls")
+
+unfoldable pub forms_flag : Rule
+forms_flag = flag_of (codes "forms")
+
+unfoldable pub warn_flag : Rule
+warn_flag = flag_of (codes "warn")
+
+-- `NAME [--cells N] [--steps N] [--from N] [--to N] [--last N] [--width N] [--calls] [--forms]
+-- [--warn]`, with 1000 steps where the words don't say
+unfoldable pub views_command : Text → App
+views_command name =
+    with_rule (with_rule (with_rule (with_rule (with_rule (with_rule (with_rule
+    (numbers_command name (codes "1000")) from_option) to_option) last_option)
+    width_option) calls_flag) forms_flag) warn_flag
+
+-- the same, of the name `trac_trace`
 abbrev pub trace_command : App
-trace_command = command_of (codes "trac_trace") (codes "1000") false
+trace_command = views_command (codes "trac_trace")
+
+-- the views are the values of the matches
+abbrev pub AreViewsOf : List Row → Views → Type 0
+AreViewsOf rows v = (number_of (codes "from") rows ≡ Some v.from)
+    × (number_of (codes "to") rows ≡ Some v.to)
+    × (number_of (codes "last") rows ≡ Some v.last)
+    × (number_of (codes "width") rows ≡ Some v.width)
+    × (has_flag (codes "calls") rows ≡ v.calls)
+    × (has_flag (codes "forms") rows ≡ v.forms)
+    × (has_flag (codes "warn") rows ≡ v.warn)
+
+-- what the words don't give is all steps, none of them the last, 100 bytes of a text, and no flag
+abbrev pub HasDefaultViews : List Text → Views → Type 0
+HasDefaultViews words v =
+    (gives trace_command words (codes "from") ≡ false → v.from ≡ 1)
+    × (gives trace_command words (codes "to") ≡ false → v.to ≡ 1000000000000)
+    × (gives trace_command words (codes "last") ≡ false → v.last ≡ 0)
+    × (gives trace_command words (codes "width") ≡ false → v.width ≡ 100)
+    × (gives trace_command words (codes "calls") ≡ false → v.calls ≡ false)
+    × (gives trace_command words (codes "forms") ≡ false → v.forms ≡ false)
+    × (gives trace_command words (codes "warn") ≡ false → v.warn ≡ false)

@@ -1,2 +1,7 @@
 pub mod Lines
 pub mod CommandLine
+pub mod Shown
+pub mod Told
+pub mod Odd
+pub mod Largest
+pub mod Warned

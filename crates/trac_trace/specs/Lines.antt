@@ -1,5 +1,6 @@
 -- The lines of a trace.
-use Rattle.std.specs.Prelude.{◌++◌, ◌==◌, ◌/◌, ◌%◌, ◌||◌, ℕ, List, [], ◌∷◌, codes, decimal}
+use Rattle.std.specs.Prelude.{◌++◌, ◌==◌, ◌/◌, ◌%◌, ◌||◌, ℕ, Bool, true, false, List, []}
+use Rattle.std.specs.Prelude.{◌∷◌, codes, decimal}
 use Rattle.std.specs.Prelude.{drop, length, min, nat_lt, get_or, if◌then◌else◌}
 use Rattle.trac_language.specs.declared.mode.Mode.TheVariants.{Active, Neutral}
 use Rattle.trac_language.specs.declared.fate.Fate.{Fate}
@@ -62,6 +63,13 @@ name_text row.Character = codes "character    "
 -- a number at the right end of 6 columns, or of as many as it has digits
 abbrev pub column_text : ℕ → List ℕ
 column_text n = drop (min (length (decimal n)) 6) (codes "      ") ++ decimal n
+
+-- the line above those of the views
+abbrev pub head_text : Bool → Bool → List ℕ
+head_text true forms = codes "  step  call\n"
+head_text false true = codes "  step  form\n"
+head_text false false =
+    codes "  step  rule           size  need  neutral string|active string\n"
 
 -- the line of a step
 abbrev pub step_text : ℕ → ScanningRule → ℕ → ℕ → List Cell → List Cell → List ℕ

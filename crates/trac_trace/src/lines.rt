@@ -1,16 +1,23 @@
 //! The lines of a trace. Their form is this processor's own choice.
 ghost use Rattle.std.specs.Prelude.{◌≡◌, ◌++◌, OnOk, decimal};
 ghost use Rattle.trac_trace.specs.Lines.{byte_text, bytes_text, cell_text, cells_text, column_text};
-ghost use Rattle.trac_trace.specs.Lines.{end_text, fate_text, name_text, number_16, printed_text};
-ghost use Rattle.trac_trace.specs.Lines.{step_text};
+ghost use Rattle.trac_trace.specs.Lines.{end_text, fate_text, head_text, name_text, number_16};
+ghost use Rattle.trac_trace.specs.Lines.{printed_text, step_text};
 
+use crate::views::Views;
 use itoa::Buffer;
 use std::alloc::AllocError;
 use trac_core::{Cell, Fate, Report, ScanningRule};
 use trac_space::Mode;
 
-/// The line above those of the steps.
-pub const HEAD: &[u8; 64] = b"  step  rule           size  need  neutral string|active string\n";
+// The line above those of the steps.
+const HEAD: &[u8; 64] = b"  step  rule           size  need  neutral string|active string\n";
+
+// The line above those of the calls.
+const CALLS_HEAD: &[u8; 13] = b"  step  call\n";
+
+// The line above those of the forms that change.
+const FORMS_HEAD: &[u8; 13] = b"  step  form\n";
 
 const DIGITS: &[u8; 16] = b"0123456789abcdef";
 
@@ -27,6 +34,19 @@ pub struct Step {
     pub size: u32,
     /// The cells that it needed.
     pub need: u32,
+}
+
+/// The line above those of the views.
+pub fn head(views: &Views) -> &'static [u8]
+    ensures { result.now ≡ head_text views.now.calls views.now.forms }
+{
+    if views.calls {
+        CALLS_HEAD
+    } else if views.forms {
+        FORMS_HEAD
+    } else {
+        HEAD
+    }
 }
 
 /// Adds the line of a step, with the cells of both strings after it. An error is want of memory.
@@ -105,22 +125,23 @@ fn name(rule: ScanningRule) -> &'static [u8]
     }
 }
 
-// Adds a text.
-fn push(line: &mut Vec<u8>, text: &[u8]) -> Result<(), AllocError>
+/// Adds a text. An error is want of memory.
+pub fn push(line: &mut Vec<u8>, text: &[u8]) -> Result<(), AllocError>
     ensures { OnOk result (line.new.items ≡ line.old.items ++ text.now) }
 {
     line.extend_from_slice(text)
 }
 
-// Adds a number.
-fn push_number(line: &mut Vec<u8>, n: u64) -> Result<(), AllocError>
+/// Adds a number. An error is want of memory.
+pub fn push_number(line: &mut Vec<u8>, n: u64) -> Result<(), AllocError>
     ensures { OnOk result (line.new.items ≡ line.old.items ++ decimal n) }
 {
     line.extend_from_slice(Buffer::new().format(n).as_bytes())
 }
 
-// Adds a number at the right end of 6 columns, or of as many as it has digits.
-fn push_column(line: &mut Vec<u8>, n: u64) -> Result<(), AllocError>
+/// Adds a number at the right end of 6 columns, or of as many as it has digits. An error is want of
+/// memory.
+pub fn push_column(line: &mut Vec<u8>, n: u64) -> Result<(), AllocError>
     ensures { OnOk result (line.new.items ≡ line.old.items ++ column_text n) }
 {
     let mut buffer = Buffer::new();
@@ -163,9 +184,9 @@ fn push_bytes(line: &mut Vec<u8>, bytes: &[u8]) -> Result<(), AllocError>
     Ok(())
 }
 
-// Adds a byte: layout and the reverse solidus behind a reverse
-// solidus, and what is no visible character by its number.
-fn push_byte(line: &mut Vec<u8>, byte: u8) -> Result<(), AllocError>
+/// Adds a byte: layout and the reverse solidus behind a reverse solidus, and what is no visible
+/// character by its number. An error is want of memory.
+pub fn push_byte(line: &mut Vec<u8>, byte: u8) -> Result<(), AllocError>
     ensures { OnOk result (line.new.items ≡ line.old.items ++ byte_text byte) }
 {
     match byte {

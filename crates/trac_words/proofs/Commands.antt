@@ -21,20 +21,20 @@ use Rattle.trac_words.proofs.DefaultRows.{default_at}
 use Rattle.trac_words.proofs.Places.{only_at}
 use Rattle.trac_words.proofs.PlaceReads.{IsRead, flag_read, is_own_name, is_plain_app, option_text, signed_read, unsigned_read}
 
-same_number : (m n : ℕ) (o : Option ℕ) → o ≡ Some m → o ≡ Some n → n ≡ m
+pub same_number : (m n : ℕ) (o : Option ℕ) → o ≡ Some m → o ≡ Some n → n ≡ m
 same_number m n o e f = cc
 
 -- the built command's rule at the place has the name and this one default, which is read as it stands
-record HasDefaultAt (app : App) (k : ℕ) (name v : Text) : Type 0 where
-  rule : Rule
-  at : slice_get (built app).top.rules k ≡ Some rule
-  id : rule.id ≡ name
-  only : only_at name k (map (λ (r : Rule). r.id) (built app).top.rules) ≡ true
-  default : rule.defaults ≡ v ∷ []
-  as_read : read_as (reading_by rule) v ≡ v
+pub record HasDefaultAt (app : App) (k : ℕ) (name v : Text) : Type 0 where
+  pub rule : Rule
+  pub at : slice_get (built app).top.rules k ≡ Some rule
+  pub id : rule.id ≡ name
+  pub only : only_at name k (map (λ (r : Rule). r.id) (built app).top.rules) ≡ true
+  pub default : rule.defaults ≡ v ∷ []
+  pub as_read : read_as (reading_by rule) v ≡ v
 
 -- where the words give the name nothing, its default is its text
-default_text : (app : App) (words : List Text) (k : ℕ) (name v : Text) → HasDefaultAt app k name v → gives app words name ≡ false
+pub default_text : (app : App) (words : List Text) (k : ℕ) (name v : Text) → HasDefaultAt app k name v → gives app words name ≡ false
     → one_of name (matches_of app words) ≡ Some v
 default_text app words k name v has none =
     let self = (bytes_eq-Decides has.rule.id has.rule.id).1 refl in

@@ -15,11 +15,12 @@ use std::alloc::{AllocError, Global};
 /// Reads the settings from the words of a program, its name first: `NAME [--cells N] [--steps N]`,
 /// and `[--report]` too where it reports. Where the words don't say, there are 65536 cells, the
 /// default of the steps and no report. The error is clap's, for words that it refuses, numbers out
-/// of range among them, for help, or for want of memory.
+/// of range among them, for help, or for want of memory. The help and the errors show the usage.
 pub fn settings_from(
     alloc: Global,
     name: &str,
     about: &str,
+    usage: &str,
     default_steps: &str,
     reports: bool,
     words: Vec<String>,
@@ -35,7 +36,7 @@ pub fn settings_from(
     ensures kinds { let command = command_of name.now default_steps.now reports in
         FailsBy (fault_of command (map string_bytes words.items)) result }
 {
-    let command = command(alloc, name, about, default_steps, reports)?;
+    let command = command(alloc, name, about, usage, default_steps, reports)?;
     let matches = command.try_get_matches_from(words.as_slice())?;
     let cells = matches.get_one::<u32>("cells").unwrap();
     let steps = matches.get_one::<u64>("steps").unwrap();
@@ -64,21 +65,23 @@ fn command<'a>(
     alloc: Global,
     name: &'a str,
     about: &'a str,
+    usage: &'a str,
     default_steps: &'a str,
     reports: bool,
 ) -> Result<Command<'a>, AllocError>
     ensures { IfOk result (λ c.
         app_of c ≡ command_of name.entry.now default_steps.entry.now reports) }
 {
-    let command = numbers_command(alloc, name, about, default_steps)?;
+    let numbers = numbers_command(alloc, name, about, default_steps)?;
+    let command = numbers.override_usage(usage);
     if !reports {
         return Ok(command);
     }
     command.arg(report(alloc))
 }
 
-// The command `NAME [--cells N] [--steps N]`.
-fn numbers_command<'a>(
+/// The command `NAME [--cells N] [--steps N]`, to which a program may add. An error is want of memory.
+pub fn numbers_command<'a>(
     alloc: Global,
     name: &'a str,
     about: &'a str,
@@ -101,12 +104,17 @@ fn numbers_command<'a>(
     Command::new(alloc, name)
         .bin_name(name)?
         .about(about)
-        .arg(cells.help("Cells of the workspace"))?
-        .arg(steps.help("Steps that the script may take"))
+        .arg(cells.help("Cells of the workspace, 1 to 16777216"))?
+        .arg(steps.help("Steps that are allowed, 1 to 1000000000000"))
 }
 
-// The option `--name N`.
-fn number<'a>(alloc: Global, name: &'a str, numbers: ValueParser<'a>, default: &'a str) -> Arg<'a>
+/// The option `--name N`, of the numbers that the parser takes, with a default.
+pub fn number<'a>(
+    alloc: Global,
+    name: &'a str,
+    numbers: ValueParser<'a>,
+    default: &'a str,
+) -> Arg<'a>
     ensures rule { rule_of result ≡ number_option name.entry.now numbers.entry default.entry.now }
     ensures own { result.global ≡ false }
 {

@@ -3,8 +3,8 @@ use Rattle.trac_core.specs.Machine.{MachineState}
 use Rattle.trac_trace.proofs.Failures.{last-failures}
 use Rattle.trac_trace.proofs.trace.trace.Goals as goal
 
-pub loop-step-init : goal.loop-step-init
-loop-step-init g c =
+pub loop-shown-init : goal.loop-shown-init
+loop-shown-init g c =
     record {
       not_over = ap (λ (m : MachineState). m.fate) c.over-machine.ensures;
       source_failures = refl;
@@ -12,32 +12,32 @@ loop-step-init g c =
     }
 
 pub step-fate-requires-clause-source_counts : goal.step-fate-requires-clause-source_counts
-step-fate-requires-clause-source_counts g c = omega (arith, c.loop-step.invariant.source_failures, c.requires)
+step-fate-requires-clause-source_counts g c = omega (arith, c.loop-shown.invariant.source_failures, c.requires)
 
 pub step-fate-requires-clause-sink_counts : goal.step-fate-requires-clause-sink_counts
-step-fate-requires-clause-sink_counts g c = omega (arith, c.loop-step.invariant.sink_failures)
+step-fate-requires-clause-sink_counts g c = omega (arith, c.loop-shown.invariant.sink_failures)
 
 pub returns-in-Some : goal.returns-in-Some
 returns-in-Some g c =
-    let i = c.loop-step.invariant in
-    let told = last-failures c.loop-step.machine.fate c.in-Some.fate i.not_over in
+    let i = c.loop-shown.invariant in
+    let told = last-failures c.loop-shown.machine.fate c.in-Some.fate i.not_over in
     record { input_failed = omega (arith, c.in-Some.ensures.input_failed, told, i.source_failures) }
 
-pub loop-step-smaller : goal.loop-step-smaller
-loop-step-smaller g c =
+pub loop-shown-smaller : goal.loop-shown-smaller
+loop-shown-smaller g c =
     let after = c.take_peak-need.ensures.after in
     let steps : c.take_peak-need.new.self.steps ≡ c.step-fate.new.self.steps = ap (λ (m : MachineState). m.steps) after in
     let allowance : c.take_peak-need.new.self.allowance ≡ c.step-fate.new.self.allowance = ap (λ (m : MachineState). m.allowance) after in
     omega (arith, steps, allowance, c.in_default.ensures.allowance, (c.in_default.ensures.proceeds refl).0, (c.in_default.ensures.proceeds refl).1)
 
-pub loop-step-preserved : goal.loop-step-preserved
-loop-step-preserved g c =
-    let i = c.loop-step.invariant in
+pub loop-shown-preserved : goal.loop-shown-preserved
+loop-shown-preserved g c =
+    let i = c.loop-shown.invariant in
     let h = c.in_default.ensures in
     let source_failed = rw i.not_over at h.input_failed in
     let sink_failed = rw i.not_over at h.output_failed in
     record {
       not_over = ap (λ (m : MachineState). m.fate) c.take_peak-need.ensures.after ∙ h.fate;
       source_failures = omega (arith, i.source_failures, source_failed);
-      sink_failures = omega (arith, i.sink_failures, sink_failed, c.push_output.ensures.counts);
+      sink_failures = omega (arith, i.sink_failures, sink_failed, c.clear.ensures.counts);
     }

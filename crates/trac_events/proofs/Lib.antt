@@ -1,0 +1,2 @@
+pub mod LastMarks
+pub mod NextArgument

@@ -1,0 +1,7 @@
+use Rattle.std.proofs.Common.{drop}
+use Rattle.trac_space.specs.Cells.{NoCall}
+use Rattle.trac_events.proofs.call.arguments_at_end.Given as goal
+
+-- no call mark stands among the cells so far, from the last one on
+abbrev pub invariant-loop-mark : goal.invariant-loop-mark
+invariant-loop-mark l = NoCall (drop l.mark l.neutral)

@@ -1,0 +1,8 @@
+use Rattle.std.proofs.Common.{◌≡◌, ◌+◌, drop}
+use Rattle.std.specs.List.{position_or_len}
+use Rattle.trac_space.specs.Cells.{is_comma}
+use Rattle.trac_events.proofs.call.before_comma.Given as goal
+
+-- no comma mark stands among the cells so far
+abbrev pub invariant-loop-place : goal.invariant-loop-place
+invariant-loop-place l = position_or_len is_comma l.cells ≡ l.place + position_or_len is_comma (drop l.place l.cells)

@@ -1,0 +1,9 @@
+use Rattle.std.proofs.Common.{◌≡◌, drop}
+use Rattle.trac_space.specs.Texts.{text_of_cells}
+use Rattle.trac_events.specs.Changes.{is_same}
+use Rattle.trac_events.proofs.change.is_same.Given as goal
+
+-- what is left of both is the same where they are
+abbrev pub invariant-loop-x : goal.invariant-loop-x
+invariant-loop-x l =
+    is_same (text_of_cells (drop l.x-index l.a)) (text_of_cells l.rest) ≡ is_same (text_of_cells l.a) (text_of_cells l.b)

@@ -1,0 +1,9 @@
+use Rattle.std.proofs.Common.{◌≡◌, drop}
+use Rattle.trac_space.specs.Texts.{text_of_cells}
+use Rattle.trac_events.specs.Places.{behind_text}
+use Rattle.trac_events.proofs.place.Place.behind_cells.Given as goal
+
+-- the cells that are left lead from here to the place wanted
+abbrev pub invariant-loop-cell : goal.invariant-loop-cell
+invariant-loop-cell l =
+    behind_text l.place (text_of_cells (drop l.cell-index l.cells)) ≡ behind_text l.initial.place (text_of_cells l.cells)

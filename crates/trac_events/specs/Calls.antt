@@ -1,0 +1,73 @@
+-- Open calls and their arguments.
+use Rattle.std.specs.Prelude.{◌≡◌, ℕ, zero, suc, ◌+◌, ◌-◌, ◌&&◌, ◌||◌, Bool, true, false}
+use Rattle.std.specs.Prelude.{Option, None, MatchOption, List, length, take, drop}
+use Rattle.std.specs.Prelude.{count_by, min, nat_lt, if◌then◌else◌}
+use Rattle.std.specs.List.{position_or_len}
+use Rattle.trac_language.specs.Rule.{rule}
+use Rattle.trac_space.specs.declared.cell.Cell.{Cell}
+use Rattle.trac_space.specs.Cells.{is_call, is_comma, NoCall}
+use Rattle.trac_space.specs.Calls.{IsLastCall}
+use Rattle.trac_functions.specs.Flat.{mode_at, neutral_of}
+use Rattle.trac_core.specs.Machine.{MachineState}
+use Rattle.trac_core.specs.View.{neutral_in, row_of}
+use Rattle.trac_core.specs.Session.{awaited, next_function}
+use Rattle.trac_core.specs.declared.machine.session.Awaits.{Awaits}
+use Rattle.trac_core.specs.declared.machine.session.Awaits.TheVariants.{Nothing, Text, Byte}
+use Rattle.trac_core.specs.declared.machine.view.ScanningRule.{ScanningRule}
+use Rattle.trac_core.specs.declared.machine.view.ScanningRule.TheVariants as row
+use Rattle.trac_events.specs.declared.call.OpenCall.{OpenCall}
+
+-- the call is the innermost one: its mark is the last, and the
+-- calls around it are those whose marks stand before
+pub record IsInnermost (neutral : List Cell) (call : OpenCall) : Type 0 where
+  pub last : IsLastCall neutral call.mark
+  pub mode : call.mode ≡ mode_at neutral call.mark
+  pub depth : call.depth ≡ count_by is_call (take call.mark neutral)
+
+-- the cells behind the mark at a place
+abbrev pub behind_mark : List Cell → ℕ → List Cell
+behind_mark neutral mark = drop (mark + 1) neutral
+
+-- the cells are those behind the last mark
+abbrev pub IsBehindLastMark : (neutral arguments : List Cell) → Type 0
+IsBehindLastMark neutral arguments =
+    (mark : ℕ) × (IsLastCall neutral mark × (arguments ≡ behind_mark neutral mark))
+
+-- argument k of these cells, from 0, which comma marks part
+abbrev pub argument_of : List Cell → ℕ → List Cell
+argument_of cells zero = take (position_or_len is_comma cells) cells
+argument_of cells (suc k) = argument_of (drop (position_or_len is_comma cells + 1) cells) k
+
+-- whether a step reads
+abbrev pub reads : Awaits → Bool
+reads Nothing = false
+reads Text = true
+reads Byte = true
+
+-- whether a rule ends a call
+abbrev pub ends_call : ScanningRule → Bool
+ends_call row.EndOfCall = true
+ends_call _ = false
+
+-- the innermost call of a machine, by the cells of its neutral string; none where it isn't looked for
+abbrev pub SeenCall : Bool → MachineState → Option OpenCall → Type 0
+SeenCall true m call = (neutral : List Cell) × ((neutral_of neutral ≡ neutral_in m.memory)
+    × MatchOption call (NoCall neutral) (IsInnermost neutral))
+SeenCall false m call = call ≡ None
+
+-- the call that the next step performs is looked for where that is asked for or reads
+abbrev pub SeesCall : MachineState → Bool → Option OpenCall → Type 0
+SeesCall m asked call =
+    SeenCall (ends_call (row_of (rule m.memory.active)) && (asked || reads (awaited (next_function m)))) m call
+
+-- how many of the cells of an active string stand before those that were left of one that had so many
+-- cells before its first was taken away
+abbrev pub added : ℕ → List Cell → ℕ
+added before active = min (length active + 1 - before) (length active)
+
+-- the value of a call whose mark stood at a place of the neutral string, where the active string had
+-- so many cells before it was performed: what was added to the active string, or else what stands in
+-- the place of the mark
+abbrev pub value_behind : (mark before : ℕ) → (neutral active : List Cell) → List Cell
+value_behind mark before neutral active =
+    if nat_lt 0 (added before active) then take (added before active) active else drop mark neutral

@@ -1,0 +1,104 @@
+//! What is seen of a machine before a step, and the value of the call after it.
+ghost use Rattle.std.specs.Prelude.{◌≡◌, length};
+ghost use Rattle.trac_language.specs.State.{size};
+ghost use Rattle.trac_language.specs.Rule.{rule};
+ghost use Rattle.trac_core.specs.View.{row_of};
+ghost use Rattle.trac_core.specs.Session.{awaited, next_function};
+ghost use Rattle.trac_events.specs.Calls.{SeesCall, ends_call, reads, value_behind};
+
+use crate::call::{OpenCall, innermost};
+use trac_core::{Awaits, Machine, ScanningRule};
+use trac_space::Cell;
+
+/// What is seen of a machine before a step.
+#[derive(Clone, Copy, Debug, PartialEq, Eq)]
+pub struct Before {
+    /// The steps that were done.
+    pub done: u64,
+    /// The rule that the step follows.
+    pub rule: ScanningRule,
+    /// The cells of both strings and of all forms.
+    pub size: u32,
+    /// What the step reads.
+    pub awaits: Awaits,
+    /// The cells of the active string.
+    pub active: usize,
+    /// The meta character.
+    pub meta: u8,
+    /// The call that the step performs, where it was asked for or reads.
+    pub call: Option<OpenCall>,
+}
+
+impl Before {
+    /// Looks at a machine before a step; at the call that the step performs only where that is
+    /// asked for or reads.
+    pub fn new(machine: &Machine, with_call: bool) -> Before
+        ensures done { result.done ≡ machine.now.steps }
+        ensures rule { result.rule ≡ row_of (rule machine.now.memory.active) }
+        ensures size { result.size ≡ size machine.now.memory }
+        ensures awaits { result.awaits ≡ awaited (next_function machine.now) }
+        ensures active { result.active ≡ length machine.now.memory.active }
+        ensures meta { result.meta ≡ machine.now.memory.meta }
+        ensures call { SeesCall machine.now with_call result.call }
+    {
+        let rule = machine.next_rule();
+        let awaits = machine.awaits();
+        let call = if ends_call(rule) && (with_call || reads(awaits)) {
+            innermost(machine.neutral())
+        } else {
+            None
+        };
+        Before {
+            done: machine.steps(),
+            rule,
+            size: machine.size(),
+            awaits,
+            active: machine.active().len(),
+            meta: machine.meta(),
+            call,
+        }
+    }
+
+    /// The value of the call that the step performed, of the machine after that step.
+    pub fn value<'m>(&self, machine: &'m Machine) -> &'m [Cell] {
+        match self.call {
+            None => &[],
+            Some(call) => value_behind(call, self.active, machine.neutral(), machine.active()),
+        }
+    }
+}
+
+/// The value of a call that was performed, where the active string had so many cells before it: what
+/// stands in the active string before the cells that were left there, and where nothing does, what
+/// stands in the neutral string from the place of the call's mark on.
+pub fn value_behind<'m>(
+    call: OpenCall,
+    before: usize,
+    neutral: &'m [Cell],
+    active: &'m [Cell],
+) -> &'m [Cell]
+    ensures { result.now ≡ value_behind call.mark before neutral.now active.now }
+{
+    let added = (active.len() + 1).saturating_sub(before).min(active.len());
+    if added > 0 {
+        &active[..added]
+    } else if call.mark < neutral.len() {
+        &neutral[call.mark..]
+    } else {
+        &[]
+    }
+}
+
+// Whether a step that follows the rule performs a call, where one is open.
+fn ends_call(rule: ScanningRule) -> bool
+    ensures { result ≡ ends_call rule }
+{
+    matches!(rule, ScanningRule::EndOfCall)
+}
+
+// Whether a step reads.
+fn reads(awaits: Awaits) -> bool
+    ensures { result ≡ reads awaits }
+{
+    matches!(awaits, Awaits::Text | Awaits::Byte)
+}

@@ -1,0 +1,124 @@
+//! Open calls and their arguments.
+ghost use Rattle.std.specs.Prelude.{◌≡◌, ◌+◌, MatchOption, drop};
+ghost use Rattle.std.specs.List.{position_or_len};
+ghost use Rattle.trac_language.specs.Function.{function_named};
+ghost use Rattle.trac_space.specs.Cells.{NoCall, is_call, is_comma};
+ghost use Rattle.trac_space.specs.Texts.{text_of_cells};
+ghost use Rattle.trac_events.specs.Calls.{IsBehindLastMark, IsInnermost, argument_of, behind_mark};
+ghost use Rattle.trac_events.specs.Changes.{pointer_of};
+
+use crate::change::pointer_of;
+use trac_core::Machine;
+use trac_functions::function::function_named;
+use trac_language::Function;
+use trac_space::{Cell, Mode};
+
+/// A call that is open.
+#[derive(Clone, Copy, Debug, PartialEq, Eq)]
+pub struct OpenCall {
+    pub mode: Mode,
+    /// The place of its mark in the neutral string, in cells from 0.
+    pub mark: usize,
+    /// How many calls are open around it.
+    pub depth: usize,
+}
+
+/// The innermost call that is open in a neutral string. None where none is open.
+pub fn innermost(neutral: &[Cell]) -> Option<OpenCall>
+    ensures { MatchOption result (NoCall neutral.now) (IsInnermost neutral.now) }
+{
+    let mut found = None;
+    let mut depth = 0;
+    for (mark, cell) in neutral.iter().enumerate() {
+        if let Cell::Call(mode, _) = *cell {
+            found = Some(OpenCall { mode, mark, depth });
+            depth += 1;
+        }
+    }
+    found
+}
+
+/// The cells behind the mark of an open call: its arguments, with a comma mark between two.
+pub fn arguments_of(neutral: &[Cell], call: OpenCall) -> &[Cell]
+    ensures { result.now ≡ behind_mark neutral.now call.mark }
+{
+    behind(neutral, call.mark)
+}
+
+/// The arguments of the innermost call that is open in a neutral string. None where none is open.
+pub fn arguments_at_end(neutral: &[Cell]) -> Option<&[Cell]>
+    ensures { MatchOption result (NoCall neutral.now) (λ arguments.
+        IsBehindLastMark neutral.now arguments.now) }
+{
+    for mark in (0..neutral.len()).rev() {
+        if let Cell::Call(_, _) = neutral[mark] {
+            return Some(&neutral[mark + 1..]);
+        }
+    }
+    None
+}
+
+/// An argument of a call, from 0, the name of its function; null where the call has no such one.
+pub fn argument(arguments: &[Cell], k: u32) -> &[Cell]
+    ensures { result.now ≡ argument_of arguments.now k }
+{
+    let mut rest = arguments;
+    for _before in 0..k {
+        rest = behind_comma(rest);
+    }
+    &rest[..before_comma(rest)]
+}
+
+// The cells behind the first comma mark, none where there is no such mark.
+fn behind_comma(cells: &[Cell]) -> &[Cell]
+    ensures { result.now ≡ drop (position_or_len is_comma cells.now + 1) cells.now }
+{
+    behind(cells, before_comma(cells))
+}
+
+// The cells behind a place.
+fn behind(cells: &[Cell], place: usize) -> &[Cell]
+    ensures { result.now ≡ drop (place + 1) cells.now }
+{
+    if place < cells.len() {
+        &cells[place + 1..]
+    } else {
+        &[]
+    }
+}
+
+// How many cells stand before the first comma mark.
+fn before_comma(cells: &[Cell]) -> usize
+    ensures { result ≡ position_or_len is_comma cells.now }
+{
+    for (place, cell) in cells.iter().enumerate() {
+        if let Cell::Comma = cell {
+            return place;
+        }
+    }
+    cells.len()
+}
+
+/// What a call names, seen before it is performed.
+#[derive(Clone, Copy)]
+pub struct Named {
+    /// The function, none where no function has the name.
+    pub function: Option<Function>,
+    /// The pointer of the form that is named behind the function, where there is such a form.
+    pub pointer: Option<u32>,
+}
+
+impl Named {
+    /// Looks at what a call with these arguments names.
+    pub fn new(machine: &Machine, arguments: &[Cell]) -> Named
+        ensures function { result.function ≡
+            function_named (text_of_cells (argument_of arguments.now 0)) }
+        ensures pointer { result.pointer ≡
+            pointer_of (text_of_cells (argument_of arguments.now 1)) machine.now.memory.forms }
+    {
+        Named {
+            function: function_named(argument(arguments, 0)),
+            pointer: pointer_of(machine.forms(), argument(arguments, 1)),
+        }
+    }
+}

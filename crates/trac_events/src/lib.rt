@@ -1,0 +1,14 @@
+//! What is seen of a run, step by step: places in the input, open calls and their arguments, the
+//! value of a call that was performed, and what it made of forms. What is shown of a run, and what
+//! is said to be suspicious in it, is made from these. All of it is this processor's own choice.
+#![tactic(auto)]
+
+mod before;
+mod call;
+mod change;
+mod place;
+
+pub use before::{Before, value_behind};
+pub use call::{Named, OpenCall, argument, arguments_at_end, arguments_of, innermost};
+pub use change::{Touched, is_same, pointer_of, touched_by};
+pub use place::{Place, Reading, is_layout};

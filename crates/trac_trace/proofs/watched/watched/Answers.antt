@@ -1,0 +1,40 @@
+use Rattle.std.proofs.Common.{ap, arith, refl}
+use Rattle.trac_core.specs.Machine.{MachineState}
+use Rattle.trac_trace.proofs.Failures.{last-failures}
+use Rattle.trac_trace.proofs.watched.watched.Goals as goal
+
+pub loop-watch-init : goal.loop-watch-init
+loop-watch-init g c =
+    record {
+      not_over = ap (λ (m : MachineState). m.fate) c.over-machine.ensures;
+      source_failures = refl;
+      sink_failures = c.new-printed.ensures.none;
+    }
+
+pub step-fate-requires-clause-source_counts : goal.step-fate-requires-clause-source_counts
+step-fate-requires-clause-source_counts g c = omega (arith, c.loop-watch.invariant.source_failures, c.requires)
+
+pub step-fate-requires-clause-sink_counts : goal.step-fate-requires-clause-sink_counts
+step-fate-requires-clause-sink_counts g c = omega (arith, c.loop-watch.invariant.sink_failures)
+
+pub returns-in-Some : goal.returns-in-Some
+returns-in-Some g c =
+    let i = c.loop-watch.invariant in
+    let told = last-failures c.loop-watch.machine.fate c.in-Some.fate i.not_over in
+    record { input_failed = omega (arith, c.in-Some.ensures.input_failed, told, i.source_failures) }
+
+pub loop-watch-smaller : goal.loop-watch-smaller
+loop-watch-smaller g c =
+    omega (arith, c.in_default.ensures.allowance, (c.in_default.ensures.proceeds refl).0, (c.in_default.ensures.proceeds refl).1)
+
+pub loop-watch-preserved : goal.loop-watch-preserved
+loop-watch-preserved g c =
+    let i = c.loop-watch.invariant in
+    let h = c.in_default.ensures in
+    let source_failed = rw i.not_over at h.input_failed in
+    let sink_failed = rw i.not_over at h.output_failed in
+    record {
+      not_over = h.fate;
+      source_failures = omega (arith, i.source_failures, source_failed);
+      sink_failures = omega (arith, i.sink_failures, sink_failed, c.clear.ensures.counts);
+    }

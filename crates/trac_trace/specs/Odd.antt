@@ -1,0 +1,61 @@
+-- What is odd about calls.
+use Rattle.std.specs.Prelude.{ℕ, ◌==◌, ◌&&◌, Bool, true, false, not, List, [], ◌∷◌, Option, Some, None}
+use Rattle.std.specs.Prelude.{length, nat_le, if◌then◌else◌}
+use Rattle.std.specs.Prelude.{is_none}
+use Rattle.trac_language.specs.Text.{Text}
+use Rattle.trac_language.specs.declared.function.Function.{Function}
+use Rattle.trac_language.specs.declared.function.Function.TheVariants.{CallSegment, CallCharacter}
+use Rattle.trac_language.specs.declared.function.Function.TheVariants.{CallNumber, InitialPart}
+use Rattle.trac_language.specs.declared.function.Function.TheVariants.{Arithmetic}
+use Rattle.trac_space.specs.declared.cell.Cell.{Cell}
+use Rattle.trac_space.specs.Texts.{text_of_cells}
+use Rattle.trac_events.specs.Calls.{argument_of}
+use Rattle.trac_events.specs.Changes.{is_same}
+use Rattle.trac_warnings.specs.Suspicions.{needs_form}
+use Rattle.trac_trace.specs.declared.calls.Oddity.{Oddity}
+use Rattle.trac_trace.specs.declared.calls.Oddity.TheVariants.{NoFunction, NoForm, Default}
+
+-- the function takes a part of a form
+abbrev pub takes_part : Function → Bool
+takes_part CallSegment = true
+takes_part CallCharacter = true
+takes_part CallNumber = true
+takes_part InitialPart = true
+takes_part _ = false
+
+-- a text ends in the digits of a number that isn't 0, where the text before it did or didn't
+abbrev pub has_number : Bool → Text → Bool
+has_number found [] = found
+has_number found (c ∷ text) =
+    has_number (if c == 48 then found else (nat_le 49 c && nat_le c 57)) text
+
+-- with this second argument more than null is asked for
+abbrev pub asks_for_part : Function → List Cell → Bool
+asks_for_part CallNumber second = has_number false (text_of_cells second)
+asks_for_part InitialPart second = not (length second == 0)
+asks_for_part _ second = true
+
+-- the value is the default value: of arithmetic where it is the same text, and of a part where one
+-- was asked for and the pointer stays
+abbrev pub is_default : Function → List Cell → List Cell → Bool → Bool
+is_default (Arithmetic operation) arguments value stays =
+    is_same (text_of_cells value) (text_of_cells (argument_of arguments 3))
+is_default function arguments value stays =
+    stays && (takes_part function && asks_for_part function (argument_of arguments 2))
+
+-- the pointers are the same, or there is none
+abbrev pub same_pointer : Option ℕ → Option ℕ → Bool
+same_pointer None None = true
+same_pointer None (Some b) = false
+same_pointer (Some a) None = false
+same_pointer (Some a) (Some b) = a == b
+
+-- what is odd about a call of a function or of none, by the pointer of the form that it names,
+-- before it and after it
+abbrev pub oddity_of : Option Function → Option ℕ → List Cell → List Cell → Option ℕ → Option Oddity
+oddity_of None before arguments value after =
+    if length (argument_of arguments 0) == 0 then None else Some NoFunction
+oddity_of (Some function) before arguments value after =
+    if needs_form function && is_none before then Some NoForm
+    else (if is_default function arguments value (same_pointer before after) then Some Default
+    else None)

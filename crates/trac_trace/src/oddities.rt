@@ -1,0 +1,87 @@
+//! What is odd about calls.
+ghost use Rattle.std.specs.Prelude.{◌≡◌, false};
+ghost use Rattle.trac_trace.specs.Odd.{asks_for_part, is_default, oddity_of};
+ghost use Rattle.trac_trace.specs.Odd.{has_number, takes_part};
+ghost use Rattle.trac_space.specs.Texts.{text_of_cells};
+
+use crate::calls::Oddity;
+use trac_core::Cell;
+use trac_events::{Named, argument, is_same};
+use trac_language::Function;
+use trac_space::character_of;
+use trac_warnings::needs_form;
+
+/// What is odd about a call with these arguments and this value, by what it named before it was
+/// performed, and by the pointer of that form after it: that no function has its name, that no form
+/// has the name that its function needs, or that its value is its default value. The value of
+/// arithmetic is taken for its default where it is the same text.
+pub fn oddity_of(
+    named: &Named,
+    arguments: &[Cell],
+    value: &[Cell],
+    pointer: Option<u32>,
+) -> Option<Oddity>
+    ensures { result ≡
+        oddity_of named.now.function named.now.pointer arguments.now value.now pointer }
+{
+    match named.function {
+        None if argument(arguments, 0).is_empty() => None,
+        None => Some(Oddity::NoFunction),
+        Some(function) if needs_form(function) && named.pointer.is_none() => Some(Oddity::NoForm),
+        Some(function) if is_default(function, arguments, value, named.pointer == pointer) => {
+            Some(Oddity::Default)
+        }
+        Some(_) => None,
+    }
+}
+
+// Whether a function takes a part of a form.
+fn takes_part(function: Function) -> bool
+    ensures { result ≡ takes_part function }
+{
+    match function {
+        Function::CallSegment
+        | Function::CallCharacter
+        | Function::CallNumber
+        | Function::InitialPart => true,
+        _ => false,
+    }
+}
+
+// Whether the value is the default value: of arithmetic where it is the same text, and of a part
+// where one was asked for and the pointer stays.
+fn is_default(function: Function, arguments: &[Cell], value: &[Cell], stays: bool) -> bool
+    ensures { result ≡ is_default function arguments.now value.now stays }
+{
+    match function {
+        Function::Arithmetic(_) => is_same(value, argument(arguments, 3)),
+        _ => stays && takes_part(function) && asks_for_part(function, argument(arguments, 2)),
+    }
+}
+
+// Whether a call of a function that takes a part, with this second argument, asks for more than
+// null: for a number of characters that isn't 0, or for those before a text that isn't null.
+fn asks_for_part(function: Function, second: &[Cell]) -> bool
+    ensures { result ≡ asks_for_part function second.now }
+{
+    match function {
+        Function::CallNumber => has_number(second),
+        Function::InitialPart => !second.is_empty(),
+        _ => true,
+    }
+}
+
+// Whether a text ends in the digits of a number that isn't 0.
+fn has_number(cells: &[Cell]) -> bool
+    ensures { result ≡ has_number false (text_of_cells cells.now) }
+{
+    let mut found = false;
+    for cell in cells {
+        found = match character_of(cell) {
+            b'0' => found,
+            b'1'..=b'9' => true,
+            _ => false,
+        };
+    }
+    found
+}

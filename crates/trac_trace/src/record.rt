@@ -1,0 +1,48 @@
+//! A reader that keeps what it reads.
+ghost use Rattle.std.specs.Io.{ReadsAtMost};
+ghost use Rattle.std.specs.Io.KnownBytes.{ReadConsumes};
+
+use std::alloc::Global;
+use std::io;
+use std::io::Read;
+
+/// The bytes that were read.
+#[derive(Drop)]
+pub struct Record {
+    /// The bytes, as far as there was memory for them.
+    pub bytes: Vec<u8>,
+    /// There was memory for all of them.
+    pub is_whole: bool,
+}
+
+impl Record {
+    /// Nothing read yet.
+    pub fn new(alloc: Global) -> Record {
+        Record {
+            bytes: Vec::new(alloc),
+            is_whole: true,
+        }
+    }
+}
+
+/// A reader that reads what another one gives, and keeps it.
+#[derive(Drop)]
+pub struct Recording<'r, R> {
+    pub reader: R,
+    pub record: &'r mut Record,
+}
+
+impl<R: Read> Read for Recording<'_, R> {
+    ghost remaining = { λ r. R.remaining r.reader };
+
+    fn read(&mut self, buf: &mut [u8]) -> io::Result<usize>
+        ensures bound { ReadsAtMost result buf.new }
+        ensures bytes { ReadConsumes (R.remaining self.old.reader) (R.remaining self.new.reader)
+            result buf.new }
+    {
+        let count = self.reader.read(buf)?;
+        let is_kept = self.record.bytes.extend_from_slice(&buf[..count]).is_ok();
+        self.record.is_whole = self.record.is_whole && is_kept;
+        Ok(count)
+    }
+}

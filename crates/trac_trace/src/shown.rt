@@ -1,0 +1,253 @@
+//! What is shown of a run, as it goes on.
+ghost use Rattle.std.specs.Prelude.{◌≡◌, ◌++◌, OnOk};
+ghost use Rattle.trac_trace.specs.Told.{meta_text};
+
+use crate::calls::Called;
+use crate::deleted::push_deleted;
+use crate::events::{Event, push_event};
+use crate::faults::{is_fault, push_fault};
+use crate::forms::{find_form, push_form, push_forms};
+use crate::lines::{Step, head, push, push_byte, push_end};
+use crate::oddities::oddity_of;
+use crate::views::Views;
+use std::alloc::{AllocError, Global};
+use trac_core::{Awaits, Cell, Fate, Machine, Report};
+use trac_events::{
+    Before, Named, OpenCall, Reading, Touched, argument, arguments_of, pointer_of, touched_by,
+};
+
+/// The lines of the views of a run, and what they are made from.
+#[derive(Drop)]
+pub struct Shown {
+    alloc: Global,
+    views: Views,
+    // The lines of the step that was seen last.
+    lines: Vec<u8>,
+    // The arguments of the call that the step performs, what it names, and the forms that it deletes.
+    arguments: Vec<Cell>,
+    named: Named,
+    deleted: Vec<u8>,
+    // The form that it makes or changes.
+    form: Vec<u8>,
+    reading: Reading,
+    peak: u32,
+}
+
+impl Shown {
+    /// Before the first step. The lines are those that stand above all others.
+    pub fn new(alloc: Global, views: Views) -> Result<Shown, AllocError> {
+        let mut lines = Vec::new(alloc);
+        push(&mut lines, head(&views))?;
+        Ok(Shown {
+            alloc,
+            views,
+            lines,
+            arguments: Vec::new(alloc),
+            named: Named {
+                function: None,
+                pointer: None,
+            },
+            deleted: Vec::new(alloc),
+            form: Vec::new(alloc),
+            reading: Reading::first(),
+            peak: 0,
+        })
+    }
+
+    /// The lines of the step that was seen last.
+    pub fn lines(&self) -> &[u8] {
+        self.lines.as_slice()
+    }
+
+    /// Looks at a machine before a step. An error is want of memory.
+    pub fn look(&mut self, machine: &Machine) -> Result<Before, AllocError> {
+        self.lines.clear();
+        let is_shown = self.views.has(machine.steps().saturating_add(1));
+        let with_call = is_shown && !self.views.has_steps();
+        let before = Before::new(machine, with_call);
+        if with_call && let Some(call) = before.call {
+            self.look_at_call(machine, call)?;
+        }
+        Ok(before)
+    }
+
+    // Keeps what is to be known of a call once it is performed.
+    fn look_at_call(&mut self, machine: &Machine, call: OpenCall) -> Result<(), AllocError> {
+        let arguments = arguments_of(machine.neutral(), call);
+        let named = Named::new(machine, arguments);
+        self.named = named;
+        self.arguments.clear();
+        self.arguments.extend_from_slice(arguments)?;
+        self.deleted.clear();
+        let touched = touched_of(&named);
+        let forms = machine.forms();
+        push_deleted(
+            &mut self.deleted,
+            self.alloc,
+            touched,
+            arguments,
+            forms,
+            self.views.width,
+        )
+    }
+
+    /// Tells what a step did, of the machine after it. An error is want of memory.
+    pub fn tell(
+        &mut self,
+        before: &Before,
+        machine: &Machine,
+        fate: Option<Fate>,
+        need: u32,
+        printed: &[u8],
+    ) -> Result<(), AllocError> {
+        self.peak = self.peak.max(need);
+        let value = match fate {
+            None => before.value(machine),
+            Some(_) => &[],
+        };
+        self.reading = read(self.reading, before, fate, value);
+        if !self.views.has(before.done.saturating_add(1)) {
+            return Ok(());
+        }
+        if machine.steps() > before.done {
+            self.tell_step(before, machine, need)?;
+            self.tell_call(before, machine, value, printed)?;
+        }
+        self.show(&Event::Printed(printed))
+    }
+
+    // Adds the lines of an event.
+    fn show(&mut self, event: &Event) -> Result<(), AllocError> {
+        push_event(&mut self.lines, self.alloc, &self.views, event)
+    }
+
+    // Tells that a step was done.
+    fn tell_step(
+        &mut self,
+        before: &Before,
+        machine: &Machine,
+        need: u32,
+    ) -> Result<(), AllocError> {
+        let step = Step {
+            number: machine.steps(),
+            rule: before.rule,
+            size: before.size,
+            need,
+        };
+        self.show(&Event::Done(step, machine.neutral(), machine.active()))
+    }
+
+    // Tells the call that a step performed, if it did.
+    fn tell_call(
+        &mut self,
+        before: &Before,
+        machine: &Machine,
+        value: &[Cell],
+        printed: &[u8],
+    ) -> Result<(), AllocError> {
+        let Some(call) = before.call else {
+            return Ok(());
+        };
+        if self.views.has_steps() {
+            return Ok(());
+        }
+        let arguments = self.arguments.as_slice();
+        let name = argument(arguments, 1);
+        let pointer = pointer_of(machine.forms(), name);
+        self.form.clear();
+        push_touched(
+            &mut self.form,
+            self.alloc,
+            &self.named,
+            machine,
+            name,
+            self.views.width,
+        )?;
+        let called = Called {
+            number: machine.steps(),
+            mode: call.mode,
+            depth: call.depth,
+            arguments,
+            value,
+            printed,
+            form: self.form.as_slice(),
+            deleted: self.deleted.as_slice(),
+            oddity: oddity_of(&self.named, arguments, value, pointer),
+        };
+        push_event(
+            &mut self.lines,
+            self.alloc,
+            &self.views,
+            &Event::Called(called),
+        )
+    }
+
+    /// Tells how the run ended. An error is want of memory.
+    pub fn tell_end(&mut self, fate: Fate, machine: &Machine) -> Result<(), AllocError> {
+        let report = Report {
+            fate,
+            steps: machine.steps(),
+            peak: self.peak,
+        };
+        push_end(&mut self.lines, &report)?;
+        let width = self.views.width;
+        if self.views.forms {
+            push_forms(&mut self.lines, self.alloc, machine.forms(), width)?;
+            push_meta(&mut self.lines, machine.meta())?;
+        }
+        if !is_fault(fate) {
+            return Ok(());
+        }
+        push_fault(
+            &mut self.lines,
+            self.alloc,
+            machine,
+            self.reading.string,
+            width,
+        )
+    }
+}
+
+// The forms that a call of what it names can make, change or delete.
+fn touched_of(named: &Named) -> Touched {
+    match named.function {
+        Some(function) => touched_by(function),
+        None => Touched::Nothing,
+    }
+}
+
+// Adds the form of this name, where the call can have made or changed it.
+fn push_touched(
+    text: &mut Vec<u8>,
+    alloc: Global,
+    named: &Named,
+    machine: &Machine,
+    name: &[Cell],
+    width: u32,
+) -> Result<(), AllocError> {
+    if touched_of(named) != Touched::First {
+        return Ok(());
+    }
+    match find_form(machine.forms(), name) {
+        Some(form) => push_form(text, alloc, &form, width),
+        None => Ok(()),
+    }
+}
+
+// Adds the line of the meta character.
+fn push_meta(lines: &mut Vec<u8>, meta: u8) -> Result<(), AllocError>
+    ensures { OnOk result (lines.new.items ≡ lines.old.items ++ meta_text meta) }
+{
+    push(lines, b"meta character: ")?;
+    push_byte(lines, meta)?;
+    push(lines, b"\n")
+}
+
+// Where the input is read behind a step with this value.
+fn read(reading: Reading, before: &Before, fate: Option<Fate>, value: &[Cell]) -> Reading {
+    match before.awaits {
+        Awaits::Text if fate.is_none() => reading.behind_string(value, before.meta),
+        Awaits::Byte if fate.is_none() => reading.behind_character(value),
+        _ => reading,
+    }
+}

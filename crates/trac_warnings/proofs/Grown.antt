@@ -1,0 +1,17 @@
+-- The first items of a list, and one more.
+use Rattle.std.proofs.Common.{◌≡◌, ◌<◌, ◌+◌, ◌∙◌, ℕ, zero, suc, ap, List, [], ◌∷◌, ◌++◌, length, take, Some, None, arith}
+use Rattle.std.specs.Prelude.{slice_get, option_to_list}
+
+module _ {A : Type 0} where
+  next : (xs : List A) (k : ℕ) (x : A) → slice_get xs k ≡ Some x → take (suc k) xs ≡ take k xs ++ x ∷ []
+  next [] k x is = absurd cc
+  next (y ∷ xs) zero x is = ap option_to_list is
+  next (y ∷ xs) (suc k) x is = ap (λ t. y ∷ t) (next xs k x is)
+
+  pub grown : (xs : List A) (k : ℕ) (x : A) → slice_get xs k ≡ Some x → take (k + 1) xs ≡ take k xs ++ x ∷ []
+  grown xs k x is = let e : k + 1 ≡ suc k = omega arith in ap (λ n. take n xs) e ∙ next xs k x is
+
+  pub is_there : (xs : List A) (k : ℕ) → slice_get xs k ≡ None → k < length xs → ⊥
+  is_there [] k is less = omega arith
+  is_there (y ∷ xs) zero is less = absurd cc
+  is_there (y ∷ xs) (suc k) is less = is_there xs k is (omega arith)

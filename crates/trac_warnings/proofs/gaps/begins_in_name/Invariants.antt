@@ -1,0 +1,9 @@
+use Rattle.std.proofs.Common.{◌≡◌, drop}
+use Rattle.trac_space.specs.Texts.{text_of_cells}
+use Rattle.trac_warnings.specs.Gaps.{begins_in_name}
+use Rattle.trac_warnings.proofs.gaps.begins_in_name.Given as goal
+
+-- the text begins at no place of the name so far
+abbrev pub invariant-loop-i : goal.invariant-loop-i
+invariant-loop-i l =
+    begins_in_name (text_of_cells l.text) (drop l.i l.items) ≡ begins_in_name (text_of_cells l.text) l.items

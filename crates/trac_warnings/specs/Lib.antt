@@ -1,0 +1,3 @@
+pub mod Suspicions
+pub mod Gaps
+pub mod Strings

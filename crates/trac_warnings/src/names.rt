@@ -1,0 +1,57 @@
+//! Names of calls.
+ghost use Rattle.std.specs.Prelude.{◌≡◌};
+ghost use Rattle.trac_space.specs.Texts.{text_of_cells};
+ghost use Rattle.trac_warnings.specs.Suspicions.{is_left_out, needs_form, suspicion_of_name};
+
+use crate::warning::Suspicion;
+use trac_functions::function::function_named;
+use trac_language::Function;
+use trac_space::{Cell, character_of};
+
+/// What is suspicious in the name of a call. None in that of a function, nor in the null name, which
+/// is that of a remark.
+pub fn suspicion_of_name(name: &[Cell]) -> Option<Suspicion>
+    ensures { result ≡ suspicion_of_name (text_of_cells name.now) }
+{
+    if name.is_empty() || function_named(name).is_some() {
+        return None;
+    }
+    if is_left_out(name) {
+        return Some(Suspicion::LeftOut);
+    }
+    Some(Suspicion::NoFunction)
+}
+
+/// Whether a name is that of a function of the language that this processor leaves out, in letters
+/// of either case: one of external blocks, of the trace or of modes.
+pub fn is_left_out(name: &[Cell]) -> bool
+    ensures { result ≡ is_left_out (text_of_cells name.now) }
+{
+    let [first, second] = name else {
+        return false;
+    };
+    matches!(
+        (
+            character_of(first).to_ascii_lowercase(),
+            character_of(second).to_ascii_lowercase(),
+        ),
+        (b's' | b'f' | b'e', b'b') | (b't', b'n' | b'f') | (b'm', b'o')
+    )
+}
+
+/// Whether a call of a function does nothing where no form has the name behind the function's.
+pub fn needs_form(function: Function) -> bool
+    ensures { result ≡ needs_form function }
+{
+    match function {
+        Function::SegmentString
+        | Function::PrintForm
+        | Function::CallForm
+        | Function::CallSegment
+        | Function::CallCharacter
+        | Function::CallNumber
+        | Function::InitialPart
+        | Function::CallRestore => true,
+        _ => false,
+    }
+}
