@@ -1,5 +1,5 @@
 """Each script of the manual, through the built programs: it writes what the manual prints after it,
-and takes the steps that the manual shows."""
+takes the steps that the manual shows, and gives its warnings."""
 import os
 import re
 import unittest
@@ -10,6 +10,9 @@ LINES = r'((?:(?!```).*\n)*)'
 PAIR = re.compile(rf'^```trac\n{LINES}```\n```output\n{LINES}```$', re.MULTILINE)
 PRINTED = r'(?:```output\n(?:(?!```).*\n)*```\n)?'
 TRACE = re.compile(rf'^```trac\n{LINES}```\n{PRINTED}```trace(.*)\n{LINES}```$', re.MULTILINE)
+
+SUSPICIOUS = 'When a script prints nothing, or the wrong thing'
+WARNINGS = re.compile(rf'^```warnings\n{LINES}```$', re.MULTILINE)
 
 
 def read():
@@ -37,6 +40,16 @@ class Manual(unittest.TestCase):
             with self.subTest(script=script):
                 lines, _ = trace(script[:-1].encode(), *words.split())
                 self.assertTrue(shows(shown.splitlines(), lines), lines)
+
+    def test_warnings(self):
+        part = read().split(f'\n## {SUSPICIOUS}\n')[1].split('\n## ')[0]
+        scripts = part.split('```trac\n')[1:]
+        self.assertGreater(len(scripts), 4)
+        for text in scripts:
+            script, behind = text.split('```\n', 1)
+            with self.subTest(script=script):
+                wanted = ''.join(WARNINGS.findall(behind)).splitlines()
+                self.assertEqual(trace(script[:-1].encode(), '--warn'), (wanted, 0))
 
     def test_names_of_rules(self):
         head = '| The active string begins with | Name | What happens |\n|---|---|---|\n'

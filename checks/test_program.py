@@ -6,7 +6,7 @@ import subprocess
 import tempfile
 import unittest
 
-from trac import LAUNCHER, PROGRAM, TRACER, run
+from trac import LAUNCHER, PROGRAM, TERMINAL, TRACER, run
 
 HELLO = "#(ps,hello)'"
 LOOP = "#(ds,L,(#(cl,L)))#(cl,L)'"
@@ -106,6 +106,18 @@ class Program(unittest.TestCase):
             output, lines, status = run(HELLO, word)
             self.assertEqual((lines, status), ('', 0))
             self.assertIn(b'--cells <N>', output)
+
+    def test_a_usage_that_shows_where_the_script_is(self):
+        for program, usage in ((PROGRAM, 'trac [OPTIONS] < SCRIPT'),
+                               (TRACER, 'trac_trace [OPTIONS] < SCRIPT'),
+                               (TERMINAL, 'trac_terminal [OPTIONS] [FILE ..]')):
+            with self.subTest(program=program):
+                told = subprocess.run([program, '--help'], capture_output=True, check=True)
+                self.assertIn(f'\nUsage: {usage}\n', told.stdout.decode())
+        for program, name in ((PROGRAM, 'trac'), (TRACER, 'trac_trace')):
+            with self.subTest(program=program):
+                done = subprocess.run([program, 'file.trac'], input=b'', capture_output=True)
+                self.assertIn(f'\nUsage: {name} [OPTIONS] < SCRIPT\n', done.stderr.decode())
 
     def test_a_help_that_is_not_written(self):
         for program in (PROGRAM, TRACER):
