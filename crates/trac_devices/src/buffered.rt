@@ -1,7 +1,6 @@
 //! Buffers of fixed size in front of a reader and behind a writer.
 ghost use Rattle.std.specs.Prelude.{◌≡◌, ◌+◌, ◌≤◌, ◌<◌, length, take, slice_range, true, false};
-ghost use Rattle.std.specs.Prelude.{IfErr, IfOk, OnErr, OnOk};
-ghost use Rattle.std.specs.IoError.{error_kind};
+ghost use Rattle.std.specs.Prelude.{IfOk, OnErr, OnOk};
 ghost use Rattle.std.specs.Io.{ReadsAtMost, WritesAtMost};
 ghost use Rattle.std.specs.Io.KnownBytes.{Appends, IsAtEnd, Keeps, ReadConsumes, WriteAppends};
 ghost use Rattle.trac_space.specs.Texts.{text_of_cells};
@@ -33,7 +32,7 @@ impl<R: Read> BufferedReader<R> {
     pub fn new(reader: R) -> BufferedReader<R>
         ensures nothing { (result.start ≡ 0) × (result.end ≡ 0) }
         ensures reader { result.device.reader ≡ reader }
-        ensures fresh { (result.device.failures ≡ 0) × (result.device.has_ended ≡ false) }
+        ensures fresh { result.device.failures ≡ 0 }
     {
         BufferedReader {
             device: InputDevice::new(reader),
@@ -62,15 +61,21 @@ impl<R: Read> BufferedReader<R> {
         self.start += count;
     }
 
+    /// The number of failed reads so far.
+    pub fn failures(&self) -> u64
+        ensures reads { result ≡ self.now.device.failures }
+    {
+        self.device.failures()
+    }
+
     // Reads once where nothing is held.
     fn fill(&mut self) -> io::Result<()>
         ensures bytes { Keeps (unread R.remaining self.old) (unread R.remaining self.new) }
         ensures failures { Counts self.old.device.failures self.new.device.failures result }
-        ensures kind { IfErr result (λ e. self.new.device.last_failure ≡ Some (error_kind e)) }
         ensures held { self.old.start < self.old.end →
             (self.new.device ≡ self.old.device) × (self.new.start < self.new.end) }
         ensures end { OnOk result (self.new.start ≡ self.new.end →
-            IsAtEnd (R.remaining self.new.device.reader) × (self.new.device.has_ended ≡ true)) }
+            IsAtEnd (R.remaining self.new.device.reader)) }
         ensures err { OnErr result (self.new.start ≡ self.new.end) }
     {
         if self.start < self.end {
@@ -91,10 +96,9 @@ impl<R: Read> BufferedReader<R> {
         ensures bytes { ReadConsumes (unread R.remaining self.old) (unread R.remaining self.new)
             result buf.new }
         ensures failures { Counts self.old.device.failures self.new.device.failures result }
-        ensures kind { IfErr result (λ e. self.new.device.last_failure ≡ Some (error_kind e)) }
         ensures held { self.old.start < self.old.end → self.new.device ≡ self.old.device }
         ensures end { IfOk result (λ n.
-            n ≡ 0 → 0 < length buf.new → self.new.device.has_ended ≡ true) }
+            n ≡ 0 → 0 < length buf.new → IsAtEnd (unread R.remaining self.new)) }
     {
         self.fill()?;
         let n = (self.end - self.start).min(buf.len());
@@ -115,10 +119,9 @@ impl<R: Read> Read for BufferedReader<R> {
         ensures bytes { ReadConsumes (unread R.remaining self.old) (unread R.remaining self.new)
             result buf.new }
         ensures failures { Counts self.old.device.failures self.new.device.failures result }
-        ensures kind { IfErr result (λ e. self.new.device.last_failure ≡ Some (error_kind e)) }
         ensures held { self.old.start < self.old.end → self.new.device ≡ self.old.device }
         ensures end { IfOk result (λ n.
-            n ≡ 0 → 0 < length buf.new → self.new.device.has_ended ≡ true) }
+            n ≡ 0 → 0 < length buf.new → IsAtEnd (unread R.remaining self.new)) }
     {
         if buf.len() == 1 && self.start < self.end {
             buf[0] = self.bytes[self.start];
@@ -158,11 +161,17 @@ impl<W: Write> BufferedWriter<W> {
         }
     }
 
+    /// The number of failed writes and flushes so far.
+    pub fn failures(&self) -> u64
+        ensures writes { result ≡ self.now.device.failures }
+    {
+        self.device.failures()
+    }
+
     // Writes all that waits. After a failure the rest waits on.
     fn write_out(&mut self) -> io::Result<()>
         ensures bytes { Keeps (accepted W.contents self.old) (accepted W.contents self.new) }
         ensures failures { Counts self.old.device.failures self.new.device.failures result }
-        ensures kind { IfErr result (λ e. self.new.device.last_failure ≡ Some (error_kind e)) }
         ensures empty { OnOk result ((self.new.start ≡ 0) × (self.new.end ≡ 0)) }
         ensures rest { OnErr result (WaitsOn self.old self.new) }
     {
@@ -179,7 +188,6 @@ impl<W: Write> BufferedWriter<W> {
     fn make_room(&mut self) -> io::Result<()>
         ensures bytes { Keeps (accepted W.contents self.old) (accepted W.contents self.new) }
         ensures failures { Counts self.old.device.failures self.new.device.failures result }
-        ensures kind { IfErr result (λ e. self.new.device.last_failure ≡ Some (error_kind e)) }
         ensures same { self.old.end < 8192 → self.new ≡ self.old }
         ensures room { OnOk result (self.new.end < 8192) }
         ensures rest { OnErr result (WaitsOn self.old self.new) }
@@ -197,7 +205,6 @@ impl<W: Write> BufferedWriter<W> {
         ensures bytes { WriteAppends (accepted W.contents self.old) (accepted W.contents self.new)
             result buf.now }
         ensures failures { Counts self.old.device.failures self.new.device.failures result }
-        ensures kind { IfErr result (λ e. self.new.device.last_failure ≡ Some (error_kind e)) }
         ensures some { IfOk result (λ n. 0 < length buf.now → 0 < n) }
         ensures room { self.old.end < 8192 → self.new.device ≡ self.old.device }
         ensures rest { OnErr result (WaitsOn self.old self.new) }
@@ -215,7 +222,6 @@ impl<W: Write> BufferedWriter<W> {
         ensures bytes { WriteAppends (accepted W.contents self.old) (accepted W.contents self.new)
             result (text_of_cells text.now) }
         ensures failures { Counts self.old.device.failures self.new.device.failures result }
-        ensures kind { IfErr result (λ e. self.new.device.last_failure ≡ Some (error_kind e)) }
         ensures some { IfOk result (λ n. 0 < length text.now → 0 < n) }
         ensures room { self.old.end < 8192 → self.new.device ≡ self.old.device }
         ensures rest { OnErr result (WaitsOn self.old self.new) }
@@ -236,7 +242,6 @@ fn write_until_failure<W: Write>(bytes: &[u8], to: &mut OutputDevice<W>) -> (usi
     ensures bytes { Appends (W.contents to.old.writer) (W.contents to.new.writer)
         (take result.0 bytes.now) }
     ensures failures { Counts to.old.failures to.new.failures result.1 }
-    ensures kind { IfErr result.1 (λ e. to.new.last_failure ≡ Some (error_kind e)) }
 {
     let mut written = 0;
     while written < bytes.len() {
@@ -259,7 +264,6 @@ impl<W: Write> Write for BufferedWriter<W> {
         ensures bytes { WriteAppends (accepted W.contents self.old) (accepted W.contents self.new)
             result buf.now }
         ensures failures { Counts self.old.device.failures self.new.device.failures result }
-        ensures kind { IfErr result (λ e. self.new.device.last_failure ≡ Some (error_kind e)) }
         ensures some { IfOk result (λ n. 0 < length buf.now → 0 < n) }
         ensures room { self.old.end < 8192 → self.new.device ≡ self.old.device }
         ensures rest { OnErr result (WaitsOn self.old self.new) }
@@ -275,7 +279,6 @@ impl<W: Write> Write for BufferedWriter<W> {
     fn flush(&mut self) -> io::Result<()>
         ensures bytes { Keeps (accepted W.contents self.old) (accepted W.contents self.new) }
         ensures failures { Counts self.old.device.failures self.new.device.failures result }
-        ensures kind { IfErr result (λ e. self.new.device.last_failure ≡ Some (error_kind e)) }
         ensures empty { OnOk result ((self.new.start ≡ 0) × (self.new.end ≡ 0)) }
         ensures flushed { OnOk result (self.new.device.is_flushed ≡ true) }
     {

@@ -17,7 +17,6 @@ use trac_forms::Work;
 pub struct Input<R> {
     reader: BufferedReader<RetryingReader<R>>,
     ended: bool,
-    failures: u64,
 }
 
 impl<R: Read> Input<R> {
@@ -31,7 +30,6 @@ impl<R: Read> Input<R> {
         Input {
             reader: BufferedReader::new(RetryingReader::new(reader)),
             ended: false,
-            failures: 0,
         }
     }
 }
@@ -41,7 +39,7 @@ impl<R: Read> Source for Input<R> {
 
     ghost stream = { λ s. told_stream (unread (λ r. R.remaining r.reader) s.reader) s.ended };
 
-    ghost failure_count = { λ s. s.failures };
+    ghost failure_count = { λ s. s.reader.device.failures };
 
     fn take_held(&mut self, stop: u8, work: &mut Work) {
         let count = work.push_before(stop, self.reader.held());
@@ -49,7 +47,7 @@ impl<R: Read> Source for Input<R> {
     }
 
     fn next(&mut self) -> Next
-        requires { self.old.failures < 2 ^ 64 - 1 }
+        requires { self.old.reader.device.failures < 2 ^ 64 - 1 }
         ensures ended { self.old.ended ≡ true → (result ≡ Next.End) × (self.new ≡ self.old) }
         ensures gives { let old = unread (λ r. R.remaining r.reader) self.old.reader in
             let new = unread (λ r. R.remaining r.reader) self.new.reader in
@@ -58,7 +56,8 @@ impl<R: Read> Source for Input<R> {
         ensures told { let old = unread (λ r. R.remaining r.reader) self.old.reader in
             let new = unread (λ r. R.remaining r.reader) self.new.reader in
             IfTells old self.old.ended → IfTells new self.new.ended }
-        ensures counts { self.new.failures ≡ self.old.failures + failures_of_next result }
+        ensures counts { self.new.reader.device.failures ≡
+            self.old.reader.device.failures + failures_of_next result }
     {
         if self.ended {
             return Next::End;
@@ -70,14 +69,11 @@ impl<R: Read> Source for Input<R> {
                 Next::End
             }
             Ok(_) => Next::Byte(byte[0]),
-            Err(_) => {
-                self.failures += 1;
-                Next::Failed
-            }
+            Err(_) => Next::Failed,
         }
     }
 
     fn failures(&self) -> u64 {
-        self.failures
+        self.reader.failures()
     }
 }

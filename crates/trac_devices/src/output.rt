@@ -15,7 +15,6 @@ use trac_space::Cell;
 #[derive(Drop)]
 pub struct Output<W> {
     writer: BufferedWriter<RetryingWriter<W>>,
-    failures: u64,
 }
 
 impl<W: Write> Output<W> {
@@ -27,7 +26,6 @@ impl<W: Write> Output<W> {
     {
         Output {
             writer: BufferedWriter::new(RetryingWriter::new(writer)),
-            failures: 0,
         }
     }
 }
@@ -39,7 +37,7 @@ impl<W: Write> Sink for Output<W> {
 
     ghost flushed = { λ s. (s.writer.start ≡ s.writer.end) × (s.writer.device.is_flushed ≡ true) };
 
-    ghost failure_count = { λ s. s.failures };
+    ghost failure_count = { λ s. s.writer.device.failures };
 
     ghost lent = { λ _. 0 };
 
@@ -47,10 +45,7 @@ impl<W: Write> Sink for Output<W> {
     fn put(&mut self, byte: u8) -> Result<(), SinkFailed> {
         match self.writer.write(&[byte]) {
             Ok(1) => Ok(()),
-            _ => {
-                self.failures += 1;
-                Err(SinkFailed)
-            }
+            _ => Err(SinkFailed),
         }
     }
 
@@ -59,10 +54,7 @@ impl<W: Write> Sink for Output<W> {
         while taken < text.len() {
             match self.writer.write_cells(&text[taken..]) {
                 Ok(count) => taken += count,
-                Err(_) => {
-                    self.failures += 1;
-                    return Err(SinkFailed);
-                }
+                Err(_) => return Err(SinkFailed),
             }
         }
         Ok(())
@@ -71,14 +63,11 @@ impl<W: Write> Sink for Output<W> {
     fn flush(&mut self) -> Result<(), SinkFailed> {
         match self.writer.flush() {
             Ok(()) => Ok(()),
-            Err(_) => {
-                self.failures += 1;
-                Err(SinkFailed)
-            }
+            Err(_) => Err(SinkFailed),
         }
     }
 
     fn failures(&self) -> u64 {
-        self.failures
+        self.writer.failures()
     }
 }

@@ -21,5 +21,5 @@ returns-clause-bytes g c =
           let size = length-append c.copy_from_slice.new.self (drop n buf) in
           let empty : filled.start ≡ filled.end = omega (arith, length-drop n buf) in
           let waiting = ap (λ k. take k (drop (filled.start + n) filled.bytes)) {y = 0} (omega arith) in
-          at_end rest (slice_range filled.bytes (filled.start + n) filled.end) waiting (c.in_ok-fill.ensures.end empty).0,
+          at_end rest (slice_range filled.bytes (filled.start + n) filled.end) waiting (c.in_ok-fill.ensures.end empty),
     )

@@ -23,7 +23,7 @@ loop-taken-preserved g c =
     let joined = ap (λ l. take done xs ++ l) part ∙ sym (take-add done n xs) in
     record {
       within = omega (arith, few, before.within);
-      counts = before.counts;
+      counts = c.in-Ok.ensures.failures ∙ before.counts;
       appends = subst (Appends _ _) joined (Appends-trans _ _ _ _ _ before.appends c.in-Ok.ensures.bytes);
     }
 

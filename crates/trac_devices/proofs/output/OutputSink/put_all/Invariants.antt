@@ -11,7 +11,7 @@ invariant-loop-taken g l =
     let now = l.self.writer in
     record {
       within : l.taken ≤ length l.text;
-      counts : l.self.failures ≡ l.initial.self.failures;
+      counts : now.device.failures ≡ first.device.failures;
       appends : Appends (behind first.bytes first.start first.end (g.W.Write.contents first.device.writer.writer)) (behind now.bytes now.start now.end (g.W.Write.contents now.device.writer.writer)) (take l.taken (text_of_cells l.text));
     }
 
