@@ -5,6 +5,7 @@ ghost use Rattle.trac_devices.specs.Slices.{IfTells};
 
 use crate::device::{Next, Source};
 use std::io::Read;
+use std::marker::Model;
 
 /// A source over a reader, by reads of one byte. Each error is a failure; after a read of no byte
 /// it has ended, and reads no more. This processor's own choice.
@@ -13,6 +14,14 @@ pub struct ReadSource<R> {
     reader: R,
     ended: bool,
     failures: u64,
+}
+
+impl<R> Model for ReadSource<R> {
+    ghost use Rattle.trac_devices.specs.Readers.{ReaderInput};
+
+    ghost Value = { ReaderInput R };
+
+    ghost view = { λ s. record { reader = s.reader; ended = s.ended; failures = s.failures } };
 }
 
 impl<R: Read> ReadSource<R> {

@@ -3,6 +3,7 @@ ghost use Rattle.std.specs.Prelude.{◌≡◌, ◌+◌, ◌-◌, ◌<◌, [], Is
 
 use crate::device::{Sink, SinkFailed};
 use std::io::Write;
+use std::marker::Model;
 
 /// A sink over a writer, by writes of one byte. An error, or a
 /// write of no byte, is a failure. This processor's own choice.
@@ -11,6 +12,18 @@ pub struct WriteSink<W> {
     writer: W,
     failures: u64,
     is_flushed: bool,
+}
+
+impl<W> Model for WriteSink<W> {
+    ghost use Rattle.trac_devices.specs.Readers.{CountedWriter};
+
+    ghost Value = { CountedWriter W };
+
+    ghost view = { λ s. record {
+      writer = s.writer;
+      failures = s.failures;
+      is_flushed = s.is_flushed;
+    } };
 }
 
 impl<W: Write> WriteSink<W> {
