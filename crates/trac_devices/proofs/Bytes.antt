@@ -1,6 +1,6 @@
 -- Known bytes in front of a reader and behind a writer.
 use Rattle.std.proofs.Common.{Bool, IsSome, unwrap_or, ◌≡◌, ◌∙◌, ◌+◌, ◌-◌, ◌≤◌, ◌<◌, ◌++◌, ◌∷◌, ap, ap₂, refl, ℕ, List, [], get_or, length, take, drop, Option, Some, None, sym, arith, append_assoc, length-take}
-use Rattle.std.specs.Prelude.{slice_range}
+use Rattle.std.specs.Prelude.{slice_range, Result, Ok, Err, OnErr}
 use lib.Seq.{take-add}
 use Rattle.std.proofs.lemmas.List.{drop-append-le, drop-drop, drop-take, take-append-drop}
 use Rattle.std.proofs.Math.ListN.{set}
@@ -8,6 +8,7 @@ use Rattle.std.proofs.Math.Seq.{drop-cons}
 use Rattle.std.proofs.lemmas.Slice.{between_is, take-put_mid}
 use borrow.Rule.Slice.PartMut.{put_mid}
 use Rattle.std.specs.Io.KnownBytes.{Appends, Consumes, IsAtEnd, Keeps, append_known, prepend_known}
+use Rattle.trac_devices.specs.Readers.{BufferedInput, CountedReader}
 use Rattle.trac_devices.specs.Slices.{IfTells}
 
 -- a part is its front and the rest
@@ -18,6 +19,13 @@ part_split xs a n b low =
     let front : n ≡ a + n - a = omega arith in
     ap (λ k. take k (drop a xs)) whole ∙ take-add n m (drop a xs)
     ∙ ap₂ (λ (ys zs : List ℕ). ys ++ zs) (ap (λ k. take k (drop a xs)) front) (ap (take m) (drop-drop n a xs))
+
+-- a part without its front
+pub part_dropped : (xs : List ℕ) (a n b : ℕ) → a + n ≤ b → slice_range xs (a + n) b ≡ drop n (slice_range xs a b)
+part_dropped xs a n b low =
+    let m = b - (a + n) in
+    let size : b - a ≡ n + m = omega arith in
+    sym (ap (λ k. drop n (take k (drop a xs))) size ∙ drop-take n m (drop a xs) ∙ ap (take m) (drop-drop n a xs))
 
 -- a part that ends where more was written
 pub part_appended : (xs ys more : List ℕ) (a b n k : ℕ) → ys ≡ more → length more ≡ n → k ≡ n → a ≤ b → b ≤ length xs
@@ -68,6 +76,11 @@ appended_known (Some ys) None new xs took kept some = absurd took
 appended_known (Some ys) (Some zs) None xs took kept some = absurd kept
 appended_known (Some ys) (Some zs) (Some ws) xs took kept some = kept ∙ took
 
+-- what is so is so after an error
+pub on_err : {T E P : Type 0} (r : Result T E) → P → OnErr r P
+on_err (Ok x) p = tt
+on_err (Err e) p = p
+
 -- one byte written into a place for one
 pub one_given : (buf : List ℕ) (v : ℕ) → length buf ≡ 1 → take 1 (set buf 0 v) ≡ v ∷ []
 one_given [] v one = absurd (omega arith)
@@ -84,14 +97,13 @@ part_first xs a b some inside =
     split ∙ ap (λ (ys : List ℕ). ys ++ slice_range xs (a + 1) b) one
 
 -- what is read ahead is what is taken of it, and then the rest
-pub taken_known : (bytes : List ℕ) (start count end : ℕ) (rest : Option (List ℕ)) (has_ended : Bool) → start + count ≤ end
-    → IfTells (prepend_known (slice_range bytes start end) rest) has_ended
-    → unwrap_or (prepend_known (slice_range bytes start end) rest) [] ≡ take count (slice_range bytes start end) ++ unwrap_or (prepend_known (slice_range bytes (start + count) end) rest) []
-taken_known bytes start count end None has_ended within tells = absurd tells
-taken_known bytes start count end (Some more) has_ended within tells =
-    let whole = slice_range bytes start end in
-    let m = end - (start + count) in
-    let size : end - start ≡ count + m = omega arith in
-    let back : drop count whole ≡ slice_range bytes (start + count) end = ap (λ k. drop count (take k (drop start bytes))) size ∙ drop-take count m (drop start bytes) ∙ ap (take m) (drop-drop count start bytes) in
-    let split : whole ≡ take count whole ++ slice_range bytes (start + count) end = sym (take-append-drop count whole) ∙ ap (λ (xs : List ℕ). take count whole ++ xs) back in
-    ap (λ (xs : List ℕ). xs ++ more) split ∙ append_assoc (take count whole) (slice_range bytes (start + count) end) more
+pub taken_known : (held : List ℕ) (count : ℕ) (rest : Option (List ℕ)) (has_ended : Bool) → IfTells (prepend_known held rest) has_ended
+    → unwrap_or (prepend_known held rest) [] ≡ take count held ++ unwrap_or (prepend_known (drop count held) rest) []
+taken_known held count None has_ended tells = absurd tells
+taken_known held count (Some more) has_ended tells =
+    ap (λ (xs : List ℕ). xs ++ more) (sym (take-append-drop count held)) ∙ append_assoc (take count held) (drop count held) more
+
+-- a reader behind a buffer gives up the front of what it holds
+pub input_skipped : {R : Type 0} (device : CountedReader R) (xs : List ℕ) (a n b : ℕ) → a + n ≤ b
+    → ◌≡◌ {A = BufferedInput R} (record { device = device; held = slice_range xs (a + n) b }) (record { device = device; held = drop n (slice_range xs a b) })
+input_skipped {R} device xs a n b low = ap {B = BufferedInput R} (λ (held : List ℕ). record { device = device; held = held }) (part_dropped xs a n b low)

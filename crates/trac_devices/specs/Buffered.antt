@@ -1,27 +1,20 @@
--- What a buffer of fixed size holds.
-use Rattle.std.specs.Prelude.{◌≡◌, ℕ, ◌<◌, ◌≤◌, List, slice_range, Option}
+-- What a reader behind a buffer gives, and what a writer behind a buffer took.
+use Rattle.std.specs.Prelude.{◌≡◌, ℕ, ◌<◌, List, length, drop, Option}
 use Rattle.std.specs.Io.KnownBytes.{append_known, prepend_known}
-use Rattle.trac_devices.specs.declared.buffered.BufferedReader.{BufferedReader}
-use Rattle.trac_devices.specs.declared.buffered.BufferedWriter.{BufferedWriter}
+use Rattle.trac_devices.specs.Readers.{BufferedInput, BufferedOutput}
 
--- the bytes that were read ahead, and then those that the reader still has
-abbrev pub ahead : List ℕ → ℕ → ℕ → Option (List ℕ) → Option (List ℕ)
-ahead bytes start end rest = prepend_known (slice_range bytes start end) rest
+-- what a reader behind a buffer still gives, where the reader itself tells what it still has: the
+-- bytes that were read ahead, and then those that the reader still has
+abbrev pub unread : {R : Type 0} → (R → Option (List ℕ)) → BufferedInput R → Option (List ℕ)
+unread remaining r = prepend_known r.held (remaining r.device.reader)
 
--- the bytes that the writer has, and then those that wait
-abbrev pub behind : List ℕ → ℕ → ℕ → Option (List ℕ) → Option (List ℕ)
-behind bytes start end written = append_known written (slice_range bytes start end)
-
--- what a reader behind a buffer still gives, where the reader itself tells what it still has
-abbrev pub unread : {R : Type 0} → (R → Option (List ℕ)) → BufferedReader R → Option (List ℕ)
-unread remaining r = ahead r.bytes r.start r.end (remaining r.device.reader)
-
--- what a writer behind a buffer took, where the writer itself tells what it has
-abbrev pub accepted : {W : Type 0} → (W → Option (List ℕ)) → BufferedWriter W → Option (List ℕ)
-accepted contents w = behind w.bytes w.start w.end (contents w.device.writer)
+-- what a writer behind a buffer took, where the writer itself tells what it has: the bytes that the
+-- writer has, and then those that wait
+abbrev pub accepted : {W : Type 0} → (W → Option (List ℕ)) → BufferedOutput W → Option (List ℕ)
+accepted contents w = append_known (contents w.device.writer) w.waiting
 
 -- some bytes still wait in a buffer, the last of those that waited
-abbrev pub WaitsOn : {W : Type 0} → BufferedWriter W → BufferedWriter W → Type 0
+abbrev pub WaitsOn : {W : Type 0} → BufferedOutput W → BufferedOutput W → Type 0
 WaitsOn old new =
-    (new.bytes ≡ old.bytes) × (new.end ≡ old.end)
-    × (old.start ≤ new.start) × (new.start < new.end)
+    (new.space ≡ old.space)
+    × ((count : ℕ) × ((count < length old.waiting) × (new.waiting ≡ drop count old.waiting)))

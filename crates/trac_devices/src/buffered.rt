@@ -1,5 +1,5 @@
 //! Buffers of fixed size in front of a reader and behind a writer.
-ghost use Rattle.std.specs.Prelude.{◌≡◌, ◌+◌, ◌≤◌, ◌<◌, length, take, slice_range, true, false};
+ghost use Rattle.std.specs.Prelude.{◌≡◌, ◌+◌, ◌≤◌, ◌<◌, length, take, drop, [], true, false};
 ghost use Rattle.std.specs.Prelude.{IfOk, OnErr, OnOk};
 ghost use Rattle.std.specs.Io.{ReadsAtMost, WritesAtMost};
 ghost use Rattle.std.specs.Io.KnownBytes.{Appends, IsAtEnd, Keeps, ReadConsumes, WriteAppends};
@@ -10,6 +10,7 @@ use crate::characters::write_characters;
 use crate::counted::{InputDevice, OutputDevice};
 use std::io;
 use std::io::{Read, Write};
+use std::marker::Model;
 use trac_space::Cell;
 
 const CAPACITY: usize = 8192;
@@ -21,8 +22,17 @@ pub struct BufferedReader<R> {
     bytes: [u8; CAPACITY],
     start: usize,
     end: usize,
-    ghost ordered: { start ≤ end },
-    ghost in_bounds: { end ≤ 8192 },
+}
+
+impl<R> Model for BufferedReader<R> {
+    ghost use Rattle.std.specs.Prelude.{◌≤◌, slice_range};
+    ghost use Rattle.trac_devices.specs.Readers.{BufferedInput};
+
+    ghost Value = { BufferedInput R };
+
+    ghost view = { λ r. record { device = r.device; held = slice_range r.bytes r.start r.end } };
+
+    ghost invariant = { λ r. (r.start ≤ r.end) × (r.end ≤ 8192) };
 }
 
 impl<R: Read> BufferedReader<R> {
@@ -30,7 +40,7 @@ impl<R: Read> BufferedReader<R> {
 
     /// The reader, with nothing read ahead.
     pub fn new(reader: R) -> BufferedReader<R>
-        ensures nothing { (result.start ≡ 0) × (result.end ≡ 0) }
+        ensures nothing { result.held ≡ [] }
         ensures reader { result.device.reader ≡ reader }
         ensures fresh { result.device.failures ≡ 0 }
     {
@@ -45,7 +55,7 @@ impl<R: Read> BufferedReader<R> {
     /// The bytes that are read and not yet given.
     #[inline]
     pub fn held(&self) -> &[u8]
-        ensures { result.now ≡ slice_range self.now.bytes self.now.start self.now.end }
+        ensures { result.now ≡ self.now.held }
     {
         &self.bytes[self.start..self.end]
     }
@@ -53,10 +63,8 @@ impl<R: Read> BufferedReader<R> {
     /// Gives up the first `count` of those bytes.
     #[inline]
     pub fn skip(&mut self, count: usize)
-        requires { self.old.start + count ≤ self.old.end }
-        ensures start { self.new.start ≡ self.old.start + count }
-        ensures held { (self.new.bytes ≡ self.old.bytes) × (self.new.end ≡ self.old.end) }
-        ensures device { self.new.device ≡ self.old.device }
+        requires { count ≤ length self.old.held }
+        ensures { self.new ≡ record self.old { held = drop count self.old.held } }
     {
         self.start += count;
     }
@@ -72,11 +80,10 @@ impl<R: Read> BufferedReader<R> {
     fn fill(&mut self) -> io::Result<()>
         ensures bytes { Keeps (unread R.remaining self.old) (unread R.remaining self.new) }
         ensures failures { Counts self.old.device.failures self.new.device.failures result }
-        ensures held { self.old.start < self.old.end →
-            (self.new.device ≡ self.old.device) × (self.new.start < self.new.end) }
-        ensures end { OnOk result (self.new.start ≡ self.new.end →
+        ensures held { 0 < length self.old.held → self.new ≡ self.old }
+        ensures end { OnOk result (self.new.held ≡ [] →
             IsAtEnd (R.remaining self.new.device.reader)) }
-        ensures err { OnErr result (self.new.start ≡ self.new.end) }
+        ensures err { OnErr result (self.new.held ≡ []) }
     {
         if self.start < self.end {
             return Ok(());
@@ -96,7 +103,7 @@ impl<R: Read> BufferedReader<R> {
         ensures bytes { ReadConsumes (unread R.remaining self.old) (unread R.remaining self.new)
             result buf.new }
         ensures failures { Counts self.old.device.failures self.new.device.failures result }
-        ensures held { self.old.start < self.old.end → self.new.device ≡ self.old.device }
+        ensures held { 0 < length self.old.held → self.new.device ≡ self.old.device }
         ensures end { IfOk result (λ n.
             n ≡ 0 → 0 < length buf.new → IsAtEnd (unread R.remaining self.new)) }
     {
@@ -119,7 +126,7 @@ impl<R: Read> Read for BufferedReader<R> {
         ensures bytes { ReadConsumes (unread R.remaining self.old) (unread R.remaining self.new)
             result buf.new }
         ensures failures { Counts self.old.device.failures self.new.device.failures result }
-        ensures held { self.old.start < self.old.end → self.new.device ≡ self.old.device }
+        ensures held { 0 < length self.old.held → self.new.device ≡ self.old.device }
         ensures end { IfOk result (λ n.
             n ≡ 0 → 0 < length buf.new → IsAtEnd (unread R.remaining self.new)) }
     {
@@ -140,8 +147,21 @@ pub struct BufferedWriter<W> {
     bytes: [u8; CAPACITY],
     start: usize,
     end: usize,
-    ghost ordered: { start ≤ end },
-    ghost in_bounds: { end ≤ 8192 },
+}
+
+impl<W> Model for BufferedWriter<W> {
+    ghost use Rattle.std.specs.Prelude.{◌-◌, ◌≤◌, slice_range};
+    ghost use Rattle.trac_devices.specs.Readers.{BufferedOutput};
+
+    ghost Value = { BufferedOutput W };
+
+    ghost view = { λ w. record {
+      device = w.device;
+      waiting = slice_range w.bytes w.start w.end;
+      space = 8192 - w.end;
+    } };
+
+    ghost invariant = { λ w. (w.start ≤ w.end) × (w.end ≤ 8192) };
 }
 
 impl<W: Write> BufferedWriter<W> {
@@ -149,7 +169,7 @@ impl<W: Write> BufferedWriter<W> {
 
     /// The writer, with nothing held back.
     pub fn new(writer: W) -> BufferedWriter<W>
-        ensures nothing { (result.start ≡ 0) × (result.end ≡ 0) }
+        ensures nothing { (result.waiting ≡ []) × (result.space ≡ 8192) }
         ensures writer { result.device.writer ≡ writer }
         ensures fresh { (result.device.failures ≡ 0) × (result.device.is_flushed ≡ false) }
     {
@@ -172,7 +192,7 @@ impl<W: Write> BufferedWriter<W> {
     fn write_out(&mut self) -> io::Result<()>
         ensures bytes { Keeps (accepted W.contents self.old) (accepted W.contents self.new) }
         ensures failures { Counts self.old.device.failures self.new.device.failures result }
-        ensures empty { OnOk result ((self.new.start ≡ 0) × (self.new.end ≡ 0)) }
+        ensures empty { OnOk result ((self.new.waiting ≡ []) × (self.new.space ≡ 8192)) }
         ensures rest { OnErr result (WaitsOn self.old self.new) }
     {
         let all = &self.bytes[..];
@@ -188,8 +208,8 @@ impl<W: Write> BufferedWriter<W> {
     fn make_room(&mut self) -> io::Result<()>
         ensures bytes { Keeps (accepted W.contents self.old) (accepted W.contents self.new) }
         ensures failures { Counts self.old.device.failures self.new.device.failures result }
-        ensures same { self.old.end < 8192 → self.new ≡ self.old }
-        ensures room { OnOk result (self.new.end < 8192) }
+        ensures same { 0 < self.old.space → self.new ≡ self.old }
+        ensures room { OnOk result (0 < self.new.space) }
         ensures rest { OnErr result (WaitsOn self.old self.new) }
     {
         if self.end < CAPACITY {
@@ -206,7 +226,7 @@ impl<W: Write> BufferedWriter<W> {
             result buf.now }
         ensures failures { Counts self.old.device.failures self.new.device.failures result }
         ensures some { IfOk result (λ n. 0 < length buf.now → 0 < n) }
-        ensures room { self.old.end < 8192 → self.new.device ≡ self.old.device }
+        ensures room { 0 < self.old.space → self.new.device ≡ self.old.device }
         ensures rest { OnErr result (WaitsOn self.old self.new) }
     {
         self.make_room()?;
@@ -223,7 +243,7 @@ impl<W: Write> BufferedWriter<W> {
             result (text_of_cells text.now) }
         ensures failures { Counts self.old.device.failures self.new.device.failures result }
         ensures some { IfOk result (λ n. 0 < length text.now → 0 < n) }
-        ensures room { self.old.end < 8192 → self.new.device ≡ self.old.device }
+        ensures room { 0 < self.old.space → self.new.device ≡ self.old.device }
         ensures rest { OnErr result (WaitsOn self.old self.new) }
     {
         self.make_room()?;
@@ -265,7 +285,7 @@ impl<W: Write> Write for BufferedWriter<W> {
             result buf.now }
         ensures failures { Counts self.old.device.failures self.new.device.failures result }
         ensures some { IfOk result (λ n. 0 < length buf.now → 0 < n) }
-        ensures room { self.old.end < 8192 → self.new.device ≡ self.old.device }
+        ensures room { 0 < self.old.space → self.new.device ≡ self.old.device }
         ensures rest { OnErr result (WaitsOn self.old self.new) }
     {
         if buf.len() == 1 && self.end < CAPACITY {
@@ -279,7 +299,7 @@ impl<W: Write> Write for BufferedWriter<W> {
     fn flush(&mut self) -> io::Result<()>
         ensures bytes { Keeps (accepted W.contents self.old) (accepted W.contents self.new) }
         ensures failures { Counts self.old.device.failures self.new.device.failures result }
-        ensures empty { OnOk result ((self.new.start ≡ 0) × (self.new.end ≡ 0)) }
+        ensures empty { OnOk result ((self.new.waiting ≡ []) × (self.new.space ≡ 8192)) }
         ensures flushed { OnOk result (self.new.device.is_flushed ≡ true) }
     {
         self.write_out()?;

@@ -7,12 +7,21 @@ ghost use Rattle.trac_devices.specs.Counted.{Counts};
 
 use std::io;
 use std::io::{Read, Write};
+use std::marker::Model;
 
 /// A reader and the number of its failed reads.
 #[derive(Drop)]
 pub(crate) struct InputDevice<R> {
     reader: R,
     failures: u64,
+}
+
+impl<R> Model for InputDevice<R> {
+    ghost use Rattle.trac_devices.specs.Readers.{CountedReader};
+
+    ghost Value = { CountedReader R };
+
+    ghost view = { λ d. record { reader = d.reader; failures = d.failures } };
 }
 
 impl<R: Read> InputDevice<R> {
@@ -56,6 +65,18 @@ pub(crate) struct OutputDevice<W> {
     writer: W,
     failures: u64,
     is_flushed: bool,
+}
+
+impl<W> Model for OutputDevice<W> {
+    ghost use Rattle.trac_devices.specs.Readers.{CountedWriter};
+
+    ghost Value = { CountedWriter W };
+
+    ghost view = { λ d. record {
+      writer = d.writer;
+      failures = d.failures;
+      is_flushed = d.is_flushed;
+    } };
 }
 
 impl<W: Write> OutputDevice<W> {

@@ -8,6 +8,7 @@ use crate::buffered::BufferedReader;
 use crate::device::{Next, Source};
 use crate::retrying::RetryingReader;
 use std::io::Read;
+use std::marker::Model;
 use trac_forms::Work;
 
 /// A source over a reader behind a buffer, which gives what the buffer holds at once. A read that
@@ -17,6 +18,14 @@ use trac_forms::Work;
 pub struct Input<R> {
     reader: BufferedReader<RetryingReader<R>>,
     ended: bool,
+}
+
+impl<R> Model for Input<R> {
+    ghost use Rattle.trac_devices.specs.Readers.{SourceInput};
+
+    ghost Value = { SourceInput R };
+
+    ghost view = { λ s. record { reader = s.reader; ended = s.ended } };
 }
 
 impl<R: Read> Input<R> {
@@ -35,9 +44,9 @@ impl<R: Read> Input<R> {
 }
 
 impl<R: Read> Source for Input<R> {
-    ghost tells = { λ s. IfTells (unread (λ r. R.remaining r.reader) s.reader) s.ended };
+    ghost tells = { λ s. IfTells (unread R.remaining s.reader) s.ended };
 
-    ghost stream = { λ s. told_stream (unread (λ r. R.remaining r.reader) s.reader) s.ended };
+    ghost stream = { λ s. told_stream (unread R.remaining s.reader) s.ended };
 
     ghost failure_count = { λ s. s.reader.device.failures };
 
@@ -49,12 +58,12 @@ impl<R: Read> Source for Input<R> {
     fn next(&mut self) -> Next
         requires { self.old.reader.device.failures < 2 ^ 64 - 1 }
         ensures ended { self.old.ended ≡ true → (result ≡ Next.End) × (self.new ≡ self.old) }
-        ensures gives { let old = unread (λ r. R.remaining r.reader) self.old.reader in
-            let new = unread (λ r. R.remaining r.reader) self.new.reader in
+        ensures gives { let old = unread R.remaining self.old.reader in
+            let new = unread R.remaining self.new.reader in
             IfTells old self.old.ended →
             Gives (told_stream old self.old.ended) result (told_stream new self.new.ended) }
-        ensures told { let old = unread (λ r. R.remaining r.reader) self.old.reader in
-            let new = unread (λ r. R.remaining r.reader) self.new.reader in
+        ensures told { let old = unread R.remaining self.old.reader in
+            let new = unread R.remaining self.new.reader in
             IfTells old self.old.ended → IfTells new self.new.ended }
         ensures counts { self.new.reader.device.failures ≡
             self.old.reader.device.failures + failures_of_next result }

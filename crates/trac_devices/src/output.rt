@@ -6,6 +6,7 @@ use crate::buffered::BufferedWriter;
 use crate::device::{Sink, SinkFailed};
 use crate::retrying::RetryingWriter;
 use std::io::Write;
+use std::marker::Model;
 use trac_space::Cell;
 
 /// A sink over a writer behind a buffer, by writes of one byte or of many. It
@@ -15,6 +16,14 @@ use trac_space::Cell;
 #[derive(Drop)]
 pub struct Output<W> {
     writer: BufferedWriter<RetryingWriter<W>>,
+}
+
+impl<W> Model for Output<W> {
+    ghost use Rattle.trac_devices.specs.Readers.{BufferedOutput};
+
+    ghost Value = { BufferedOutput W };
+
+    ghost view = { λ s. s.writer };
 }
 
 impl<W: Write> Output<W> {
@@ -31,13 +40,13 @@ impl<W: Write> Output<W> {
 }
 
 impl<W: Write> Sink for Output<W> {
-    ghost tells = { λ s. IsSome (accepted (λ w. W.contents w.writer) s.writer) };
+    ghost tells = { λ s. IsSome (accepted W.contents s) };
 
-    ghost written = { λ s. unwrap_or (accepted (λ w. W.contents w.writer) s.writer) [] };
+    ghost written = { λ s. unwrap_or (accepted W.contents s) [] };
 
-    ghost flushed = { λ s. (s.writer.start ≡ s.writer.end) × (s.writer.device.is_flushed ≡ true) };
+    ghost flushed = { λ s. (s.waiting ≡ []) × (s.device.is_flushed ≡ true) };
 
-    ghost failure_count = { λ s. s.writer.device.failures };
+    ghost failure_count = { λ s. s.device.failures };
 
     ghost lent = { λ _. 0 };
 

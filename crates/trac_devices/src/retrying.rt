@@ -6,6 +6,7 @@ ghost use Rattle.std.specs.Io.KnownBytes.{Keeps, ReadConsumes, WriteAppends};
 
 use std::io;
 use std::io::{ErrorKind, Read, Write};
+use std::marker::Model;
 
 /// How often a call is made that is interrupted each time: 1,000,000 times.
 pub const TRIES: u32 = 1_000_000;
@@ -18,6 +19,12 @@ pub struct RetryingReader<R> {
     reader: R,
 }
 
+impl<R> Model for RetryingReader<R> {
+    ghost Value = { R };
+
+    ghost view = { λ r. r.reader };
+}
+
 impl<R: Read> RetryingReader<R> {
     /// A reader that gives what `reader` gives.
     pub fn new(reader: R) -> RetryingReader<R>
@@ -28,11 +35,11 @@ impl<R: Read> RetryingReader<R> {
 }
 
 impl<R: Read> Read for RetryingReader<R> {
-    ghost remaining = { λ r. R.remaining r.reader };
+    ghost remaining = { λ r. R.remaining r };
 
     fn read(&mut self, buf: &mut [u8]) -> io::Result<usize>
         ensures bound { ReadsAtMost result buf.new }
-        ensures bytes { ReadConsumes (R.remaining self.old.reader) (R.remaining self.new.reader)
+        ensures bytes { ReadConsumes (R.remaining self.old) (R.remaining self.new)
             result buf.new }
         ensures retried { IfErr result (λ e. error_kind e ≢ ErrorKind.Interrupted) }
     {
@@ -48,6 +55,12 @@ pub struct RetryingWriter<W> {
     writer: W,
 }
 
+impl<W> Model for RetryingWriter<W> {
+    ghost Value = { W };
+
+    ghost view = { λ w. w.writer };
+}
+
 impl<W: Write> RetryingWriter<W> {
     /// A writer that writes to `writer`.
     pub fn new(writer: W) -> RetryingWriter<W>
@@ -58,11 +71,11 @@ impl<W: Write> RetryingWriter<W> {
 }
 
 impl<W: Write> Write for RetryingWriter<W> {
-    ghost contents = { λ w. W.contents w.writer };
+    ghost contents = { λ w. W.contents w };
 
     fn write(&mut self, buf: &[u8]) -> io::Result<usize>
         ensures bound { WritesAtMost result buf.now }
-        ensures bytes { WriteAppends (W.contents self.old.writer) (W.contents self.new.writer)
+        ensures bytes { WriteAppends (W.contents self.old) (W.contents self.new)
             result buf.now }
         ensures retried { IfErr result (λ e. error_kind e ≢ ErrorKind.Interrupted) }
     {
@@ -70,7 +83,7 @@ impl<W: Write> Write for RetryingWriter<W> {
     }
 
     fn flush(&mut self) -> io::Result<()>
-        ensures bytes { Keeps (W.contents self.old.writer) (W.contents self.new.writer) }
+        ensures bytes { Keeps (W.contents self.old) (W.contents self.new) }
         ensures retried { IfErr result (λ e. error_kind e ≢ ErrorKind.Interrupted) }
     {
         flush_again(&mut self.writer)

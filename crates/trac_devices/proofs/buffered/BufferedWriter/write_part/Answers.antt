@@ -1,15 +1,18 @@
-use Rattle.std.proofs.Common.{◌≡◌, take, length, arith, length-take}
+use Rattle.std.proofs.Common.{◌≡◌, take, length, sym, subst, arith, length-take}
 use Rattle.std.specs.Prelude.{slice_range}
+use Rattle.std.specs.Io.KnownBytes.{Keeps}
+use Rattle.trac_devices.specs.Buffered.{accepted}
 use Rattle.trac_devices.proofs.Bytes.{appends_behind, appends_kept, part_appended}
 use Rattle.trac_devices.proofs.buffered.BufferedWriter.write_part.Goals as goal
 
 pub returns-clause-bytes : goal.returns-clause-bytes
 returns-clause-bytes g c =
-    let w = c.make_room.new.self in
+    let w = c.self.inside in
     let n = c.min-n.result in
     let few = c.min-n.ensures in
     let more = take n c.args.buf.now in
     let size : length more ≡ n = omega (arith, length-take n c.args.buf.now) in
-    appends_kept _ _ _ _ c.make_room.ensures.bytes
+    let kept = subst (λ v. Keeps (accepted g.W.Write.contents c.args.self.now) (accepted g.W.Write.contents v)) (sym c.self.view_is) c.make_room.ensures.bytes in
+    appends_kept _ _ _ _ kept
     (appends_behind (g.W.Write.contents w.device.writer) (slice_range w.bytes w.start w.end) _ more
     (part_appended w.bytes c.copy_from_slice.new.self more w.start w.end n _ c.copy_from_slice.ensures.after size (omega arith) (omega arith) (omega arith)))

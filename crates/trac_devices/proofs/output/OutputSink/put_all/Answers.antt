@@ -6,6 +6,8 @@ use Rattle.std.proofs.KnownBytes.{Appends-trans}
 use Rattle.std.proofs.lemmas.List.{take-append-drop, drop-map, length-map}
 use Rattle.std.proofs.lemmas.List.Edits.{length-between}
 use Rattle.trac_space.specs.Texts.{character_of, text_of_cells}
+use Rattle.std.specs.Prelude.{IsSome}
+use Rattle.trac_devices.specs.Buffered.{accepted}
 use Rattle.trac_devices.proofs.Bytes.{appended_known}
 use Rattle.trac_devices.proofs.output.OutputSink.put_all.Goals as goal
 
@@ -31,4 +33,6 @@ pub returns-in-Err-clause-prints : goal.returns-in-Err-clause-prints
 returns-in-Err-clause-prints g c = λ told.
     let taken = c.loop-taken.taken in
     let xs = text_of_cells c.args.text.now in
-    (take taken xs, (drop taken xs, (sym (take-append-drop taken xs), appended_known _ _ _ (take taken xs) c.loop-taken.invariant.appends c.in-Err.ensures.bytes told)))
+    let known = subst (λ v. IsSome (accepted g.W.Write.contents v)) (sym c.self.view_is) told in
+    rw (← c.self.view_is)
+    (take taken xs, (drop taken xs, (sym (take-append-drop taken xs), appended_known _ _ _ (take taken xs) c.loop-taken.invariant.appends c.in-Err.ensures.bytes known)))

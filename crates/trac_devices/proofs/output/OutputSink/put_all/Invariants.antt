@@ -1,18 +1,18 @@
 use Rattle.std.proofs.Common.{◌≡◌, ◌≤◌, ◌-◌, take, length}
 use Rattle.std.specs.Io.KnownBytes.{Appends}
 use Rattle.trac_space.specs.Texts.{text_of_cells}
-use Rattle.trac_devices.specs.Buffered.{behind}
+use Rattle.trac_devices.specs.Buffered.{accepted}
 use Rattle.trac_devices.proofs.output.OutputSink.put_all.Given as goal
 
 -- the characters so far were taken
 abbrev pub invariant-loop-taken : goal.invariant-loop-taken
 invariant-loop-taken g l =
-    let first = l.initial.self.writer in
-    let now = l.self.writer in
+    let first = l.initial.self-inside.writer in
+    let now = l.self-inside.writer in
     record {
       within : l.taken ≤ length l.text;
       counts : now.device.failures ≡ first.device.failures;
-      appends : Appends (behind first.bytes first.start first.end (g.W.Write.contents first.device.writer.writer)) (behind now.bytes now.start now.end (g.W.Write.contents now.device.writer.writer)) (take l.taken (text_of_cells l.text));
+      appends : Appends (accepted g.W.Write.contents first) (accepted g.W.Write.contents now) (take l.taken (text_of_cells l.text));
     }
 
 -- the cells that are left
