@@ -1,5 +1,6 @@
 -- What contracts say of a sink over memory.
-use Rattle.std.specs.Prelude.{length, take}
+use Rattle.std.specs.Prelude.{ℕ, List, length, take}
+use Rattle.std.specs.Borrow.{GName}
 use Rattle.trac_devices.specs.declared.slice_sink.SliceSink.{SliceSink}
 use Rattle.trac_devices.specs.Slices.{SliceOutput}
 
@@ -12,3 +13,11 @@ slice_output s = record {
   failures = s.failures;
   is_flushed = s.is_flushed;
 }
+
+-- the name of the memory that was lent to it
+abbrev pub lent_name : SliceSink → GName
+lent_name s = s.room.ghost_name
+
+-- all that this memory holds
+abbrev pub lent_bytes : SliceSink → List ℕ
+lent_bytes s = s.room.now

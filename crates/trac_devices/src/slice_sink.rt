@@ -20,7 +20,7 @@ pub struct SliceSink<'a> {
 }
 
 impl<'a> SliceSink<'a> {
-    ghost use Rattle.trac_devices.specs.SliceSinks.{slice_output};
+    ghost use Rattle.trac_devices.specs.SliceSinks.{slice_output, lent_name, lent_bytes};
 
     /// A sink with room for so many bytes, whose flush of that
     /// number, counted from 1, fails; none with None or 0.
@@ -33,8 +33,8 @@ impl<'a> SliceSink<'a> {
           is_flushed = true;
         } }
         // what was lent holds what it held
-        ensures lent { result.room.ghost_name ≡ room.entry.ghost_name }
-        ensures holds { result.room.now ≡ room.old }
+        ensures lent { lent_name result ≡ room.entry.ghost_name }
+        ensures holds { lent_bytes result ≡ room.old }
     {
         SliceSink {
             room,
@@ -54,20 +54,20 @@ impl<'a> SliceSink<'a> {
 }
 
 impl Sink for SliceSink<'_> {
-    ghost use Rattle.trac_devices.specs.SliceSinks.{slice_output};
+    ghost use Rattle.trac_devices.specs.SliceSinks.{slice_output, lent_name};
 
     ghost tells = { λ _. Unit {0} };
 
     ghost written = { λ s. (slice_output s).written };
 
-    ghost flushed = { λ s. s.is_flushed ≡ true };
+    ghost flushed = { λ s. (slice_output s).is_flushed ≡ true };
 
-    ghost failure_count = { λ s. s.failures };
+    ghost failure_count = { λ s. (slice_output s).failures };
 
-    ghost lent = { λ s. s.room.ghost_name };
+    ghost lent = { λ s. lent_name s };
 
     fn put(&mut self, byte: u8) -> Result<(), SinkFailed>
-        requires { self.old.failures < 2 ^ 64 - 1 }
+        requires { (slice_output self.old).failures < 2 ^ 64 - 1 }
         ensures full { let old = slice_output self.old in
             is_ok result ≡ nat_lt (length old.written) old.room }
         ensures after { let old = slice_output self.old in
@@ -80,8 +80,9 @@ impl Sink for SliceSink<'_> {
             (slice_output self.new).written ≡
             after_put (slice_output self.old).written byte result }
         ensures told { Unit {0} → Unit {0} }
-        ensures counts { self.new.failures ≡ self.old.failures + failures_of result }
-        ensures kept { self.new.room.ghost_name ≡ self.old.room.ghost_name }
+        ensures counts { (slice_output self.new).failures ≡
+            (slice_output self.old).failures + failures_of result }
+        ensures kept { lent_name self.new ≡ lent_name self.old }
     {
         if self.len < self.room.len() {
             self.room[self.len] = byte;
@@ -95,8 +96,8 @@ impl Sink for SliceSink<'_> {
     }
 
     fn flush(&mut self) -> Result<(), SinkFailed>
-        requires { self.old.failures < 2 ^ 64 - 1 }
-        ensures fault { is_ok result ≡ not (nat_eq self.old.flushes_left 1) }
+        requires { (slice_output self.old).failures < 2 ^ 64 - 1 }
+        ensures fault { is_ok result ≡ not (nat_eq (slice_output self.old).flushes_left 1) }
         ensures after { let old = slice_output self.old in
             slice_output self.new ≡ record old {
               flushes_left = old.flushes_left - 1;
@@ -105,10 +106,11 @@ impl Sink for SliceSink<'_> {
             } }
         ensures keeps { Unit {0} →
             (slice_output self.new).written ≡ (slice_output self.old).written }
-        ensures flushed { OnOk result (self.new.is_flushed ≡ true) }
+        ensures flushed { OnOk result ((slice_output self.new).is_flushed ≡ true) }
         ensures told { Unit {0} → Unit {0} }
-        ensures counts { self.new.failures ≡ self.old.failures + failures_of result }
-        ensures kept { self.new.room.ghost_name ≡ self.old.room.ghost_name }
+        ensures counts { (slice_output self.new).failures ≡
+            (slice_output self.old).failures + failures_of result }
+        ensures kept { lent_name self.new ≡ lent_name self.old }
     {
         if self.flushes_left > 0 {
             self.flushes_left -= 1;
