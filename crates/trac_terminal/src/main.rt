@@ -75,8 +75,8 @@ fn run_file(
     machine: &mut Machine,
     screen: &mut Screen<Output<Stdout>>,
 ) -> Result<(), u8>
-    requires { screen.old.sink.failures < 2 ^ 64 - 1 }
-    ensures { OnOk result (screen.new.sink.failures ≡ screen.old.sink.failures) }
+    requires { screen.old.sink.device.failures < 2 ^ 64 - 1 }
+    ensures { OnOk result (screen.new.sink.device.failures ≡ screen.old.sink.device.failures) }
 {
     let Ok(bytes) = fs::read(rt, name) else {
         let mut errors = rt.stderr();
@@ -99,7 +99,7 @@ fn run_typed(
     machine: &mut Machine,
     screen: &mut Screen<Output<Stdout>>,
 ) -> u8
-    requires { screen.old.sink.failures < 2 ^ 64 - 1 }
+    requires { screen.old.sink.device.failures < 2 ^ 64 - 1 }
 {
     let prompt = if is_terminal(rt) { PROMPT } else { b"" };
     let mut reading = Reading::new(Input::new(rt.stdin()), true);
