@@ -16,3 +16,4 @@ pub mod Sessions
 pub mod Printed
 pub mod PlainEnds
 pub mod OrdinaryBlocks
+pub mod ArgumentRuns

@@ -1,6 +1,6 @@
 -- Runs of characters without a rule of their own, in blocks.
 use Rattle.std.proofs.Common.{◌≡◌, ℕ, zero, suc, get_or, ◌<◌, ◌+◌, ◌≤◌, Bool, true, false, List, [], ◌∷◌, length, take, drop, All, refl, sym, ap, ◌∙◌, subst, arith, sum_by}
-use Rattle.std.specs.Prelude.{if◌then◌else◌}
+use Rattle.std.specs.Prelude.{◌==◌, if◌then◌else◌}
 use Rattle.std.proofs.Math.Seq.{take-add}
 use Rattle.std.proofs.lemmas.List.{drop_more, get_or-map, length-map}
 use Rattle.std.proofs.lemmas.List.Elements.{All-append, All-cons}
@@ -13,28 +13,30 @@ use Rattle.trac_core.specs.Matching.{IsAt, GoesBy}
 use Rattle.trac_core.proofs.Matching.{goes-by}
 use Rattle.trac_core.proofs.Scanning.{take-text, drop-text}
 
-pub kind-small : (c : ℕ) → kind_of c ≤ 16
-kind-small c = go (is_parenthesis c) (is_special c)
+pub kind-small : (c : ℕ) → kind_of c ≤ 17
+kind-small c = go (is_parenthesis c) (c == 44) (is_special c)
   where
-    go : (a b : Bool) → (if a then 16 else (if b then 1 else 0)) ≤ 16
-    go true b = omega arith
-    go false true = omega arith
-    go false false = omega arith
+    go : (a b d : Bool) → (if a then 17 else (if b then 1 else (if d then 2 else 0))) ≤ 17
+    go true b d = omega arith
+    go false true d = omega arith
+    go false false true = omega arith
+    go false false false = omega arith
 
-kind-none : (c : ℕ) → kind_of c ≡ 0 → IsOrdinary c
-kind-none c = go (is_parenthesis c) (is_special c)
+pub kind-none : (c : ℕ) → kind_of c ≡ 0 → IsOrdinary c
+kind-none c = go (is_parenthesis c) (c == 44) (is_special c)
   where
-    go : (a b : Bool) → ◌≡◌ {A = ℕ} (if a then 16 else (if b then 1 else 0)) 0 → b ≡ false
-    go true b e = absurd cc
-    go false true e = absurd cc
-    go false false e = refl
+    go : (a b d : Bool) → ◌≡◌ {A = ℕ} (if a then 17 else (if b then 1 else (if d then 2 else 0))) 0 → d ≡ false
+    go true b d e = absurd cc
+    go false true d e = absurd cc
+    go false false true e = absurd cc
+    go false false false e = refl
 
-kind-other : (c : ℕ) → kind_of c < 16 → is_parenthesis c ≡ false
-kind-other c = go (is_parenthesis c) (is_special c)
+kind-other : (c : ℕ) → kind_of c < 17 → is_parenthesis c ≡ false
+kind-other c = go (is_parenthesis c) (c == 44) (is_special c)
   where
-    go : (a b : Bool) → (if a then 16 else (if b then 1 else 0)) < 16 → a ≡ false
-    go true b less = absurd (omega arith)
-    go false b less = refl
+    go : (a b d : Bool) → (if a then 17 else (if b then 1 else (if d then 2 else 0))) < 17 → a ≡ false
+    go true b d less = absurd (omega arith)
+    go false b d less = refl
 
 -- where the kinds come to nothing each character is ordinary
 ordinary-block : (cells : List Cell) → sum_by kind_in cells ≡ 0 → All IsOrdinary (text_of_cells cells)
@@ -55,7 +57,7 @@ ordinary-eight cells i kinds is none first =
     ordinary-more cells i 8 first (subst (All IsOrdinary) (take-text 8 (drop i cells)) (ordinary-block (take 8 (drop i cells)) (omega (arith, is, none))))
 
 -- where the kinds come to less than a parenthesis the search for one goes by
-pub others-pass : (cells : List Cell) (n i : ℕ) → i + n ≤ length cells → sum_by kind_in (take n (drop i cells)) < 16 → GoesBy (text_of_cells cells) i (i + n)
+pub others-pass : (cells : List Cell) (n i : ℕ) → i + n ≤ length cells → sum_by kind_in (take n (drop i cells)) < 17 → GoesBy (text_of_cells cells) i (i + n)
 others-pass cells zero i within less depth at = let same : i + 0 ≡ i = omega arith in subst (λ k. IsAt (text_of_cells cells) k depth) (sym same) at
 others-pass cells (suc n) i within less depth at =
     let cell = get_or cells i (Byte 0) in

@@ -6,9 +6,8 @@ use Rattle.std.proofs.lemmas.List.Elements.{All-append, All-cons, All-drop}
 use Rattle.std.proofs.Math.Seq.{drop-append-add, drop-length}
 use Rattle.trac_space.specs.declared.cell.Cell.{Cell}
 use Rattle.trac_space.specs.declared.cell.Cell.TheVariants.{Byte, Call, Comma, Gap, Head}
-use Rattle.trac_space.specs.Cells.{is_comma}
+use Rattle.trac_space.specs.Cells.{is_comma, NoComma}
 use Rattle.trac_space.specs.Texts.{IsByte}
-use Rattle.trac_functions.specs.Calls.{NoComma}
 use Rattle.trac_core.specs.StepsInRow.{IsPlainFrom}
 
 no-comma : (cell : Cell) → IsByte cell → is_comma cell ≡ false

@@ -22,14 +22,14 @@ use Rattle.trac_core.specs.StepsInRow.{is_special, IsOrdinary, IsLayout, Passes,
 use Rattle.trac_core.proofs.Scanning.{scans-other, scans-layout, first-rest}
 
 -- no rule of its own
-ordinary-layout : (c : ℕ) → IsOrdinary c → is_layout c ≡ false
+pub ordinary-layout : (c : ℕ) → IsOrdinary c → is_layout c ≡ false
 ordinary-layout c h = go (is_layout c) (c == 35) (c == 40) (c == 41) (c == 44) h
   where
     go : (a b d e f : Bool) → (a || b || d || e || f) ≡ false → a ≡ false
     go false b d e f h = refl
     go true b d e f h = absurd cc
 
-ordinary-not : (c b : ℕ) → IsOrdinary c → is_special b ≡ true → c ≢ b
+pub ordinary-not : (c b : ℕ) → IsOrdinary c → is_special b ≡ true → c ≢ b
 ordinary-not c b h special e = let f : is_special b ≡ false = subst IsOrdinary e h in cc
 
 -- a step over the contents of a workspace, as one over the memory that they stand for

@@ -8,9 +8,9 @@ use Rattle.trac_language.specs.Step.{Next, step, need}
 use Rattle.trac_laws.specs.LastRead.{reads_to_end}
 use Rattle.trac_space.specs.declared.cell.Cell.{Cell}
 use Rattle.trac_space.specs.Calls.{IsLastCall}
+use Rattle.trac_space.specs.Cells.{NoComma}
 use Rattle.trac_space.specs.Texts.{text_of_cells, character_of}
 use Rattle.trac_forms.specs.Contents.{Contents}
-use Rattle.trac_functions.specs.Calls.{NoComma}
 use Rattle.trac_functions.specs.Flat.{memory_of}
 use Rattle.trac_core.specs.declared.scan.Front.{Front}
 use Rattle.trac_core.specs.declared.scan.Front.TheVariants.{Empty, Closes}
@@ -28,9 +28,10 @@ IsOrdinary c = is_special c ≡ false
 abbrev pub is_parenthesis : ℕ → Bool
 is_parenthesis c = (c == 40) || (c == 41)
 
--- 16 for a parenthesis, 1 for another character that has a rule of its own, 0 for the rest
+-- 17 for a parenthesis, 1 for a comma, 2 for another character that has a rule of its own, 0 for
+-- the rest
 abbrev pub kind_of : ℕ → ℕ
-kind_of c = if is_parenthesis c then 16 else (if is_special c then 1 else 0)
+kind_of c = if is_parenthesis c then 17 else (if c == 44 then 1 else (if is_special c then 2 else 0))
 
 -- the same of a cell's
 abbrev pub kind_in : Cell → ℕ

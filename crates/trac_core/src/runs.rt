@@ -10,10 +10,11 @@ ghost use Rattle.trac_core.specs.StepsInRow.{IsOrdinary};
 
 use trac_space::{Cell, byte_in};
 
-/// For each byte 16 where it is a parenthesis, 1 where it has another rule of its own, and else 0.
-const KINDS: &[u8; 256] = b"\
-    \0\0\0\0\0\0\0\0\0\x01\x01\0\0\x01\0\0\0\0\0\0\0\0\0\0\0\0\0\0\0\0\0\0\
-    \0\0\0\x01\0\0\0\0\x10\x10\0\0\x01\0\0\0\0\0\0\0\0\0\0\0\0\0\0\0\0\0\0\0\
+/// For each byte 17 where it is a parenthesis, 1 where it is a comma, 2 where it has another rule
+/// of its own, and else 0.
+pub(crate) const KINDS: &[u8; 256] = b"\
+    \0\0\0\0\0\0\0\0\0\x02\x02\0\0\x02\0\0\0\0\0\0\0\0\0\0\0\0\0\0\0\0\0\0\
+    \0\0\0\x02\0\0\0\0\x11\x11\0\0\x01\0\0\0\0\0\0\0\0\0\0\0\0\0\0\0\0\0\0\0\
     \0\0\0\0\0\0\0\0\0\0\0\0\0\0\0\0\0\0\0\0\0\0\0\0\0\0\0\0\0\0\0\0\
     \0\0\0\0\0\0\0\0\0\0\0\0\0\0\0\0\0\0\0\0\0\0\0\0\0\0\0\0\0\0\0\0\
     \0\0\0\0\0\0\0\0\0\0\0\0\0\0\0\0\0\0\0\0\0\0\0\0\0\0\0\0\0\0\0\0\
@@ -22,11 +23,11 @@ const KINDS: &[u8; 256] = b"\
     \0\0\0\0\0\0\0\0\0\0\0\0\0\0\0\0\0\0\0\0\0\0\0\0\0\0\0\0\0\0\0\0";
 
 // How many characters are looked at one by one before that.
-const FEW: usize = 16;
+const FEW: usize = 8;
 // How many characters are looked at by one test of the table.
 const BLOCK: usize = 8;
 // What the table says of a parenthesis: more than of all others of a block together.
-const PARENTHESIS: u8 = 16;
+const PARENTHESIS: u8 = 17;
 
 /// How many layout characters begin the cells.
 pub(crate) fn layout_characters(cells: &[Cell]) -> u32
@@ -150,7 +151,7 @@ fn kinds(cells: &[Cell], i: usize) -> u8
 fn kind(cell: &Cell) -> u8
     requires { IsByte cell.now }
     ensures kind { result ≡ kind_in cell.now }
-    ensures small { result ≤ 16 }
+    ensures small { result ≤ 17 }
 {
     KINDS[usize::from(byte_in(cell))]
 }

@@ -5,9 +5,10 @@ ghost use Rattle.trac_space.specs.Texts.{character_of, text_of_cells, IsByte};
 ghost use Rattle.trac_forms.specs.Contents.{used, IsSound};
 ghost use Rattle.trac_core.specs.Attempts.{Scans, Scanned, NoneFailed};
 ghost use Rattle.trac_core.specs.StepsInRow.{IsOrdinary, IsLayout, Advances, SomeSteps};
-ghost use Rattle.trac_core.specs.StepsInRow.{ComesTo, StopsAt, IsPlainFrom, KeepsPlain};
+ghost use Rattle.trac_core.specs.StepsInRow.{ComesTo, StopsAt, IsPlainFrom, KeepsPlain, kind_of};
+ghost use Rattle.trac_space.specs.Calls.{IsLastCall};
 
-use crate::runs::{layout_characters, matching, ordinary_characters};
+use crate::runs::{KINDS, layout_characters, matching, ordinary_characters};
 use trac_forms::Work;
 use trac_language::{Fate, Mode};
 use trac_space::{Cell, byte_in};
@@ -15,6 +16,9 @@ use trac_space::{Cell, byte_in};
 /// The idling procedure, which reads and scans a string and
 /// prints what is left of it (Mooers 1966).
 const IDLING: &[u8; 11] = b"#(ps,#(rs))";
+
+// So many characters of a run in a call are moved as they are looked at; more make a run long.
+const FEW: u64 = 16;
 
 /// What the try of a step came to, and the cells that it needed.
 #[derive(Clone, Copy, Debug, PartialEq, Eq)]
@@ -77,8 +81,10 @@ pub(crate) fn scan_on(work: &mut Work, most: u64) -> (u64, Option<Front>)
 {
     let mut count = 0;
     let mut plain = work.neutral_len();
+    // Whether the last run was long.
+    let mut long = false;
     while count < most {
-        match pass(work, most - count, &mut plain) {
+        match pass(work, most - count, &mut plain, &mut long) {
             Ok(more) => count += more,
             Err(front) => return (count, Some(front)),
         }
@@ -87,11 +93,11 @@ pub(crate) fn scan_on(work: &mut Work, most: u64) -> (u64, Option<Front>)
 }
 
 /// The table of the rules of scanning (Mooers 1966). Makes the steps of the rule that fits the
-/// beginning of the active string, at most so many: all of a run of ordinary characters, or of
-/// layout characters, at once, and one of another rule that performs no call. From the plain place
-/// on no comma mark stands in the neutral string.
+/// beginning of the active string, at most so many: all of a run of ordinary characters, in a call
+/// with the commas between them, or of layout characters, at once, and one of another rule that
+/// performs no call. From the plain place on no comma mark stands in the neutral string.
 #[inline]
-fn pass(work: &mut Work, most: u64, plain: &mut u32) -> Result<u64, Front>
+fn pass(work: &mut Work, most: u64, plain: &mut u32, long: &mut bool) -> Result<u64, Front>
     requires some { 0 < most }
     requires plain { IsPlainFrom plain.old work.old.neutral }
     requires sound { IsSound work.old }
@@ -105,12 +111,9 @@ fn pass(work: &mut Work, most: u64, plain: &mut u32) -> Result<u64, Front>
         Some(b'\t' | b'\n' | b'\r') => return Ok(delete_layout(work, most)),
         Some(b'(') => protect(work),
         Some(b')') => return end_call(work, *plain),
-        Some(b',') => {
-            begin_argument(work);
-            *plain = work.neutral_len();
-        }
+        Some(b',') => return Ok(begin_argument(work, most, plain, *long)),
         Some(b'#') => number_sign(work),
-        Some(_) => return Ok(add_characters(work, most)),
+        Some(_) => return Ok(add_characters(work, most, plain, long)),
     }
     Ok(1)
 }
@@ -137,9 +140,80 @@ fn end_call(work: &mut Work, plain: u32) -> Result<u64, Front>
 }
 
 /// The steps by which the ordinary characters at the front of the active string are added, at most
-/// so many, all at once. Gives how many they were.
+/// so many, all at once, and in a call the commas between them too. A run that is long, or follows
+/// a long one, is looked at before it is moved. Gives how many steps they were.
 #[inline]
-fn add_characters(work: &mut Work, most: u64) -> u64
+fn add_characters(work: &mut Work, most: u64, plain: &mut u32, long: &mut bool) -> u64
+    requires some { 0 < most }
+    requires first { (c : ℕ) ×
+        ((slice_get (text_of_cells work.old.active) 0 ≡ Some c) × IsOrdinary c) }
+    requires plain { IsPlainFrom plain.old work.old.neutral }
+    requires sound { IsSound work.old }
+    ensures passes { SomeSteps result most work.old work.new }
+    ensures plain { IsPlainFrom plain.new work.new.neutral }
+    ensures room { work.new.room ≡ work.old.room }
+    ensures sound { IsSound work.new }
+{
+    let count = if *long || work.last_call().is_none() {
+        add_long_run(work, most)
+    } else {
+        add_run(work, most, plain)
+    };
+    *long = count >= FEW;
+    count
+}
+
+/// A comma is deleted. Where a call is open, a new argument of the innermost begins, and what
+/// follows is added as by `add_characters`, unless long runs are. Gives how many steps they were.
+#[inline]
+fn begin_argument(work: &mut Work, most: u64, plain: &mut u32, long: bool) -> u64
+    requires some { 0 < most }
+    requires first { slice_get (text_of_cells work.old.active) 0 ≡ Some 44 }
+    requires plain { IsPlainFrom plain.old work.old.neutral }
+    requires sound { IsSound work.old }
+    ensures passes { SomeSteps result most work.old work.new }
+    ensures plain { IsPlainFrom plain.new work.new.neutral }
+    ensures room { work.new.room ≡ work.old.room }
+    ensures sound { IsSound work.new }
+{
+    if work.last_call().is_none() {
+        work.drop_active(1);
+        return 1;
+    }
+    if long {
+        work.active_to_cell(1, Cell::Comma);
+        *plain = work.neutral_len();
+        return 1;
+    }
+    add_run(work, most, plain)
+}
+
+/// The steps of the ordinary characters and the commas at the front of the active string where a
+/// call is open, at most so many and at most `FEW`, all at once. Gives how many they were.
+#[inline(never)]
+fn add_run(work: &mut Work, most: u64, plain: &mut u32) -> u64
+    requires some { 0 < most }
+    requires first { (c : ℕ) ×
+        ((slice_get (text_of_cells work.old.active) 0 ≡ Some c) × (kind_of c ≤ 1)) }
+    requires opened { (place : ℕ) × IsLastCall work.old.neutral place }
+    requires plain { IsPlainFrom plain.old work.old.neutral }
+    requires sound { IsSound work.old }
+    ensures passes { SomeSteps result most work.old work.new }
+    ensures plain { IsPlainFrom plain.new work.new.neutral }
+    ensures room { work.new.room ≡ work.old.room }
+    ensures sound { IsSound work.new }
+{
+    let before = work.neutral_len();
+    let reach = most.min(u64::from(work.active_len()));
+    let (count, last) = work.run_to_neutral(reach.min(FEW) as u32, KINDS);
+    *plain = if last > 0 { before + last } else { *plain };
+    u64::from(count)
+}
+
+/// The steps by which the ordinary characters at the front of the active string are added, at most
+/// so many, all at once. Gives how many they were.
+#[inline(never)]
+fn add_long_run(work: &mut Work, most: u64) -> u64
     requires some { 0 < most }
     requires first { (c : ℕ) ×
         ((slice_get (text_of_cells work.old.active) 0 ≡ Some c) × IsOrdinary c) }
@@ -156,7 +230,7 @@ fn add_characters(work: &mut Work, most: u64) -> u64
 
 /// The steps by which the layout characters at the front of the active string are deleted, at most
 /// so many, all at once. Gives how many they were.
-#[inline]
+#[inline(never)]
 fn delete_layout(work: &mut Work, most: u64) -> u64
     requires some { 0 < most }
     requires first { (c : ℕ) ×
@@ -234,24 +308,6 @@ fn protect(work: &mut Work)
             work.drop_active(1);
         }
         None => work.clear_active(),
-    }
-}
-
-/// A comma is deleted. Where a call is open, a new argument of the innermost begins.
-#[inline]
-fn begin_argument(work: &mut Work)
-    requires sound { IsSound work.old }
-    requires first { slice_get (text_of_cells work.old.active) 0 ≡ Some 44 }
-    ensures scans { Scans work.old work.new (used work.old) }
-    ensures no_larger { used work.new ≤ used work.old }
-    ensures shorter { length work.new.active < length work.old.active }
-    ensures room { work.new.room ≡ work.old.room }
-    ensures sound { IsSound work.new }
-{
-    if work.last_call().is_some() {
-        work.active_to_cell(1, Cell::Comma);
-    } else {
-        work.drop_active(1);
     }
 }
 

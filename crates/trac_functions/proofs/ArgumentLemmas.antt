@@ -7,14 +7,14 @@ use Rattle.trac_language.specs.Text.{Text}
 use Rattle.trac_language.specs.State.{argument}
 use Rattle.trac_space.specs.declared.cell.Cell.{Cell}
 use Rattle.trac_space.specs.declared.cell.Cell.TheVariants.{Byte, Call, Comma, Gap, Head}
-use Rattle.trac_space.specs.Cells.{seen, is_call, is_comma, NoCall}
+use Rattle.trac_space.specs.Cells.{seen, is_call, is_comma, NoCall, NoComma}
 use Rattle.trac_space.specs.Texts.{flat_text, text_of_cells, character_of, IsByte}
 use Rattle.trac_forms.specs.Contents.{Contents, IsStringCell, IsSound, IsTextPart, part_text}
 use Rattle.trac_forms.specs.Arguments.{before_comma}
 use Rattle.trac_forms.proofs.Parted.{before_comma-within}
 use Rattle.trac_functions.specs.declared.arguments.Arguments.{Arguments}
 use Rattle.trac_functions.specs.Flat.{in_first, texts_of}
-use Rattle.trac_functions.specs.Calls.{texts_from, texts, AreArguments, NoComma}
+use Rattle.trac_functions.specs.Calls.{texts_from, texts, AreArguments}
 
 -- ---- cells as contracts see them
 

@@ -1,5 +1,5 @@
 -- The arguments of a call, and what a function makes of it.
-use Rattle.std.specs.Prelude.{◌≡◌, ℕ, ◌+◌, ◌<◌, ◌≤◌, Bool, true, false, List, [], ◌∷◌, All}
+use Rattle.std.specs.Prelude.{◌≡◌, ℕ, ◌+◌, ◌<◌, ◌≤◌, Bool, true, false, List, [], ◌∷◌}
 use Rattle.std.specs.Prelude.{◌++◌, length, Some, slice_range, nat_le, if◌then◌else◌}
 use Rattle.trac_language.specs.declared.function.Function.{Function}
 use Rattle.trac_language.specs.Text.{Text}
@@ -7,7 +7,7 @@ use Rattle.trac_language.specs.Form.{Form}
 use Rattle.trac_language.specs.State.{Input}
 use Rattle.trac_language.specs.Meaning.{World, Gives, meaning_of, built}
 use Rattle.trac_space.specs.declared.cell.Cell.{Cell}
-use Rattle.trac_space.specs.Cells.{NoCall, is_comma}
+use Rattle.trac_space.specs.Cells.{NoCall, NoComma}
 use Rattle.trac_space.specs.Texts.{flat_text}
 use Rattle.trac_forms.specs.Contents.{Contents, used, IsSound}
 use Rattle.trac_functions.specs.declared.arguments.Arguments.{Arguments}
@@ -21,10 +21,6 @@ use Rattle.trac_functions.specs.Flat.{texts_of}
 abbrev pub texts_from : List Cell → ℕ → ℕ → List Text
 texts_from neutral from end =
     if nat_le from end then texts_of (slice_range neutral from end) else []
-
--- none of the cells is a comma mark
-abbrev pub NoComma : List Cell → Type 0
-NoComma = All (λ cell. is_comma cell ≡ false)
 
 -- the arguments that are left are within neutral, where no call mark stands among them, and no
 -- comma mark from the place on that is told

@@ -1,8 +1,13 @@
 //! Moves of cells within a block.
-ghost use Rattle.std.specs.Prelude.{◌≡◌, ◌+◌, ◌-◌, ◌≤◌, ◌<◌, ◌⊎◌, length};
+ghost use Rattle.std.specs.Prelude.{◌≡◌, ◌+◌, ◌-◌, ◌≤◌, ◌<◌, ◌⊎◌, length, All, drop, take};
+ghost use Rattle.std.specs.Prelude.{◌==◌, if◌then◌else◌, slice_index_or};
 ghost use Rattle.std.specs.List.{copy_within};
+ghost use Rattle.trac_space.specs.declared.cell.Cell.TheVariants.{Byte};
+ghost use Rattle.trac_space.specs.Cells.{NoComma};
+ghost use Rattle.trac_space.specs.Runs.{IsInRun, number_in, turned, with_cells_at};
+ghost use Rattle.trac_space.specs.Texts.{IsByte};
 
-use crate::cell::Cell;
+use crate::cell::{Cell, byte_in};
 
 // How many cells a long move takes at once.
 const PART: usize = 256;
@@ -173,4 +178,46 @@ fn copy_parts(from: &[Cell], to: &mut [Cell])
         to[done..end].copy_from_slice(&from[done..end]);
         done = end;
     }
+}
+
+// Moves characters to a place before, at most so many, up to the first that the table has a number
+// over 1 for; one that it has 1 for becomes a comma mark. Gives how many they are, and how many of
+// them stand up to the last comma mark.
+#[inline]
+pub(crate) fn copy_run(
+    cells: &mut [Cell],
+    start: usize,
+    to: usize,
+    most: usize,
+    table: &[u8; 256],
+) -> (usize, usize)
+    requires before { to ≤ start }
+    requires within { start + most ≤ length cells.old }
+    requires bytes { All IsByte (take most (drop start cells.old)) }
+    ensures few { result.0 ≤ most }
+    ensures run { All (IsInRun table.now) (take result.0 (drop start cells.old)) }
+    ensures ends { result.0 < most →
+        1 < number_in table.now (slice_index_or cells.old (start + result.0) (Byte 0)) }
+    ensures last { result.1 ≤ result.0 }
+    ensures plain { NoComma (drop result.1 (take result.0
+        (turned table.now (drop start cells.old)))) }
+    ensures len { length cells.new ≡ length cells.old }
+    ensures after { cells.new ≡
+        with_cells_at cells.old to (turned table.now (drop start cells.old)) result.0 }
+{
+    let mut count = 0;
+    let mut last = 0;
+    while count < most {
+        let number = table[usize::from(byte_in(&cells[start + count]))];
+        if number == 0 {
+            cells[to + count] = cells[start + count];
+        } else if number == 1 {
+            cells[to + count] = Cell::Comma;
+            last = count + 1;
+        } else {
+            return (count, last);
+        }
+        count += 1;
+    }
+    (count, last)
 }

@@ -1,13 +1,26 @@
-use Rattle.std.proofs.Common.{sym, ◌∙◌}
-use Rattle.trac_core.proofs.Scanning.{scans-comma, scans-comma-none, last-some, last-none}
+use Rattle.std.proofs.Common.{◌≡◌, false, true, [], ◌∷◌, ◌++◌, length-append, arith, drop}
+use Rattle.std.specs.Prelude.{is_some}
+use Rattle.std.proofs.lemmas.List.{length-drop}
+use Rattle.trac_space.specs.declared.cell.Cell.TheVariants.{Comma}
+use Rattle.trac_core.proofs.Scanning.{scans-comma, scans-comma-none, last-some, last-none, some-active}
+use Rattle.trac_core.proofs.StepsInRow.{one-step}
 use Rattle.trac_core.proofs.scan.begin_argument.Goals as goal
 
-pub returns-then-is_some-clause-scans : goal.returns-then-is_some-clause-scans
-returns-then-is_some-clause-scans c =
-    let last = last-some c.last_call.result _ _ (sym c.is_some.ensures ∙ c.if-is_some.true) c.last_call.ensures in
-    rw c.active_to_cell.ensures.turned (scans-comma c.args.work.now last.0 c.requires.first last.1)
+pub returns-then-is_none-clause-passes : goal.returns-then-is_none-clause-passes
+returns-then-is_none-clause-passes c =
+    let old = c.args.work.now in
+    let closed : is_some c.last_call.result ≡ false = (let e = rw c.if-is_none.true at c.is_none.ensures in cc) in
+    let none = last-none c.last_call.result _ _ closed c.last_call.ensures in
+    let some = some-active old.active 44 c.requires.first in
+    let less = length-drop 1 old.active in
+    rw c.drop_active.ensures.rest (one-step old (record old { active = drop 1 old.active }) c.args.most (scans-comma-none old c.requires.first none) (omega (arith, less)) (omega (arith, less, some)) c.requires.some)
 
-pub returns-else-is_some-clause-scans : goal.returns-else-is_some-clause-scans
-returns-else-is_some-clause-scans c =
-    let none = last-none c.last_call.result _ _ (sym c.is_some.ensures ∙ c.if-is_some.false) c.last_call.ensures in
-    rw c.drop_active.ensures.rest (scans-comma-none c.args.work.now c.requires.first none)
+pub returns-then-long-clause-passes : goal.returns-then-long-clause-passes
+returns-then-long-clause-passes c =
+    let old = c.args.work.now in
+    let opened : is_some c.last_call.result ≡ true = (let e = rw c.if-is_none.false at c.is_none.ensures in cc) in
+    let last = last-some c.last_call.result _ _ opened c.last_call.ensures in
+    let some = some-active old.active 44 c.requires.first in
+    let less = length-drop 1 old.active in
+    let pushed = length-append old.neutral (Comma ∷ []) in
+    rw c.active_to_cell.ensures.turned (one-step old (record old { active = drop 1 old.active; neutral = old.neutral ++ Comma ∷ [] }) c.args.most (scans-comma old last.0 c.requires.first last.1) (omega (arith, less, pushed, some)) (omega (arith, less, some)) c.requires.some)

@@ -6,9 +6,6 @@ use Rattle.trac_core.proofs.scan.pass.Goals as goal
 pub returns-in-Some-eq40-clause-comes : goal.returns-in-Some-eq40-clause-comes
 returns-in-Some-eq40-clause-comes c = one-step _ _ c.args.most c.protect.ensures.scans c.protect.ensures.no_larger c.protect.ensures.shorter c.requires.some
 
-pub returns-in-Some-eq44-clause-comes : goal.returns-in-Some-eq44-clause-comes
-returns-in-Some-eq44-clause-comes c = one-step _ _ c.args.most c.begin_argument.ensures.scans c.begin_argument.ensures.no_larger c.begin_argument.ensures.shorter c.requires.some
-
 pub returns-in-Some-eq35-clause-comes : goal.returns-in-Some-eq35-clause-comes
 returns-in-Some-eq35-clause-comes c = one-step _ _ c.args.most c.number_sign.ensures.scans c.number_sign.ensures.no_larger c.number_sign.ensures.shorter c.requires.some
 

@@ -6,7 +6,7 @@ use Rattle.trac_core.specs.StepsInRow.{IsOrdinary}
 use Rattle.trac_core.proofs.PlainEnds.{bytes-plain, plain-appended}
 use Rattle.trac_core.proofs.Scanning.{some-active}
 use Rattle.trac_core.proofs.StepsInRow.{characters-pass, All-after}
-use Rattle.trac_core.proofs.scan.add_characters.Goals as goal
+use Rattle.trac_core.proofs.scan.add_long_run.Goals as goal
 
 pub after_first-requires-clause-within : goal.after_first-requires-clause-within
 after_first-requires-clause-within c = some-active c.args.work.now.active c.requires.first.0 c.requires.first.1.0

@@ -1,0 +1,129 @@
+-- Runs of ordinary characters and commas in a call: each is added or begins an argument.
+use Rattle.std.proofs.Common.{◌≡◌, ℕ, zero, suc, ◌<◌, ◌≤◌, ◌+◌, Bool, true, false, List, [], ◌∷◌, ◌++◌, length, take, drop, map, All, Some, slice_get, get_or, refl, sym, ap, ◌∙◌, subst, arith, append_assoc, append-nil, length-append, ⊎_elim, inl, inr}
+use Rattle.std.specs.Prelude.{◌==◌, ◌⊎◌, if◌then◌else◌}
+use Rattle.std.specs.List.{range_with_len}
+use Rattle.std.proofs.lemmas.Bool.{ne_eqb, eqb-true, cases_lt}
+use Rattle.std.proofs.lemmas.List.{length-drop, get_or_past, get_or_append_left, drop-append-le}
+use Rattle.std.proofs.lemmas.List.FromFn.{get_or-map-range_with_len, length-map-range_with_len}
+use Rattle.std.proofs.lemmas.List.Elements.{All-head, All-tail, All-push}
+use Rattle.std.proofs.Math.Seq.{drop-append-add}
+use Rattle.trac_space.specs.declared.cell.Cell.{Cell}
+use Rattle.trac_space.specs.declared.cell.Cell.TheVariants.{Byte, Call, Comma, Gap, Head}
+use Rattle.trac_space.specs.Calls.{IsLastCall}
+use Rattle.trac_space.specs.Cells.{is_call, IsNoCall, NoComma}
+use Rattle.trac_space.specs.Texts.{text_of_cells, character_of, IsByte}
+use Rattle.trac_space.specs.Runs.{IsInRun, number_in, turned, turned_by}
+use Rattle.trac_forms.specs.Contents.{Contents, used}
+use Rattle.trac_functions.specs.Flat.{memory_of}
+use Rattle.trac_core.specs.Attempts.{Scans}
+use Rattle.trac_core.specs.StepsInRow.{is_special, is_parenthesis, kind_of, IsOrdinary, IsPlainFrom, PassesTimes}
+use Rattle.trac_core.proofs.Scanning.{scans-other, scans-comma}
+use Rattle.trac_core.proofs.StepsInRow.{passes-scans, ordinary-layout, ordinary-not}
+
+-- a number over 255 has no rule of its own
+kind-past : (c : ℕ) → 256 ≤ c → kind_of c ≡ 0
+kind-past c past =
+    rw (ne_eqb c 9 (λ e. absurd (omega (arith, e))), ne_eqb c 10 (λ e. absurd (omega (arith, e))), ne_eqb c 13 (λ e. absurd (omega (arith, e))), ne_eqb c 35 (λ e. absurd (omega (arith, e))), ne_eqb c 40 (λ e. absurd (omega (arith, e))), ne_eqb c 41 (λ e. absurd (omega (arith, e))), ne_eqb c 44 (λ e. absurd (omega (arith, e)))) refl
+
+-- what the table has for a character is its kind
+pub number-kind : (c : ℕ) → get_or (map kind_of (range_with_len 0 256)) c 0 ≡ kind_of c
+number-kind c =
+    ⊎_elim (λ small. get_or-map-range_with_len kind_of 0 256 c c 0 small (omega arith))
+    (λ past. get_or_past (map kind_of (range_with_len 0 256)) c 0 (omega (arith, past, length-map-range_with_len kind_of 0 256)) ∙ sym (kind-past c past))
+    (cases_lt c 256)
+
+abbrev kind_by : Bool → Bool → Bool → ℕ
+kind_by a b d = if a then 17 else (if b then 1 else (if d then 2 else 0))
+
+-- the characters of a run are ordinary ones and commas
+kind-run : (c : ℕ) → kind_of c ≤ 1 → (IsOrdinary c × (kind_of c ≡ 0)) ⊎ ((c ≡ 44) × (kind_of c ≡ 1))
+kind-run c = go (is_parenthesis c) (c == 44) (is_special c) (eqb-true c 44)
+  where
+    go : (a b d : Bool) → (b ≡ true → c ≡ 44) → kind_by a b d ≤ 1 → ((d ≡ false) × (kind_by a b d ≡ 0)) ⊎ ((c ≡ 44) × (kind_by a b d ≡ 1))
+    go true b d comma less = absurd (omega arith)
+    go false true d comma less = inr (comma refl, refl)
+    go false false true comma less = absurd (omega arith)
+    go false false false comma less = inl (refl, refl)
+
+-- one of them is scanned
+scans-run : (w : Contents) (c place : ℕ) → slice_get (text_of_cells w.active) 0 ≡ Some c → IsLastCall w.neutral place → kind_of c ≤ 1 → Scans w (record w { active = drop 1 w.active; neutral = w.neutral ++ turned_by (map kind_of (range_with_len 0 256)) (Byte c) ∷ [] }) (used w)
+scans-run w c place first last less =
+    ⊎_elim
+    (λ ordinary.
+    let stays : turned_by (map kind_of (range_with_len 0 256)) (Byte c) ≡ Byte c = ap (λ n. if n == 0 then Byte c else Comma) (number-kind c ∙ ordinary.1) in
+    subst (λ cell. Scans w (record w { active = drop 1 w.active; neutral = w.neutral ++ cell ∷ [] }) (used w)) (sym stays)
+    (scans-other w c first (ordinary-layout c ordinary.0) (ordinary-not c 40 ordinary.0 refl) (ordinary-not c 41 ordinary.0 refl) (ordinary-not c 44 ordinary.0 refl) (ordinary-not c 35 ordinary.0 refl)))
+    (λ comma.
+    let turns : turned_by (map kind_of (range_with_len 0 256)) (Byte c) ≡ Comma = ap (λ n. if n == 0 then Byte c else Comma) (number-kind c ∙ comma.1) in
+    subst (λ cell. Scans w (record w { active = drop 1 w.active; neutral = w.neutral ++ cell ∷ [] }) (used w)) (sym turns)
+    (scans-comma w place (first ∙ ap Some comma.0) last))
+    (kind-run c less)
+
+-- the call that is open stays the innermost
+last-pushed : (neutral : List Cell) (cell : Cell) (place : ℕ) → IsNoCall cell → IsLastCall neutral place → IsLastCall (neutral ++ cell ∷ []) place
+last-pushed neutral cell place none last =
+    let inside = last.mark.0 in
+    let long = length-append neutral (cell ∷ []) in
+    record {
+      mark = (omega (arith, inside, long), subst (λ c. is_call c ≡ true) (sym (get_or_append_left neutral (cell ∷ []) (Byte 0) place inside)) last.mark.1);
+      after = subst (All IsNoCall) (sym (drop-append-le (place + 1) neutral (cell ∷ []) (omega (arith, inside)))) (All-push IsNoCall (drop (place + 1) neutral) cell last.after none);
+    }
+
+turned-no_call : (c : ℕ) → IsNoCall (turned_by (map kind_of (range_with_len 0 256)) (Byte c))
+turned-no_call c = go (get_or (map kind_of (range_with_len 0 256)) c 0 == 0)
+  where
+    go : (stays : Bool) → IsNoCall (if stays then Byte c else Comma)
+    go true = refl
+    go false = refl
+
+-- the contents with the first n cells of active turned at the end of neutral
+abbrev pub run_moved : ℕ → Contents → Contents
+run_moved n w = record w { active = drop n w.active; neutral = w.neutral ++ turned (map kind_of (range_with_len 0 256)) (take n w.active) }
+
+pub run-passes : (meta n place : ℕ) (w : Contents) → IsLastCall w.neutral place → All IsByte w.active → n ≤ length w.active → All (IsInRun (map kind_of (range_with_len 0 256))) (take n w.active) → PassesTimes n (memory_of meta w) (memory_of meta (run_moved n w))
+run-passes meta zero place w last bytes within run = ap (λ cells. memory_of meta (record w { neutral = cells })) (sym (append-nil w.neutral))
+run-passes meta (suc n) place w last bytes within run = go w.active refl (run-passes meta n place) bytes within run
+  where
+    go : (active : List Cell) → w.active ≡ active → ((w : Contents) → IsLastCall w.neutral place → All IsByte w.active → n ≤ length w.active → All (IsInRun (map kind_of (range_with_len 0 256))) (take n w.active) → PassesTimes n (memory_of meta w) (memory_of meta (run_moved n w))) → All IsByte active → suc n ≤ length active → All (IsInRun (map kind_of (range_with_len 0 256))) (take (suc n) active) → PassesTimes (suc n) (memory_of meta w) (memory_of meta (run_moved (suc n) w))
+    go [] is later bytes within run = absurd (omega arith)
+    go (Byte c ∷ rest) is later bytes within run =
+        let table = map kind_of (range_with_len 0 256) in
+        let cell = turned_by table (Byte c) in
+        let number = All-head (IsInRun table) (Byte c) (take n rest) run in
+        let less : kind_of c ≤ 1 = subst (λ k. k ≤ 1) (number-kind c) number in
+        let first : slice_get (text_of_cells w.active) 0 ≡ Some c = ap (λ cells. slice_get (text_of_cells cells) 0) is in
+        let next : Contents = record w { active = drop 1 w.active; neutral = w.neutral ++ cell ∷ [] } in
+        let scans = scans-run w c place first last less in
+        let long : length w.active ≡ suc (length rest) = ap length is in
+        let more = length-drop 1 w.active in
+        let pushed = length-append w.neutral (cell ∷ []) in
+        let same : used next ≤ used w = omega arith in
+        let after : drop 1 w.active ≡ rest = ap (drop 1) is in
+        let others : PassesTimes n (memory_of meta next) (memory_of meta (run_moved n next)) =
+        later next (last-pushed w.neutral cell place (turned-no_call c) last) (subst (All IsByte) (sym after) (All-tail IsByte (Byte c) rest bytes)) (omega arith)
+        (subst (λ cells. All (IsInRun table) (take n cells)) (sym after) (All-tail (IsInRun table) (Byte c) (take n rest) run)) in
+        let end : run_moved n next ≡ run_moved (suc n) w =
+        ap (λ cells. record w { active = drop n cells; neutral = (w.neutral ++ cell ∷ []) ++ turned table (take n cells) }) after
+        ∙ ap (λ cells. record w { active = drop n rest; neutral = cells }) (append_assoc w.neutral (cell ∷ []) (turned table (take n rest)))
+        ∙ ap (λ cells. record w { active = drop (suc n) cells; neutral = w.neutral ++ turned table (take (suc n) cells) }) (sym is) in
+        (memory_of meta next, (passes-scans meta w next scans same, subst (λ v. PassesTimes n (memory_of meta next) (memory_of meta v)) end others))
+    go (Call mode k ∷ rest) is later bytes within run = absurd (All-head IsByte (Call mode k) rest bytes)
+    go (Comma ∷ rest) is later bytes within run = absurd (All-head IsByte Comma rest bytes)
+    go (Gap k ∷ rest) is later bytes within run = absurd (All-head IsByte (Gap k) rest bytes)
+    go (Head k ∷ rest) is later bytes within run = absurd (All-head IsByte (Head k) rest bytes)
+
+-- behind the last comma mark of what is added none stands
+pub plain-turned : (neutral more : List Cell) (place last : ℕ) → place ≡ length neutral + last → NoComma (drop last more) → IsPlainFrom place (neutral ++ more)
+plain-turned neutral more place last is plain =
+    let same : drop place (neutral ++ more) ≡ drop last more = ap (λ k. drop k (neutral ++ more)) is ∙ drop-append-add neutral more last in
+    subst NoComma (sym same) plain
+
+-- the character that a rule was found by is in the run
+pub run-some : (active : List Cell) (n reach c : ℕ) → slice_get (text_of_cells active) 0 ≡ Some c → kind_of c ≤ 1 → 0 < reach → (n < reach → 1 < number_in (map kind_of (range_with_len 0 256)) (get_or active n (Byte 0))) → 0 < n
+run-some active (suc n) reach c first less some ends = omega arith
+run-some [] zero reach c first less some ends = absurd cc
+run-some (cell ∷ active) zero reach c first less some ends =
+    let same : character_of cell ≡ c = cc in
+    let number : number_in (map kind_of (range_with_len 0 256)) cell ≡ kind_of c = number-kind (character_of cell) ∙ ap kind_of same in
+    let over = ends some in
+    absurd (omega (arith, over, number, less))

@@ -1,0 +1,44 @@
+use Rattle.std.proofs.Common.{◌≡◌, ◌≤◌, ◌<◌, ◌+◌, ◌-◌, ◌++◌, length, take, drop, map, sym, ap, ◌∙◌, subst, arith}
+use Rattle.std.specs.List.{range_with_len}
+use Rattle.std.proofs.lemmas.List.{length-drop}
+use Rattle.trac_space.specs.Cells.{NoComma}
+use Rattle.trac_space.specs.Runs.{turned}
+use Rattle.trac_functions.specs.Flat.{memory_of}
+use Rattle.trac_core.specs.StepsInRow.{PassesTimes, IsPlainFrom, kind_of}
+use Rattle.trac_core.proofs.ArgumentRuns.{run-passes, run-some, plain-turned}
+use Rattle.trac_core.proofs.PlainEnds.{plain-appended}
+use Rattle.trac_core.proofs.Scanning.{some-active}
+use Rattle.trac_core.proofs.StepsInRow.{passes-then}
+use Rattle.trac_core.proofs.scan.add_run.Goals as goal
+use Rattle.trac_core.proofs.scan.add_run.Goals.{then-last-gt0, else-last-gt0}
+
+pub returns-clause-passes : goal.returns-clause-passes
+returns-clause-passes c =
+    let old = c.args.work.now in
+    let n = c.run_to_neutral-count.result.0 in
+    let run = c.run_to_neutral-count.ensures in
+    let within : n ≤ length old.active = omega (arith, run.few, c.min.ensures, c.min-reach.ensures, c.from.ensures, c.active_len.ensures.value) in
+    let inside = some-active old.active c.requires.first.0 c.requires.first.1.0 in
+    let reach : 0 < c.min.result = omega (arith, inside, c.requires.some, c.min.ensures, c.min-reach.ensures, c.from.ensures, c.active_len.ensures.value) in
+    let some = run-some old.active n c.min.result c.requires.first.0 c.requires.first.1.0 c.requires.first.1.1 reach run.ends in
+    let less = length-drop n old.active in
+    rw (c.from-2.ensures, run.moved)
+    (record {
+      passes = λ meta. run-passes meta n c.requires.opened.0 old c.requires.opened.1 c.requires.sound.active within run.run;
+      some = some;
+      few = omega (arith, run.few, c.min.ensures, c.min-reach.ensures);
+      shorter = omega (arith, some, within, less);
+    })
+
+pub returns-clause-plain : goal.returns-clause-plain
+returns-clause-plain c =
+    let old = c.args.work.now in
+    let n = c.run_to_neutral-count.result.0 in
+    let last = c.run_to_neutral-count.result.1 in
+    let run = c.run_to_neutral-count.ensures in
+    let more = turned (map kind_of (range_with_len 0 256)) (take n old.active) in
+    let plain : IsPlainFrom c.if-last-gt0.plain (old.neutral ++ more) = elim c.if-last-gt0.branch [
+      | then-last-gt0 w ↦ plain-turned old.neutral more c.if-last-gt0.plain last (w.plain-is ∙ ap (λ k. k + last) c.neutral_len-before.ensures.value) run.plain
+      | else-last-gt0 w ↦ (let none : last ≡ 0 = omega (arith, w.if-last-gt0.false) in subst (λ place. IsPlainFrom place (old.neutral ++ more)) (sym w.plain-is) (plain-appended old.neutral more (subst (λ k. NoComma (drop k more)) none run.plain) c.args.plain.now c.requires.plain))
+    ] in
+    subst (λ w. IsPlainFrom c.if-last-gt0.plain w.neutral) (sym run.moved) plain

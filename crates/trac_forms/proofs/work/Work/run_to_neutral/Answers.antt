@@ -1,0 +1,12 @@
+use Rattle.std.proofs.Common.{arith}
+use Rattle.trac_forms.proofs.Strings.{run-moved}
+use Rattle.trac_forms.proofs.work.Work.run_to_neutral.Goals as goal
+
+pub invariant_of-self : goal.invariant_of-self
+invariant_of-self c =
+    let s = c.self.inside in
+    let within = rw (← c.self.view_is) at c.requires.within in
+    run-moved s.space c.run_to_neutral.new.self s.count s.last s.start c.run_to_neutral.result.0 c.args.table.now c.self.invariant (omega (arith, c.run_to_neutral.ensures.few, within)) c.run_to_neutral.ensures.moved
+
+pub returns-clause-sound : goal.returns-clause-sound
+returns-clause-sound c = (invariant_of-self c).sound

@@ -1,0 +1,20 @@
+use Rattle.std.proofs.Common.{◌-◌, ◌≡◌, ◌≤◌, All, drop, take}
+use lib.Seq.{paste}
+use Rattle.trac_space.specs.Cells.{NoComma}
+use Rattle.trac_space.specs.Runs.{IsInRun, turned}
+use Rattle.trac_space.proofs.copies.copy_run.Given as goal
+
+-- so many characters are at their place, and no comma mark stands behind the last
+abbrev pub invariant-loop-count : goal.invariant-loop-count
+invariant-loop-count l =
+    record {
+      within : l.count ≤ l.most;
+      run : All (IsInRun l.table) (take l.count (drop l.start l.fn.cells));
+      last : l.last ≤ l.count;
+      plain : NoComma (drop l.last (take l.count (turned l.table (drop l.start l.fn.cells))));
+      copied : l.cells ≡ paste l.fn.cells l.to (turned l.table (drop l.start l.fn.cells)) l.count;
+    }
+
+-- the characters that may follow
+abbrev pub decreases-loop-count : goal.decreases-loop-count
+decreases-loop-count l = l.most - l.count
