@@ -25,10 +25,12 @@ returns-in-Some-clause-takes c =
     let long = part-long c.args.work.now.neutral c.args.sought.0 c.args.sought.1 c.requires.sought in
     let order = c.requires.sought.order in
     let other = c.if-sought.false in
-    let found = c.in-Some.ensures in
+    let found = c.in-Some.ensures.found in
+    let made = c.take_part-in-Some.ensures.takes z in
+    let takes = rw c.occurrence.ensures.same at made in
     subst (λ (o : Option Part). TakesPart o z c.args.form.0 c.args.work.now c.take_part-in-Some.result c.take_part-in-Some.new.work)
     (initial-some text form c.pointer-pointer.result c.in-Some.begin c.in-Some.end c.pointer-pointer.ensures.value (omega arith) found.0 (omega (arith, found.1)))
-    (c.take_part-in-Some.ensures.takes z)
+    takes
 
 pub returns-in-None-clause-takes : goal.returns-in-None-clause-takes
 returns-in-None-clause-takes c =
@@ -38,6 +40,8 @@ returns-in-None-clause-takes c =
     let long = part-long c.args.work.now.neutral c.args.sought.0 c.args.sought.1 c.requires.sought in
     let order = c.requires.sought.order in
     let other = c.if-sought.false in
+    let made = c.give.ensures.takes refl c.args.form.0 in
+    let takes = rw c.occurrence.ensures.same at made in
     subst (λ (o : Option Part). TakesPart o z c.args.form.0 c.args.work.now c.give.result c.give.new.work)
-    (sym (initial-none text form c.pointer-pointer.result c.pointer-pointer.ensures.value c.pointer-pointer.ensures.within (omega arith) c.in-None.ensures))
-    (c.give.ensures.takes refl c.args.form.0)
+    (sym (initial-none text form c.pointer-pointer.result c.pointer-pointer.ensures.value c.pointer-pointer.ensures.within (omega arith) c.in-None.ensures.found))
+    takes

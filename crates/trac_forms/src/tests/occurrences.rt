@@ -1,0 +1,57 @@
+//! Where a text occurs in a body: with room for its borders, and without.
+use super::{define, find, occurrence, push, segment};
+use crate::{Cell, Work};
+
+// Where the text stands first in the body, each minus sign of which is a gap, from a place on. No
+// cell is free where the block is to be full.
+fn first_place(work: &mut Work, body: &[u8], text: &[u8], from: u32, full: bool) -> Option<u32> {
+    work.delete_all();
+    work.clear_neutral();
+    push(work, b"-");
+    push(work, body);
+    let end = work.neutral_len();
+    push(work, text);
+    let all = work.neutral_len();
+    if !define(work, (0, 1), (1, end)) {
+        return None;
+    }
+    let form = find(work, (0, 1))?;
+    segment(work, form, (0, 1), 1);
+    if full {
+        for _ in 0..100u32 {
+            work.push_neutral(Cell::Comma);
+        }
+    }
+    match occurrence(work, form, from, (end, all)) {
+        Some((begin, _end)) => Some(begin),
+        None => None,
+    }
+}
+
+// Whether it stands there first, both ways.
+fn stands_first(work: &mut Work, body: &[u8], text: &[u8], from: u32, place: Option<u32>) -> bool {
+    first_place(work, body, text, from, false) == place
+        && first_place(work, body, text, from, true) == place
+}
+
+#[test]
+fn long_texts(rt: HostRuntime) {
+    let mut block = [Cell::Gap(7); 100];
+    let mut work = Work::over(&mut block);
+    let work = &mut work;
+    assert!(rt; stands_first(work, b"aaaaaaaaaaaab", b"aaaaaaaab", 0, Some(4)));
+    assert!(rt; stands_first(work, b"aaaaaaaaaaaab", b"aaaaaaaab", 4, Some(4)));
+    assert!(rt; stands_first(work, b"aaaaaaaaaaaab", b"aaaaaaaab", 5, None));
+    assert!(rt; stands_first(work, b"aaaaaaaaaaaaa", b"aaaaaaaab", 0, None));
+    assert!(rt; stands_first(work, b"abababababac", b"abababac", 0, Some(4)));
+    assert!(rt; stands_first(work, b"aabaabaabaaa", b"aabaabaaa", 0, Some(3)));
+    assert!(rt; stands_first(work, b"xyzabcabcabd", b"abcabcabd", 0, Some(3)));
+    assert!(rt; stands_first(work, b"abcabcab", b"abcabcab", 0, Some(0)));
+    assert!(rt; stands_first(work, b"abcdefghabcdefgh", b"abcdefgh", 1, Some(8)));
+    // longer than the body
+    assert!(rt; stands_first(work, b"aaaaaaaa", b"aaaaaaaaa", 0, None));
+    // eight, a gap, and nine
+    assert!(rt; stands_first(work, b"aaaaaaaa-aaaaaaaaa", b"aaaaaaaaa", 0, Some(9)));
+    assert!(rt; stands_first(work, b"aaaaaaaa-aaaaaaaaa", b"aaaaaaaaa", 10, None));
+    assert!(rt; stands_first(work, b"aaaaaaaa-aaaaaaaa-", b"aaaaaaaaa", 0, None));
+}
