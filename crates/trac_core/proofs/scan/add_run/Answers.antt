@@ -1,14 +1,12 @@
-use Rattle.std.proofs.Common.{◌≡◌, ◌≤◌, ◌<◌, ◌+◌, ◌-◌, ◌++◌, length, take, drop, map, sym, ap, ◌∙◌, subst, arith}
+use Rattle.std.proofs.Common.{◌≡◌, ◌≤◌, ◌<◌, ◌+◌, ◌++◌, length, take, drop, map, sym, ap, ◌∙◌, subst, arith}
 use Rattle.std.specs.List.{range_with_len}
 use Rattle.std.proofs.lemmas.List.{length-drop}
 use Rattle.trac_space.specs.Cells.{NoComma}
 use Rattle.trac_space.specs.Runs.{turned}
-use Rattle.trac_functions.specs.Flat.{memory_of}
-use Rattle.trac_core.specs.StepsInRow.{PassesTimes, IsPlainFrom, kind_of}
+use Rattle.trac_core.specs.StepsInRow.{IsPlainFrom, kind_of}
 use Rattle.trac_core.proofs.ArgumentRuns.{run-passes, run-some, plain-turned}
 use Rattle.trac_core.proofs.PlainEnds.{plain-appended}
 use Rattle.trac_core.proofs.Scanning.{some-active}
-use Rattle.trac_core.proofs.StepsInRow.{passes-then}
 use Rattle.trac_core.proofs.scan.add_run.Goals as goal
 use Rattle.trac_core.proofs.scan.add_run.Goals.{then-last-gt0, else-last-gt0}
 
