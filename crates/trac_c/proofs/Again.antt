@@ -12,11 +12,6 @@ use Rattle.trac_c.specs.declared.report.TracReport.{TracReport}
 use Rattle.trac_c.specs.declared.turn.Turn.{Turn}
 use Rattle.trac_c.specs.declared.turn.Turn.TheVariants.{Went, Over}
 
--- it doesn't wait
-pub never-short : (m : MachineState) (fate : Fate) (bytes : Text) → m.fate ≡ Some fate → is_short (awaited (next_function m)) m bytes ≡ false
-never-short m fate bytes over =
-    ap (λ f. is_short (awaited (if is_none f && nat_lt m.steps m.allowance then performs m.memory else None)) m bytes) over
-
 -- and prints nothing
 pub prints-none : (m : MachineState) (fate : Fate) (input : Input) → m.fate ≡ Some fate → next_printed m input ≡ []
 prints-none m fate input over =

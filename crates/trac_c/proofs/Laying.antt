@@ -83,6 +83,3 @@ module _ {X A : Type 0} (f : X → A) where
   laid-enough zero (x ∷ xs) (y ∷ r) le = absurd (omega (arith, le))
   laid-enough (suc i) [] (y ∷ r) le = refl
   laid-enough (suc i) (x ∷ xs) (y ∷ r) le = ap (λ r. f x ∷ r) (laid-enough i xs r (omega arith))
-
-  pub laid-all : (i : ℕ) (xs : List X) (r : List A) → length xs ≤ i → laid (map f (take i xs)) r ≡ laid (map f xs) r
-  laid-all i xs r le = laid-enough i xs r (omega arith)

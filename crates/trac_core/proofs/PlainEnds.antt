@@ -33,18 +33,3 @@ plain-appended neutral more none place plain =
     subst (λ k. IsPlainFrom k (neutral ++ more)) e
     (subst NoComma (sym (drop-append-add neutral more n)) (All-drop (λ cell. is_comma cell ≡ false) n more none)))
     (cases_lt place (length neutral))
-
--- no cell stands behind the last
-pub plain-end : (neutral : List Cell) (place : ℕ) → place ≡ length neutral → IsPlainFrom place neutral
-plain-end neutral place e = rw (e, drop-length neutral) (λ k d within. absurd (omega arith))
-
--- up to the end of the neutral string
-pub plain-range : (neutral : List Cell) (place end : ℕ) → end ≡ length neutral → IsPlainFrom place neutral → NoComma (slice_range neutral place end)
-plain-range neutral place end e plain =
-    let long = length-drop place neutral in
-    subst NoComma (sym (take_all (end - place) (drop place neutral) (omega arith))) plain
-
--- one cell that is no comma mark, added at the end
-pub plain-one : (neutral : List Cell) (cell : Cell) → is_comma cell ≡ false → (place : ℕ) → IsPlainFrom place neutral → IsPlainFrom place (neutral ++ cell ∷ [])
-plain-one neutral cell other =
-    plain-appended neutral (cell ∷ []) (All-cons (λ cell. is_comma cell ≡ false) cell [] other (λ k d within. absurd (omega arith)))

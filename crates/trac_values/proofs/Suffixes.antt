@@ -1,14 +1,11 @@
 -- The longest suffix of characters that pass a test, found from the end.
-use Rattle.std.proofs.Common.{◌≡◌, ℕ, zero, suc, ◌+◌, ◌-◌, ◌*◌, ◌<◌, ◌≤◌, Bool, true, false, List, length, take, get_or, sym, ap, ◌∙◌, arith, ⊎_elim, cond, eqb}
+use Rattle.std.proofs.Common.{◌≡◌, ℕ, ◌+◌, ◌-◌, ◌*◌, ◌<◌, ◌≤◌, Bool, true, false, List, length, take, get_or, sym, ap, ◌∙◌, arith}
 use Rattle.std.specs.List.{suffix_len}
 use Rattle.std.specs.Char.{is_ascii_digit, digit_value}
-use Rattle.std.specs.Ordering.{nat_cmp, ordering_then}
-use Rattle.std.specs.declared.cmp.Ordering.TheVariants.{Less, Equal, Greater}
-use Rattle.std.proofs.lemmas.Bool.{cases_order, lt-ltb, le-ltb, ne_eqb, eq-eqb}
 use Rattle.std.specs.Str.Parse.{digits_value}
 use Rattle.std.proofs.lemmas.Bool.Decides.{nat_tests}
 use Rattle.std.proofs.lemmas.Int.Digits.{digits_value_more}
-use Rattle.std.proofs.lemmas.List.{length-take, length-map, get_or-map, take_all}
+use Rattle.std.proofs.lemmas.List.{length-take, length-map, get_or-map}
 use Rattle.std.proofs.lemmas.List.Sums.{suffix_len-take_yes, suffix_len-take_no}
 use Rattle.trac_space.specs.declared.cell.Cell.{Cell}
 use Rattle.trac_space.specs.Texts.{character_of, text_of_cells}
@@ -32,13 +29,6 @@ module _ (p : ℕ → Bool) (cells : List Cell) where
       let long = length-map cells character_of in
       let here = suffix_len-take_no p (text_of_cells cells) n 0 pos (omega arith) (ap p (read (n - 1) (omega arith)) ∙ stops) in
       omega (arith, length-take (length (text_of_cells cells) - suffix_len p (text_of_cells cells)) (text_of_cells cells))
-
-  -- all pass
-  pub suffix_all : (n : ℕ) → n ≤ 0 → n + suffix_len p (text_of_cells cells) ≡ length cells + suffix_len p (take n (text_of_cells cells)) → n ≡ length (take (length (text_of_cells cells) - suffix_len p (text_of_cells cells)) (text_of_cells cells))
-  suffix_all zero le so_far =
-      let long = length-map cells character_of in
-      omega (arith, length-take (length (text_of_cells cells) - suffix_len p (text_of_cells cells)) (text_of_cells cells))
-  suffix_all (suc n) le so_far = absurd (omega arith)
 
 -- a decimal digit and its value
 digit_facts : (c : ℕ) → is_ascii_digit c ≡ true → (48 ≤ c) × (c < 58) × (digit_value c ≡ c - 48)
@@ -71,38 +61,3 @@ value_upto_more cells long place c short before within is passes =
     ap (λ k. digits_value 10 (take k (text_of_cells cells))) e1
     ∙ value_more cells i c (omega arith) is passes
     ∙ ap (λ k. digits_value 10 (take k (text_of_cells cells)) * 10 + (c - 48)) e0
-
--- at the end it is the value of all digits, and before the first it is 0
-pub value_upto_all : (digits : List ℕ) (long place : ℕ) → long ≤ place → place ≤ long → value_upto digits long place ≡ digits_value 10 digits
-value_upto_all digits long place le ge = let e : place + length digits - long ≡ length digits = omega arith in ap (λ n. digits_value 10 (take n digits)) e ∙ ap (digits_value 10) (take_all (length digits) digits (omega arith))
-
-pub value_upto_none : (digits : List ℕ) (long : ℕ) → length digits ≤ long → value_upto digits long 0 ≡ 0
-value_upto_none digits long le = let e : 0 + length digits - long ≡ 0 = omega arith in ap (λ n. digits_value 10 (take n digits)) e
-
-cmp_less : (a b : ℕ) → a < b → nat_cmp a b ≡ Less
-cmp_less a b h = ap (λ t. cond t Less (cond (eqb a b) Equal Greater)) (lt-ltb a b h)
-
-cmp_greater : (a b : ℕ) → b < a → nat_cmp a b ≡ Greater
-cmp_greater a b h = ap (λ t. cond t Less (cond (eqb a b) Equal Greater)) (le-ltb a b (omega arith)) ∙ ap (λ t. cond t Equal Greater) (ne_eqb a b (λ e. absurd (omega arith)))
-
-cmp_equal : (a b : ℕ) → a ≡ b → nat_cmp a b ≡ Equal
-cmp_equal a b h = ap (λ t. cond t Less (cond (eqb a b) Equal Greater)) (le-ltb a b (omega arith)) ∙ ap (λ t. cond t Equal Greater) (eq-eqb a b h)
-
--- numbers that get one more digit each
-pub cmp_more : (x y d e : ℕ) → d < 10 → e < 10 → ordering_then (nat_cmp x y) (nat_cmp d e) ≡ nat_cmp (x * 10 + d) (y * 10 + e)
-cmp_more x y d e dl el =
-    ⊎_elim
-    (λ same.
-    ap (λ o. ordering_then o (nat_cmp d e)) (cmp_equal x y same)
-    ∙ ⊎_elim
-    (λ same'. cmp_equal d e same' ∙ sym (cmp_equal (x * 10 + d) (y * 10 + e) (omega arith)))
-    (λ other'. ⊎_elim
-    (λ less. cmp_less d e less ∙ sym (cmp_less (x * 10 + d) (y * 10 + e) (omega arith)))
-    (λ greater. cmp_greater d e greater ∙ sym (cmp_greater (x * 10 + d) (y * 10 + e) (omega arith)))
-    other')
-    (cases_order d e))
-    (λ other. ⊎_elim
-    (λ less. ap (λ o. ordering_then o (nat_cmp d e)) (cmp_less x y less) ∙ sym (cmp_less (x * 10 + d) (y * 10 + e) (omega arith)))
-    (λ greater. ap (λ o. ordering_then o (nat_cmp d e)) (cmp_greater x y greater) ∙ sym (cmp_greater (x * 10 + d) (y * 10 + e) (omega arith)))
-    other)
-    (cases_order x y)

@@ -1,8 +1,8 @@
 -- What a text's number and prefix are, told by where its digits begin.
-use Rattle.std.proofs.Common.{◌≡◌, ℕ, ◌+◌, ◌-◌, ◌<◌, true, List, length, take, drop, get_or, sym, ap, ◌∙◌, arith, reverse}
+use Rattle.std.proofs.Common.{◌≡◌, ℕ, ◌+◌, ◌-◌, ◌<◌, true, List, length, drop, get_or, sym, ap, ◌∙◌, arith, reverse}
 use Rattle.std.specs.List.{suffix_len}
 use Rattle.std.specs.Char.{is_ascii_digit}
-use Rattle.std.proofs.lemmas.List.{length-take, length-drop, get_or-drop, get_or-reverse, drop-map, take-map}
+use Rattle.std.proofs.lemmas.List.{length-take, length-drop, get_or-drop, get_or-reverse, drop-map}
 use Rattle.std.proofs.lemmas.List.Sums.{prefix_len_passes, suffix_len-le-length}
 use Rattle.trac_language.specs.Text.{Text}
 use Rattle.trac_language.specs.Number.{digits, before_digits}
@@ -29,10 +29,6 @@ digits_pass t k h =
 module _ (cells : List Cell) (s : ℕ) (is : s ≡ length (before_digits (text_of_cells cells))) where
   place : s ≡ length (text_of_cells cells) - suffix_len is_ascii_digit (text_of_cells cells)
   place = is ∙ length-before_digits (text_of_cells cells)
-
-  -- the cells before s are the text before the digits, and those from s on the digits
-  pub front_is : text_of_cells (take s cells) ≡ before_digits (text_of_cells cells)
-  front_is = sym (take-map character_of s cells) ∙ ap (λ n. take n (text_of_cells cells)) place
 
   pub back_is : text_of_cells (drop s cells) ≡ digits (text_of_cells cells)
   back_is = sym (drop-map character_of s cells) ∙ ap (λ n. drop n (text_of_cells cells)) place
