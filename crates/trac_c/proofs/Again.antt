@@ -5,9 +5,8 @@ use Rattle.trac_language.specs.declared.fate.Fate.{Fate}
 use Rattle.trac_language.specs.Text.{Text}
 use Rattle.trac_language.specs.State.{Input}
 use Rattle.trac_core.specs.Machine.{MachineState}
-use Rattle.trac_core.specs.Performed.{performs}
-use Rattle.trac_core.specs.Session.{awaited, next_function, next_printed, step_prints}
-use Rattle.trac_c.specs.Turned.{is_short, last_over, told_again, turn_number, wanted_by}
+use Rattle.trac_core.specs.Session.{next_printed, step_prints}
+use Rattle.trac_c.specs.Turned.{last_over, told_again, turn_number, wanted_by}
 use Rattle.trac_c.specs.declared.report.TracReport.{TracReport}
 use Rattle.trac_c.specs.declared.turn.Turn.{Turn}
 use Rattle.trac_c.specs.declared.turn.Turn.TheVariants.{Went, Over}

@@ -1,9 +1,9 @@
 -- The end of the neutral string in which no comma mark stands.
-use Rattle.std.proofs.Common.{◌≡◌, ℕ, ◌-◌, ◌+◌, false, List, [], ◌∷◌, ◌++◌, length, drop, slice_range, All, refl, sym, subst, arith, ⊎_elim}
+use Rattle.std.proofs.Common.{◌≡◌, ℕ, ◌-◌, ◌+◌, false, List, ◌++◌, length, drop, All, refl, sym, subst, arith, ⊎_elim}
 use Rattle.std.proofs.lemmas.Bool.{cases_lt}
-use Rattle.std.proofs.lemmas.List.{drop-append-le, length-drop, take_all}
-use Rattle.std.proofs.lemmas.List.Elements.{All-append, All-cons, All-drop}
-use Rattle.std.proofs.Math.Seq.{drop-append-add, drop-length}
+use Rattle.std.proofs.lemmas.List.{drop-append-le}
+use Rattle.std.proofs.lemmas.List.Elements.{All-append, All-drop}
+use Rattle.std.proofs.Math.Seq.{drop-append-add}
 use Rattle.trac_space.specs.declared.cell.Cell.{Cell}
 use Rattle.trac_space.specs.declared.cell.Cell.TheVariants.{Byte, Call, Comma, Gap, Head}
 use Rattle.trac_space.specs.Cells.{is_comma, NoComma}
