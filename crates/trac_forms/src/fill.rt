@@ -9,6 +9,7 @@ ghost use Rattle.trac_forms.specs.Contents.{used, IsSound};
 ghost use Rattle.trac_forms.specs.Arguments.{AreParted, HasList, filled_body, filled_cells};
 ghost use Rattle.trac_forms.specs.Gaps.{is_byte_cell, byte_cell_at, gap_number, gap_ordinal};
 ghost use Rattle.trac_forms.specs.Index.{IsKept};
+ghost use Rattle.trac_forms.specs.Contents.{form_place};
 
 use crate::arguments::{Arguments, list_parts};
 use crate::item::FormId;
@@ -22,11 +23,11 @@ impl<'a> Work<'a> {
     /// ordinal k replaced by the k-th, from 1, of the texts between the comma marks of neutral from
     /// place `first` up to `end`, and by nothing where there is none. False where they don't fit.
     pub fn fill_body(&mut self, form: FormId, first: u32, end: u32) -> bool
-        requires known { form.0 < length self.old.forms }
+        requires known { form_place form < length self.old.forms }
         requires arguments { AreParted self.old.neutral first end }
-        ensures put { let text = filled_body self.old form.0 first end in
+        ensures put { let text = filled_body self.old (form_place form) first end in
             IsTrue result ↔ (used self.old + length text ≤ self.old.room) }
-        ensures last { let text = filled_body self.old form.0 first end in
+        ensures last { let text = filled_body self.old (form_place form) first end in
             OnTrue result (self.new ≡ record self.old {
               neutral = self.old.neutral ++ flat_text text;
             }) }

@@ -15,6 +15,7 @@ ghost use Rattle.trac_space.specs.Texts.{flat_text};
 ghost use Rattle.trac_forms.specs.Contents.{used, name_at, part_text, IsTextPart, IsNamedAt};
 ghost use Rattle.trac_forms.specs.Contents.{IsSound};
 ghost use Rattle.trac_functions.specs.Calls.{AreArguments, texts, Makes, Performs};
+ghost use Rattle.trac_forms.specs.Contents.{form_place};
 
 use crate::arguments::{Arguments, Made, put_part};
 use trac_forms::{FormId, Work};
@@ -98,12 +99,12 @@ pub fn list_names(work: &mut Work, mut arguments: Arguments) -> Made
 /// both.
 fn put_name(work: &mut Work, before: (u32, u32), form: FormId) -> bool
     requires part { IsTextPart work.old.neutral before.0 before.1 }
-    requires known { form.0 < length work.old.forms }
+    requires known { form_place form < length work.old.forms }
     ensures put { let before = part_text work.old.neutral before.0 before.1 in
-        let text = before ++ name_at work.old.forms form.0 in
+        let text = before ++ name_at work.old.forms (form_place form) in
         IsTrue result ↔ (used work.old + length text ≤ work.old.room) }
     ensures last { let before = part_text work.old.neutral before.0 before.1 in
-        let text = before ++ name_at work.old.forms form.0 in
+        let text = before ++ name_at work.old.forms (form_place form) in
         OnTrue result (work.new ≡ record work.old {
           neutral = work.old.neutral ++ flat_text text;
         }) }

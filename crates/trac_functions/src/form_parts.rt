@@ -18,6 +18,7 @@ ghost use Rattle.trac_forms.specs.Contents.{used, body_at, part_text, IsTextPart
 ghost use Rattle.trac_forms.specs.Search.{character_at, gap_at};
 ghost use Rattle.trac_functions.specs.Calls.{AreArguments, Performs};
 ghost use Rattle.trac_functions.specs.Taking.{TakesPart, IsFirstOr, TakesOrDefault};
+ghost use Rattle.trac_forms.specs.Contents.{form_place};
 
 use crate::arguments::{Arguments, Made, give, put_part, text};
 use trac_forms::{FormId, Work};
@@ -45,10 +46,10 @@ pub fn call_segment(work: &mut Work, mut arguments: Arguments) -> Made
 
 /// Takes the characters up to the next gap.
 fn take_segment(work: &mut Work, form: FormId, default: (u32, u32)) -> Made
-    requires known { form.0 < length work.old.forms }
+    requires known { form_place form < length work.old.forms }
     requires part { IsTextPart work.old.neutral default.0 default.1 }
     requires sound { IsSound work.old }
-    ensures takes { TakesOrDefault next_segment form.0 default work.old result work.new }
+    ensures takes { TakesOrDefault next_segment (form_place form) default work.old result work.new }
     ensures unmade { result ≡ Made.Full → work.new.forms ≡ work.old.forms }
     ensures room { work.new.room ≡ work.old.room }
     ensures sound { IsSound work.new }
@@ -103,11 +104,11 @@ pub fn call_number(work: &mut Work, mut arguments: Arguments) -> Made
 
 /// Takes so many characters forward or backward.
 fn take_characters(work: &mut Work, form: FormId, count: Count, default: (u32, u32)) -> Made
-    requires known { form.0 < length work.old.forms }
+    requires known { form_place form < length work.old.forms }
     requires part { IsTextPart work.old.neutral default.0 default.1 }
     requires sound { IsSound work.old }
     ensures takes { let part = characters (signed count.negative count.size) in
-        TakesOrDefault part form.0 default work.old result work.new }
+        TakesOrDefault part (form_place form) default work.old result work.new }
     ensures unmade { result ≡ Made.Full → work.new.forms ≡ work.old.forms }
     ensures room { work.new.room ≡ work.old.room }
     ensures sound { IsSound work.new }
@@ -124,11 +125,12 @@ fn take_characters(work: &mut Work, form: FormId, count: Count, default: (u32, u
 
 /// Takes the next so many characters after the pointer.
 fn take_forward(work: &mut Work, form: FormId, count: u32, default: (u32, u32)) -> Made
-    requires known { form.0 < length work.old.forms }
+    requires known { form_place form < length work.old.forms }
     requires some { 0 < count }
     requires part { IsTextPart work.old.neutral default.0 default.1 }
     requires sound { IsSound work.old }
-    ensures takes { TakesOrDefault (next_characters count) form.0 default work.old result work.new }
+    ensures takes { TakesOrDefault (next_characters count) (form_place form) default
+        work.old result work.new }
     ensures unmade { result ≡ Made.Full → work.new.forms ≡ work.old.forms }
     ensures room { work.new.room ≡ work.old.room }
     ensures sound { IsSound work.new }
@@ -143,12 +145,12 @@ fn take_forward(work: &mut Work, form: FormId, count: u32, default: (u32, u32)) 
 
 /// Takes the last so many characters before the pointer.
 fn take_backward(work: &mut Work, form: FormId, count: u32, default: (u32, u32)) -> Made
-    requires known { form.0 < length work.old.forms }
+    requires known { form_place form < length work.old.forms }
     requires some { 0 < count }
     requires part { IsTextPart work.old.neutral default.0 default.1 }
     requires sound { IsSound work.old }
     ensures takes { let part = previous_characters count in
-        TakesOrDefault part form.0 default work.old result work.new }
+        TakesOrDefault part (form_place form) default work.old result work.new }
     ensures unmade { result ≡ Made.Full → work.new.forms ≡ work.old.forms }
     ensures room { work.new.room ≡ work.old.room }
     ensures sound { IsSound work.new }
@@ -224,13 +226,15 @@ fn take_part(work: &mut Work, form: FormId, part: (u32, u32), pointer: u32) -> M
 /// Puts the characters of a part of the body, gaps left out, at
 /// the end of the neutral string, if there are cells for them.
 pub fn copy_characters(work: &mut Work, form: FormId, from: u32, to: u32) -> bool
-    requires known { form.0 < length work.old.forms }
+    requires known { form_place form < length work.old.forms }
     requires order { from ≤ to }
-    requires within { to ≤ length (body_at work.old.forms form.0) }
+    requires within { to ≤ length (body_at work.old.forms (form_place form)) }
     requires sound { IsSound work.old }
-    ensures put { let text = characters_between (body_at work.old.forms form.0) from to in
+    ensures put { let body = body_at work.old.forms (form_place form) in
+        let text = characters_between body from to in
         IsTrue result ↔ (used work.old + length text ≤ work.old.room) }
-    ensures last { let text = characters_between (body_at work.old.forms form.0) from to in
+    ensures last { let body = body_at work.old.forms (form_place form) in
+        let text = characters_between body from to in
         OnTrue result
         (work.new ≡ record work.old { neutral = work.old.neutral ++ flat_text text }) }
     ensures forms { work.new.forms ≡ work.old.forms }
@@ -300,12 +304,12 @@ pub fn initial_part(work: &mut Work, mut arguments: Arguments) -> Made
 
 /// Takes the characters up to the first occurrence of a text.
 fn take_initial(work: &mut Work, form: FormId, sought: (u32, u32), default: (u32, u32)) -> Made
-    requires known { form.0 < length work.old.forms }
+    requires known { form_place form < length work.old.forms }
     requires sought { IsTextPart work.old.neutral sought.0 sought.1 }
     requires part { IsTextPart work.old.neutral default.0 default.1 }
     requires sound { IsSound work.old }
     ensures takes { let text = part_text work.old.neutral sought.0 sought.1 in
-        TakesOrDefault (initial_part text) form.0 default work.old result work.new }
+        TakesOrDefault (initial_part text) (form_place form) default work.old result work.new }
     ensures unmade { result ≡ Made.Full → work.new.forms ≡ work.old.forms }
     ensures room { work.new.room ≡ work.old.room }
     ensures sound { IsSound work.new }
