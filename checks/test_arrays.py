@@ -1,9 +1,8 @@
 """The block is all: no body of the engine's crates has an array, but for one byte of a device, the
 buffer of itoa, and the buffers of devices, which only a caller makes.
 
-Constants, tests and arrays of no elements aside; a copy of a constant array is one, and so is one of
-an array that is lent to a function to read. A slice, a slice pattern, an index and what is lent are
-no arrays.
+Constants, tests and arrays of no elements aside; a copy of a constant array is one. A slice, a
+slice pattern and an index are no arrays.
 """
 import os
 import re
@@ -253,14 +252,6 @@ def array_at(words, i, numbers):
     return text
 
 
-def is_lent(words, i):
-    """Whether the bracket at place i begins the type of an array that a function is lent to read."""
-    k = opening(words, i)
-    return k is not None and words[k] == '(' and words[k - 2] == 'fn' \
-        and words[i - 2:i] == [':', '&'] and words[i - 4] in ('(', ',') \
-        and len(parts(words[i + 1:closing(words, i)], ';')) == 2
-
-
 def is_copied(words, i, lent):
     """Whether the array that a word at place i names is copied there, or, where the word lends it,
     what it lends is."""
@@ -298,21 +289,19 @@ def arrays(text, others=Constants()):
     words, known = read(text)
     known = known.beside(others)
     known.rename(words)
-    parameters = {words[i - 3] for i, word in enumerate(words) if word == '[' and is_lent(words, i)}
-    lent = known.lent | parameters
     found, uses = [], False
     for i, word in enumerate(words):
         uses = word == 'use' or uses and word != ';'
         if word == '[':
             array = array_at(words, i, known.numbers)
-            found += [array] if array and not is_lent(words, i) else []
+            found += [array] if array else []
         elif word == 'array' and words[i + 1] == '::':
             found.append('array::' + words[i + 2])
         elif uses:
             continue
         elif word in known.arrays and is_copied(words, i, False):
             found.append(word)
-        elif (word in lent or re.match('br?#*"', word)) and is_copied(words, i, True):
+        elif (word in known.lent or re.match('br?#*"', word)) and is_copied(words, i, True):
             found.append(word)
     return found
 
@@ -383,11 +372,6 @@ class Arrays(unittest.TestCase):
             ('const T: (u8, [u8; 9]) = (1, [0; 9]); fn f() { let t = T; }', ['T']),
             ('const T: (u8, [u8; 9]) = (1, [0; 9]); fn f() { let t = T.1; }', ['T']),
             ('fn f<const N: usize>() { let table = [0; N]; }', ['[0 ; N]']),
-            ('fn f(n: u8, x: &[u8; 9]) { g(x[1], x.len()); h(x); }', []),
-            ('fn f(x: &[u8; 9]) { let t = *x; }', ['x']),
-            ('fn f(x: &[u8; 9]) { let t = x.clone(); }', ['x']),
-            ('fn f() { let t: &[u8; 9] = &[0; 9]; }', ['[u8 ; 9]', '[0 ; 9]']),
-            ('struct A { table: &[u8; 9] }', ['[u8 ; 9]']),
         ]
         for text, wanted in rows:
             self.assertEqual(arrays(text), wanted, text)

@@ -2,16 +2,10 @@
 quarter of that. The bounds are those of docs/PERFORMANCE.md, in cells; the cost is counted in
 instructions, the start left out."""
 import functools
-import os
-import sys
 import unittest
 from concurrent.futures import ThreadPoolExecutor
 
-from trac import PROGRAM, TOP, run
-
-sys.path.insert(0, os.path.join(TOP, 'bench'))
-from bench import cost
-from growing import GROWING, GROWS, WORDS
+from trac import GROWING, GROWS, PROGRAM, WORDS, cost, run
 
 
 class Growth(unittest.TestCase):

@@ -2,11 +2,10 @@
 of odd bytes and of faults."""
 import re
 import subprocess
-import time
 import unittest
 
 from rows import rows as known
-from trac import PROGRAM, TRACER, trace
+from trac import PROGRAM, TRACER, instructions, trace
 
 # A run over no input: the step, its rule, the size before it, its need, the active string after it.
 NOTHING = [
@@ -217,16 +216,12 @@ class Views(unittest.TestCase):
                 self.assertEqual(lines.endswith(end), status != 0)
 
     def test_the_last_steps_cost_little(self):
-        script = b"#(ds,f,(#(cl,f)))#(cl,f)'"
-        words = ['--steps', '10000000']
-        times = []
-        for program, more in [(PROGRAM, []), (TRACER, ['--last', '20'])]:
-            before = time.monotonic()
-            done = subprocess.run([program, *words, *more], input=script, capture_output=True)
-            times.append(time.monotonic() - before)
-            self.assertEqual(done.returncode, 3)
-        self.assertIn(b'10000000', done.stdout)
-        self.assertLess(times[1], 5 * times[0] + 0.5)
+        script, words = b"#(ds,f,(#(cl,f)))#(cl,f)'", ['--steps', '100000']
+        lines, status = trace_bytes(script, *words, '--last', '20')
+        self.assertIn(b'100000', lines)
+        self.assertEqual(status, 3)
+        told = instructions([TRACER, *words, '--last', '20'], script)
+        self.assertLess(told, 6 * instructions([PROGRAM, *words], script))
 
 
 def trace_bytes(script, *words):

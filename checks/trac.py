@@ -1,8 +1,13 @@
-"""Runs the built programs on a script."""
+"""Runs the built programs on a script, and counts their instructions."""
 import os
 import subprocess
+import sys
 
 TOP = os.path.dirname(os.path.dirname(os.path.abspath(__file__)))
+sys.path.insert(0, os.path.join(TOP, 'bench'))
+from bench import cost, instructions
+from growing import GROWING, GROWS, WORDS
+
 LAUNCHER = os.path.join(TOP, 'trac')
 PROGRAM = os.path.join(TOP, 'crates', 'trac_cli', 'out', 'trac_cli')
 TRACER = os.path.join(TOP, 'crates', 'trac_trace', 'out', 'trac_trace')

@@ -10,9 +10,11 @@ PROOFS = HERE.parent / 'crates' / 'trac_laws' / 'proofs'
 KINDS = ('scanning', 'functions', 'characters', 'limits')
 FATES = {'1': 'Workspace', '3': 'Steps', '4': 'InputFailed'}
 
+COMMON = ('◌≡◌', 'ℕ', '[]', '◌∷◌', 'refl', 'false', 'true')
+
 HEAD = """\
 -- The definition gives the cases of conformance/{kind}.cases, from which this file is written.
-use Rattle.std.proofs.Common.{{◌≡◌, ℕ, [], ◌∷◌, refl, false, true}}
+use Rattle.std.proofs.Common.{{{common}}}
 use Rattle.std.specs.Prelude.{{codes}}
 use Rattle.std.specs.Fmt.{{digits}}
 use Rattle.trac_language.specs.declared.fate.Fate.{{Fate}}
@@ -68,7 +70,9 @@ def written(kind):
     found = [statement(case) for case in cases(HERE / f'{kind}.cases')]
     fates = [fate for fate in ('Halted', 'InputEnded', 'Workspace', 'Steps', 'InputFailed')
              if any(case['fate'] == fate for case in found)]
-    return HEAD.format(kind=kind, fates=', '.join(fates)) + ''.join(CASE.format(**c) for c in found)
+    cases_of_it = ''.join(CASE.format(**c) for c in found)
+    common = [word for word in COMMON if word != '◌∷◌' or '∷' in cases_of_it]
+    return HEAD.format(kind=kind, fates=', '.join(fates), common=', '.join(common)) + cases_of_it
 
 
 def path(kind):

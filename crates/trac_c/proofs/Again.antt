@@ -1,8 +1,7 @@
 -- A turn of a machine whose run is over.
-use Rattle.std.proofs.Common.{◌≡◌, ℕ, [], zero, suc, ◌<◌, ◌≤◌, false, Some, None, refl, ap, ◌∙◌, arith}
+use Rattle.std.proofs.Common.{◌≡◌, ℕ, [], zero, suc, ◌<◌, ◌≤◌, Some, refl, ap, ◌∙◌, arith}
 use Rattle.std.specs.Prelude.{is_none, nat_lt, ◌&&◌, if◌then◌else◌}
 use Rattle.trac_language.specs.declared.fate.Fate.{Fate}
-use Rattle.trac_language.specs.Text.{Text}
 use Rattle.trac_language.specs.State.{Input}
 use Rattle.trac_core.specs.Machine.{MachineState}
 use Rattle.trac_core.specs.Session.{next_printed, step_prints}

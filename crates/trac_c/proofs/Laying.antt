@@ -51,13 +51,6 @@ module _ {A : Type 0} where
   laid-none [] = refl
   laid-none (x ∷ xs) = refl
 
-  -- as many as fit are all that count
-  pub laid-fits : (n : ℕ) (xs room : List A) → length room ≤ n → laid (take n xs) room ≡ laid xs room
-  laid-fits n xs [] le = laid-none (take n xs) ∙ sym (laid-none xs)
-  laid-fits zero xs (y ∷ room) le = elim le [ ]
-  laid-fits (suc n) [] (y ∷ room) le = refl
-  laid-fits (suc n) (x ∷ xs) (y ∷ room) le = ap (λ r. x ∷ r) (laid-fits n xs room (omega arith))
-
   -- items behind items that were put before
   pub laid-on : (n m : ℕ) (xs ys : List A) (r r₁ r₂ : List A) → m ≡ n + length xs → r₁ ≡ laid_from n xs r → r₂ ≡ laid_from m ys r₁ → r₂ ≡ laid_from n (xs ++ ys) r
   laid-on n m xs ys r r₁ r₂ place first then =

@@ -1,6 +1,7 @@
 mod Again
 mod Coding
 mod Further
+mod KeptLooks
 mod Laying
 mod Limits
 mod Listing

@@ -9,8 +9,7 @@ ghost use Rattle.trac_core.specs.Session.{awaited, next_function};
 ghost use Rattle.trac_core.specs.View.{neutral_in, row_of};
 ghost use Rattle.trac_c.specs.Laid.{Lays, laid};
 ghost use Rattle.trac_c.specs.View.{codes_of_neutral, cell_code, rule_number, awaits_number};
-ghost use Rattle.trac_c.specs.View.{part_cells};
-ghost use Rattle.trac_c.specs.View.{mark_code, comma_code, is_open_after};
+ghost use Rattle.trac_c.specs.View.{part_cells, mark_code, comma_code, is_open_after};
 
 use crate::filling::put;
 use trac_core::{Awaits, Cell, Machine, ScanningRule};

@@ -10,7 +10,7 @@ use Rattle.trac_language.specs.declared.mode.Mode.TheVariants.{Active, Neutral a
 use Rattle.trac_language.specs.declared.function.Function.{Function}
 use Rattle.trac_language.specs.declared.function.Function.TheVariants.{ReadString, ReadCharacter, ChangeMeta, PrintString, PrintForm, Halt}
 use Rattle.trac_language.specs.declared.fate.Fate.{Fate}
-use Rattle.trac_language.specs.declared.fate.Fate.TheVariants.{Halted, InputEnded, Workspace, Steps, InputFailed, OutputFailed}
+use Rattle.trac_language.specs.declared.fate.Fate.TheVariants.{Workspace, Steps, InputFailed, OutputFailed}
 use Rattle.trac_language.specs.Text.{Text}
 use Rattle.trac_language.specs.Form.{Form}
 use Rattle.trac_language.specs.Function.{function_named}
@@ -35,7 +35,7 @@ use Rattle.trac_functions.proofs.FlatLemmas.{with_cells-append, with_cells-text,
 use Rattle.trac_functions.proofs.ArgumentLemmas.{bytes-flat}
 use Rattle.trac_core.specs.Performed.{is_plain, performed_by, performs}
 use Rattle.trac_core.specs.Machine.{MachineState, moment, ending, failing, state_with, state_of, failing_state_of, EndsRun, input_failures, output_failures}
-use Rattle.trac_core.specs.Attempts.{scene, Tried, TriedCall, ClosesCall, Scanned, function_at, delivered, settled, AnswersCall, IsValueFrom, Stands, fate_after}
+use Rattle.trac_core.specs.Attempts.{scene, TriedCall, ClosesCall, function_at, delivered, settled, AnswersCall, IsValueFrom, Stands, fate_after}
 
 -- the contents without the innermost call
 abbrev pub closed : Contents → ℕ → Contents
@@ -453,32 +453,3 @@ plain-rest PrintString a b c d e g = absurd (d refl)
 plain-rest PrintForm a b c d e g = absurd (e refl)
 plain-rest Halt a b c d e g = absurd (g refl)
 plain-rest _ a b c d e g = refl
-
--- what a rule that performs no call says of a machine
-pub tried-scanned : (old new : Contents) (fate : Option Fate) (needed : ℕ) → Scanned fate needed old new → needed ≤ old.room → (meta : ℕ) (source : Stream) (written : Text) → Tried (scene old meta source written) fate needed (scene new meta source written)
-tried-scanned old new None needed scans fits meta source written = λ m room_is memory_is allowed.
-    let input = ending source.bytes in
-    let here : state_of (moment m source written) ≡ state_with (memory_of meta old) input written = ap (λ memory. state_with memory input written) memory_is in
-    let need_is = scans.needs meta input written in
-    record {
-      may = record { allowed = allowed; fits = rw here (omega arith) };
-      goes = ap step here ∙ scans.goes meta input written;
-      counts = record { steps = refl; peak = rw (here, need_is) refl };
-      stays_ended = λ e. e;
-      read_all = λ reads. absurd (let none = scans.reads meta input written in let some = sym (ap reads_to_end here) ∙ reads in cc);
-    }
-tried-scanned old new (Some Workspace) needed full fits meta source written = λ m room_is memory_is allowed.
-    let input = ending source.bytes in
-    let here : state_of (moment m source written) ≡ state_with (memory_of meta old) input written = ap (λ memory. state_with memory input written) memory_is in
-    let more = full meta input written in
-    record {
-      allowed = allowed;
-      full = rw here (omega arith);
-      counts = record { steps = omega arith; peak = omega arith };
-      written = refl;
-    }
-tried-scanned old new (Some Halted) needed scans fits meta source written = absurd scans
-tried-scanned old new (Some InputEnded) needed scans fits meta source written = absurd scans
-tried-scanned old new (Some Steps) needed scans fits meta source written = absurd scans
-tried-scanned old new (Some InputFailed) needed scans fits meta source written = absurd scans
-tried-scanned old new (Some OutputFailed) needed scans fits meta source written = absurd scans

@@ -1,6 +1,6 @@
 -- Steps in a row: ordinary characters are added one by one, layout characters deleted, and the steps of any rule that
 -- performs no call follow one another.
-use Rattle.std.proofs.Common.{◌≡◌, ◌≢◌, ℕ, zero, suc, ◌<◌, ◌≤◌, ◌+◌, Bool, true, false, ◌||◌, max, List, [], ◌∷◌, ◌++◌, length, take, drop, All, Some, None, slice_get, refl, sym, ap, ◌∙◌, subst, arith, append_assoc, append-nil, length-append}
+use Rattle.std.proofs.Common.{◌≡◌, ◌≢◌, ℕ, zero, suc, ◌<◌, ◌≤◌, ◌+◌, Bool, true, false, ◌||◌, List, [], ◌∷◌, ◌++◌, length, take, drop, All, Some, None, slice_get, refl, sym, ap, ◌∙◌, subst, arith, append_assoc, append-nil, length-append}
 use Rattle.std.specs.Prelude.{◌==◌}
 use Rattle.std.proofs.lemmas.List.{length-drop, take-take}
 use Rattle.std.proofs.lemmas.List.Elements.{All-head, All-tail, All-cons}
@@ -18,7 +18,7 @@ use Rattle.trac_functions.specs.Flat.{memory_of}
 use Rattle.trac_functions.proofs.FlatLemmas.{size-used}
 use Rattle.trac_core.specs.Machine.{moment, ending, state_with, state_of}
 use Rattle.trac_core.specs.Attempts.{Scans, scene, Tried}
-use Rattle.trac_core.specs.StepsInRow.{is_special, IsOrdinary, IsLayout, Passes, PassesTimes, Advances, SomeSteps, peak_after}
+use Rattle.trac_core.specs.StepsInRow.{is_special, IsOrdinary, IsLayout, Passes, PassesTimes, Advances, SomeSteps}
 use Rattle.trac_core.proofs.Scanning.{scans-other, scans-layout, first-rest}
 
 -- no rule of its own
@@ -128,14 +128,6 @@ passes-then zero k old middle new first second =
 passes-then (suc n) k old middle new first second =
     let more : suc n + k ≡ suc (n + k) = omega arith in
     subst (λ i. PassesTimes i old new) (sym more) (first.0, (first.1.0, passes-then n k first.0 middle new first.1.1 second))
-
-pub peak_after-some : (n needed peak : ℕ) → n ≢ 0 → max peak needed ≡ peak_after n needed peak
-peak_after-some zero needed peak some = absurd (some refl)
-peak_after-some (suc n) needed peak some = refl
-
-pub peak_after-le : (n needed peak room : ℕ) → peak ≤ room → needed ≤ room → peak_after n needed peak ≤ room
-peak_after-le zero needed peak room a b = a
-peak_after-le (suc n) needed peak room a b = omega arith
 
 -- one step that performs no call, as a try of a step
 pub tried-passed : (old new : Contents) (n needed : ℕ) → Advances n old new → n ≡ 1 → IsSound old → needed ≡ used old → (meta : ℕ) (source : Stream) (written : Text) → Tried (scene old meta source written) None needed (scene new meta source written)

@@ -1,4 +1,5 @@
--- What a try of one step over the contents of a workspace says of each machine that holds them.
+-- What a try of one step over the contents of a workspace says of each machine that holds them, and
+-- of its devices.
 use Rattle.std.specs.Prelude.{◌≡◌, ℕ, ◌+◌, ◌-◌, ◌<◌, ◌≤◌, Bool, true, false, List, ◌∷◌, ◌++◌}
 use Rattle.std.specs.Prelude.{length, ◌≢◌, drop, take, All, Option, Some, None, ⊤}
 use Rattle.trac_language.specs.declared.mode.Mode.{Mode}
@@ -17,14 +18,16 @@ use Rattle.trac_space.specs.declared.cell.Cell.TheVariants.{Byte}
 use Rattle.trac_space.specs.Calls.{IsLastCall}
 use Rattle.trac_space.specs.Texts.{flat_text, text_of_cells, IsByte}
 use Rattle.trac_forms.specs.Contents.{Contents, used, IsSound}
-use Rattle.trac_devices.specs.Devices.{Stream}
+use Rattle.trac_devices.specs.Devices.{Stream, Sent}
 use Rattle.trac_functions.specs.declared.arguments.Arguments.{Arguments}
 use Rattle.trac_functions.specs.declared.arguments.Made.{Made}
 use Rattle.trac_functions.specs.declared.arguments.Made.TheVariants.{Full, Value, Forced, Defined}
 use Rattle.trac_functions.specs.declared.arguments.Made.TheVariants.{Over}
 use Rattle.trac_functions.specs.Flat.{memory_of, mode_at, arguments_at}
 use Rattle.trac_functions.specs.Calls.{texts}
+use Rattle.trac_core.specs.Performed.{reads_input, prints_output}
 use Rattle.trac_core.specs.Machine.{MachineState, moment, state_with, Answers, counted}
+use Rattle.trac_core.specs.Machine.{input_failures, output_failures}
 
 -- the contents of a workspace, a meta character, a source and what a sink holds
 pub record Scene : Type 0 where
@@ -178,3 +181,19 @@ pub record TakesFrom (w : Contents) (old new : Stream) (taken : Text) : Type 0 w
 pub record TakesAtMost (w : Contents) (old new : Stream) (taken : Text) : Type 0 where
   pub consumed : old.bytes ≡ taken ++ new.bytes
   pub few : length taken + used w ≤ w.room + 2
+
+-- how a step that ends so and performs this function leaves its source: its bytes are known still,
+-- one failure more is counted where that is the end, and it is as it was where nothing is read
+abbrev pub LeavesSource : {S : Type 0} → (tells : S → Type 0) → (failures : S → ℕ) →
+    Option Fate → Option Function → S → S → Type 0
+LeavesSource tells failures fate function old new =
+    (tells old → tells new) × (failures new ≡ failures old + input_failures None fate)
+    × (reads_input function ≡ false → new ≡ old)
+
+-- and how its sink: what it was lent stays too, and unless it failed, what was put was sent on
+abbrev pub LeavesSink : {S L : Type 0} → (tells flushed : S → Type 0) → (written : S → Text) →
+    (lent : S → L) → (failures : S → ℕ) → Option Fate → Option Function → S → S → Type 0
+LeavesSink tells flushed written lent failures fate function old new =
+    (tells old → tells new) × (failures new ≡ failures old + output_failures None fate)
+    × (prints_output function ≡ false → new ≡ old) × (lent new ≡ lent old)
+    × (fate ≢ Some OutputFailed → Sent tells flushed written old new)

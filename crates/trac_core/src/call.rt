@@ -1,23 +1,20 @@
 //! Calls: one is performed when its right parenthesis is scanned.
-ghost use Rattle.std.specs.Prelude.{◌≡◌, ◌≢◌, ◌+◌, ◌-◌, ◌<◌, ◌≤◌, ◌^◌, length, drop};
-ghost use Rattle.std.specs.Prelude.{None, Some, slice_get, true, false};
+ghost use Rattle.std.specs.Prelude.{◌≡◌, ◌≢◌, ◌-◌, ◌<◌, ◌≤◌, ◌^◌, length, None, Some, true};
 ghost use Rattle.trac_language.specs.Text.{Text};
 ghost use Rattle.trac_space.specs.Calls.{IsLastCall};
-ghost use Rattle.trac_space.specs.Texts.{text_of_cells, IsByte};
 ghost use Rattle.trac_forms.specs.Contents.{IsSound, used};
-ghost use Rattle.trac_devices.specs.Devices.{Sent};
 ghost use Rattle.trac_functions.specs.Flat.{memory_of};
 ghost use Rattle.trac_functions.specs.Calls.{AreArguments, Performs};
-ghost use Rattle.trac_core.specs.Performed.{is_plain, performs, reads_input, prints_output};
-ghost use Rattle.trac_core.specs.Machine.{input_failures, output_failures};
+ghost use Rattle.trac_core.specs.Performed.{is_plain, performs};
 ghost use Rattle.trac_core.specs.Attempts.{scene, Tried, TriedCall, function_at, TakesFrom};
 ghost use Rattle.trac_core.specs.Attempts.{TakesAtMost, AnswersCall, Stands, fate_after};
+ghost use Rattle.trac_core.specs.Attempts.{LeavesSource, LeavesSink};
 ghost use Rattle.trac_core.specs.StepsInRow.{AsksFor, IsPlainFrom};
 
 use crate::delivery::settle;
 use crate::display::print_form;
 use crate::input_output::{change_meta, print_string, read_character, read_string};
-use crate::scan::{Attempt, Front, InnermostCall, load_idling, scan_on};
+use crate::scan::{Attempt, Front, InnermostCall, load_idling};
 use trac_devices::{Sink, Source};
 use trac_forms::Work;
 use trac_functions::arguments::{Arguments, Made, text};
@@ -25,50 +22,9 @@ use trac_functions::function::function_named;
 use trac_functions::{arithmetic, bit_strings, comparing, form_calls, form_parts};
 use trac_language::{Fate, Function};
 
-/// One step, by the rule that fits the beginning of the active string.
-pub(crate) fn advance<I: Source, O: Sink>(
-    work: &mut Work,
-    meta: &mut u8,
-    source: &mut I,
-    sink: &mut O,
-) -> Attempt
-    requires source_counts { I.failure_count source.old < 2 ^ 64 - 1 }
-    requires sink_counts { O.failure_count sink.old < 2 ^ 64 - 1 }
-    requires sound { IsSound work.old }
-    ensures tried { I.tells source.old → O.tells sink.old →
-        Tried (scene work.old meta.old (I.stream source.old) (O.written sink.old))
-        result.fate result.need
-        (scene work.new meta.new (I.stream source.new) (O.written sink.new)) }
-    ensures input_failed { I.failure_count source.new ≡
-        I.failure_count source.old + input_failures None result.fate }
-    ensures output_failed { O.failure_count sink.new ≡
-        O.failure_count sink.old + output_failures None result.fate }
-    ensures sent { result.fate ≢ Some Fate.OutputFailed →
-        Sent O.tells O.flushed O.written sink.old sink.new }
-    ensures unspent { result.fate ≢ Some Fate.Steps }
-    ensures stay { result.fate ≢ None →
-        (work.new.forms ≡ work.old.forms) × (meta.new ≡ meta.old) }
-    ensures unread { reads_input (performs (memory_of meta.old work.old)) ≡ false →
-        source.new ≡ source.old }
-    ensures unprinted { prints_output (performs (memory_of meta.old work.old)) ≡ false →
-        sink.new ≡ sink.old }
-    ensures takes { I.tells source.old → (taken : Text) ×
-        TakesAtMost work.old (I.stream source.old) (I.stream source.new) taken }
-    ensures told_source { I.tells source.old → I.tells source.new }
-    ensures told_sink { O.tells sink.old → O.tells sink.new }
-    ensures kept { O.lent sink.new ≡ O.lent sink.old }
-    ensures fits { result.need ≤ work.old.room }
-    ensures room { work.new.room ≡ work.old.room }
-    ensures sound { IsSound work.new }
-{
-    let need = work.used();
-    match scan_on(work, 1).1 {
-        None => Attempt { fate: None, need },
-        Some(front) => carry_out(work, front, meta, source, sink),
-    }
-}
-
-/// The step that the beginning of the active string asks for, where no rule fits that only scans.
+/// The step that the beginning of the active string asks for, where no rule fits that only scans:
+/// the idling procedure is loaded, or the right parenthesis is deleted and the innermost call
+/// performed.
 pub(crate) fn carry_out<I: Source, O: Sink>(
     work: &mut Work,
     front: Front,
@@ -84,76 +40,26 @@ pub(crate) fn carry_out<I: Source, O: Sink>(
         Tried (scene work.old meta.old (I.stream source.old) (O.written sink.old))
         result.fate result.need
         (scene work.new meta.new (I.stream source.new) (O.written sink.new)) }
-    ensures input_failed { I.failure_count source.new ≡
-        I.failure_count source.old + input_failures None result.fate }
-    ensures output_failed { O.failure_count sink.new ≡
-        O.failure_count sink.old + output_failures None result.fate }
-    ensures sent { result.fate ≢ Some Fate.OutputFailed →
-        Sent O.tells O.flushed O.written sink.old sink.new }
+    ensures source { LeavesSource I.tells I.failure_count result.fate
+        (performs (memory_of meta.old work.old)) source.old source.new }
+    ensures sink { LeavesSink O.tells O.flushed O.written O.lent O.failure_count result.fate
+        (performs (memory_of meta.old work.old)) sink.old sink.new }
     ensures unspent { result.fate ≢ Some Fate.Steps }
     ensures stay { result.fate ≢ None →
         (work.new.forms ≡ work.old.forms) × (meta.new ≡ meta.old) }
-    ensures unread { reads_input (performs (memory_of meta.old work.old)) ≡ false →
-        source.new ≡ source.old }
-    ensures unprinted { prints_output (performs (memory_of meta.old work.old)) ≡ false →
-        sink.new ≡ sink.old }
     ensures takes { I.tells source.old → (taken : Text) ×
         TakesAtMost work.old (I.stream source.old) (I.stream source.new) taken }
-    ensures told_source { I.tells source.old → I.tells source.new }
-    ensures told_sink { O.tells sink.old → O.tells sink.new }
-    ensures kept { O.lent sink.new ≡ O.lent sink.old }
     ensures fits { result.need ≤ work.old.room }
     ensures room { work.new.room ≡ work.old.room }
     ensures sound { IsSound work.new }
 {
     match front {
         Front::Empty => load_idling(work),
-        Front::Closes(call) => close(work, call, meta, source, sink),
+        Front::Closes(call) => {
+            work.drop_active(1);
+            perform(work, call, meta, source, sink)
+        }
     }
-}
-
-/// The right parenthesis is deleted, and the innermost call is performed.
-fn close<I: Source, O: Sink>(
-    work: &mut Work,
-    call: InnermostCall,
-    meta: &mut u8,
-    source: &mut I,
-    sink: &mut O,
-) -> Attempt
-    requires closes { slice_get (text_of_cells work.old.active) 0 ≡ Some 41 }
-    requires innermost { IsLastCall work.old.neutral call.place }
-    requires plain { IsPlainFrom call.plain work.old.neutral }
-    requires source_counts { I.failure_count source.old < 2 ^ 64 - 1 }
-    requires sink_counts { O.failure_count sink.old < 2 ^ 64 - 1 }
-    requires sound { IsSound work.old }
-    ensures tried { I.tells source.old → O.tells sink.old →
-        Tried (scene work.old meta.old (I.stream source.old) (O.written sink.old))
-        result.fate result.need
-        (scene work.new meta.new (I.stream source.new) (O.written sink.new)) }
-    ensures input_failed { I.failure_count source.new ≡
-        I.failure_count source.old + input_failures None result.fate }
-    ensures output_failed { O.failure_count sink.new ≡
-        O.failure_count sink.old + output_failures None result.fate }
-    ensures sent { result.fate ≢ Some Fate.OutputFailed →
-        Sent O.tells O.flushed O.written sink.old sink.new }
-    ensures unspent { result.fate ≢ Some Fate.Steps }
-    ensures stay { result.fate ≢ None →
-        (work.new.forms ≡ work.old.forms) × (meta.new ≡ meta.old) }
-    ensures unread { reads_input (performs (memory_of meta.old work.old)) ≡ false →
-        source.new ≡ source.old }
-    ensures unprinted { prints_output (performs (memory_of meta.old work.old)) ≡ false →
-        sink.new ≡ sink.old }
-    ensures takes { I.tells source.old → (taken : Text) ×
-        TakesAtMost work.old (I.stream source.old) (I.stream source.new) taken }
-    ensures told_source { I.tells source.old → I.tells source.new }
-    ensures told_sink { O.tells sink.old → O.tells sink.new }
-    ensures kept { O.lent sink.new ≡ O.lent sink.old }
-    ensures fits { result.need ≤ work.old.room }
-    ensures room { work.new.room ≡ work.old.room }
-    ensures sound { IsSound work.new }
-{
-    work.drop_active(1);
-    perform(work, call, meta, source, sink)
 }
 
 /// The innermost call, whose right parenthesis was deleted, is performed.
@@ -173,24 +79,15 @@ fn perform<I: Source, O: Sink>(
         TriedCall call.place (scene work.old meta.old (I.stream source.old) (O.written sink.old))
         result.fate result.need
         (scene work.new meta.new (I.stream source.new) (O.written sink.new)) }
-    ensures input_failed { I.failure_count source.new ≡
-        I.failure_count source.old + input_failures None result.fate }
-    ensures output_failed { O.failure_count sink.new ≡
-        O.failure_count sink.old + output_failures None result.fate }
-    ensures sent { result.fate ≢ Some Fate.OutputFailed →
-        Sent O.tells O.flushed O.written sink.old sink.new }
+    ensures source { LeavesSource I.tells I.failure_count result.fate
+        (function_at work.old.neutral call.place) source.old source.new }
+    ensures sink { LeavesSink O.tells O.flushed O.written O.lent O.failure_count result.fate
+        (function_at work.old.neutral call.place) sink.old sink.new }
     ensures unspent { result.fate ≢ Some Fate.Steps }
     ensures stay { result.fate ≢ None →
         (work.new.forms ≡ work.old.forms) × (meta.new ≡ meta.old) }
-    ensures unread { reads_input (function_at work.old.neutral call.place) ≡ false →
-        source.new ≡ source.old }
-    ensures unprinted { prints_output (function_at work.old.neutral call.place) ≡ false →
-        sink.new ≡ sink.old }
     ensures takes { I.tells source.old → (taken : Text) ×
         TakesFrom work.old (I.stream source.old) (I.stream source.new) taken }
-    ensures told_source { I.tells source.old → I.tells source.new }
-    ensures told_sink { O.tells sink.old → O.tells sink.new }
-    ensures kept { O.lent sink.new ≡ O.lent sink.old }
     ensures fits { result.need ≤ work.old.room }
     ensures room { work.new.room ≡ work.old.room }
     ensures sound { IsSound work.new }
@@ -219,24 +116,15 @@ fn answer<I: Source, O: Sink>(
         AnswersCall call.place (scene work.old meta.old (I.stream source.old) (O.written sink.old))
         result (scene work.new meta.new (I.stream source.new) (O.written sink.new)) }
     ensures stands { Stands result (used work.old) (length work.old.neutral) work.new }
-    ensures input_failed { I.failure_count source.new ≡
-        I.failure_count source.old + input_failures None (fate_after result) }
-    ensures output_failed { O.failure_count sink.new ≡
-        O.failure_count sink.old + output_failures None (fate_after result) }
-    ensures sent { result ≢ Made.Over Fate.OutputFailed →
-        Sent O.tells O.flushed O.written sink.old sink.new }
+    ensures source { LeavesSource I.tells I.failure_count (fate_after result)
+        (function_at work.old.neutral call.place) source.old source.new }
+    ensures sink { LeavesSink O.tells O.flushed O.written O.lent O.failure_count (fate_after result)
+        (function_at work.old.neutral call.place) sink.old sink.new }
     ensures unspent { result ≢ Made.Over Fate.Steps }
     ensures stay { fate_after result ≢ None →
         (work.new.forms ≡ work.old.forms) × (meta.new ≡ meta.old) }
-    ensures unread { reads_input (function_at work.old.neutral call.place) ≡ false →
-        source.new ≡ source.old }
-    ensures unprinted { prints_output (function_at work.old.neutral call.place) ≡ false →
-        sink.new ≡ sink.old }
     ensures takes { I.tells source.old → (taken : Text) ×
         TakesFrom work.old (I.stream source.old) (I.stream source.new) taken }
-    ensures told_source { I.tells source.old → I.tells source.new }
-    ensures told_sink { O.tells sink.old → O.tells sink.new }
-    ensures kept { O.lent sink.new ≡ O.lent sink.old }
     ensures room { work.new.room ≡ work.old.room }
     ensures sound { IsSound work.new }
 {

@@ -1,13 +1,13 @@
 //! The function that displays a form: `pf`.
 ghost use Rattle.std.specs.Prelude.{◌≡◌, ◌≢◌, ◌+◌, ◌-◌, ◌<◌, ◌≤◌, ◌^◌, [], ◌∷◌};
-ghost use Rattle.std.specs.Prelude.{◌++◌, ℕ, length, None, slice_range, OnErr, OnOk, codes};
+ghost use Rattle.std.specs.Prelude.{◌++◌, ℕ, length, Some, slice_range, OnErr, OnOk, codes};
 ghost use Rattle.std.specs.Prelude.{decimal};
 ghost use Rattle.trac_language.specs.Meaning.{show, show_form};
 ghost use Rattle.trac_forms.specs.Contents.{form_at, body_at, used, IsTextPart, IsSound};
-ghost use Rattle.trac_devices.specs.Devices.{Stream, failures_of, Prints, Sent};
+ghost use Rattle.trac_devices.specs.Devices.{Stream, failures_of, Prints};
 ghost use Rattle.trac_functions.specs.Calls.{AreArguments};
-ghost use Rattle.trac_core.specs.Machine.{output_failures};
 ghost use Rattle.trac_core.specs.Attempts.{scene, HasArguments, AnswersCall, Stands, fate_after};
+ghost use Rattle.trac_core.specs.Attempts.{LeavesSink};
 ghost use Rattle.trac_core.specs.Display.{display_named};
 
 use crate::text_io::print_bytes;
@@ -30,12 +30,8 @@ pub(crate) fn print_form<O: Sink>(work: &mut Work, mut arguments: Arguments, sin
     ensures same { work.new ≡ work.old }
     ensures stands { Stands result (used work.old) (length work.old.neutral) work.new }
     ensures over { (result ≢ Made.Over Fate.InputFailed) × (result ≢ Made.Over Fate.Steps) }
-    ensures output_failed { O.failure_count sink.new ≡
-        O.failure_count sink.old + output_failures None (fate_after result) }
-    ensures sent { result ≢ Made.Over Fate.OutputFailed →
-        Sent O.tells O.flushed O.written sink.old sink.new }
-    ensures told { O.tells sink.old → O.tells sink.new }
-    ensures kept { O.lent sink.new ≡ O.lent sink.old }
+    ensures sink { LeavesSink O.tells O.flushed O.written O.lent O.failure_count
+        (fate_after result) (Some Function.PrintForm) sink.old sink.new }
 {
     let name = arguments.next(work);
     match show_named(work, name, sink) {

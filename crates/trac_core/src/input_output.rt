@@ -1,15 +1,13 @@
 //! The functions that read, print and change the meta
 //! character: `rs`, `rc`, `ps`, `cm`.
-ghost use Rattle.std.specs.Prelude.{◌≡◌, ◌≢◌, ◌+◌, ◌-◌, ◌<◌, ◌≤◌, ◌^◌, ℕ, None};
-ghost use Rattle.std.specs.Prelude.{Some, length, slice_get};
+ghost use Rattle.std.specs.Prelude.{◌≡◌, ◌≢◌, ◌-◌, ◌<◌, ◌^◌, ℕ, Some, length, slice_get};
 ghost use Rattle.trac_language.specs.Text.{Text};
 ghost use Rattle.trac_space.specs.Texts.{text_of_cells};
 ghost use Rattle.trac_forms.specs.Contents.{IsSound, used};
-ghost use Rattle.trac_devices.specs.Devices.{Stream, Sent};
+ghost use Rattle.trac_devices.specs.Devices.{Stream};
 ghost use Rattle.trac_functions.specs.Calls.{AreArguments};
-ghost use Rattle.trac_core.specs.Machine.{input_failures, output_failures};
 ghost use Rattle.trac_core.specs.Attempts.{scene, IsCall, HasArguments, AnswersCall, Stands};
-ghost use Rattle.trac_core.specs.Attempts.{TakesFrom, fate_after};
+ghost use Rattle.trac_core.specs.Attempts.{TakesFrom, fate_after, LeavesSource, LeavesSink};
 
 use crate::text_io::{ReadEnd, print_text, read_text};
 use trac_devices::{Next, Sink, Source};
@@ -30,11 +28,10 @@ pub(crate) fn read_string<I: Source>(work: &mut Work, meta: u8, source: &mut I) 
         (scene work.new meta (I.stream source.new) written) }
     ensures stands { Stands result (used work.old) (length work.old.neutral) work.new }
     ensures over { (result ≢ Made.Over Fate.OutputFailed) × (result ≢ Made.Over Fate.Steps) }
-    ensures input_failed { I.failure_count source.new ≡
-        I.failure_count source.old + input_failures None (fate_after result) }
+    ensures source { LeavesSource I.tells I.failure_count (fate_after result)
+        (Some Function.ReadString) source.old source.new }
     ensures takes { I.tells source.old → (taken : Text) ×
         TakesFrom work.old (I.stream source.old) (I.stream source.new) taken }
-    ensures told { I.tells source.old → I.tells source.new }
     ensures forms { work.new.forms ≡ work.old.forms }
     ensures room { work.new.room ≡ work.old.room }
     ensures sound { IsSound work.new }
@@ -60,11 +57,10 @@ pub(crate) fn read_character<I: Source>(work: &mut Work, source: &mut I) -> Made
         (scene work.new meta (I.stream source.new) written) }
     ensures stands { Stands result (used work.old) (length work.old.neutral) work.new }
     ensures over { (result ≢ Made.Over Fate.OutputFailed) × (result ≢ Made.Over Fate.Steps) }
-    ensures input_failed { I.failure_count source.new ≡
-        I.failure_count source.old + input_failures None (fate_after result) }
+    ensures source { LeavesSource I.tells I.failure_count (fate_after result)
+        (Some Function.ReadCharacter) source.old source.new }
     ensures takes { I.tells source.old → (taken : Text) ×
         TakesFrom work.old (I.stream source.old) (I.stream source.new) taken }
-    ensures told { I.tells source.old → I.tells source.new }
     ensures forms { work.new.forms ≡ work.old.forms }
     ensures room { work.new.room ≡ work.old.room }
     ensures sound { IsSound work.new }
@@ -92,12 +88,8 @@ pub(crate) fn print_string<O: Sink>(work: &Work, mut arguments: Arguments, sink:
         (scene work.now meta source (O.written sink.new)) }
     ensures stands { Stands result (used work.now) (length work.now.neutral) work.now }
     ensures over { (result ≢ Made.Over Fate.InputFailed) × (result ≢ Made.Over Fate.Steps) }
-    ensures output_failed { O.failure_count sink.new ≡
-        O.failure_count sink.old + output_failures None (fate_after result) }
-    ensures sent { result ≢ Made.Over Fate.OutputFailed →
-        Sent O.tells O.flushed O.written sink.old sink.new }
-    ensures told { O.tells sink.old → O.tells sink.new }
-    ensures kept { O.lent sink.new ≡ O.lent sink.old }
+    ensures sink { LeavesSink O.tells O.flushed O.written O.lent O.failure_count
+        (fate_after result) (Some Function.PrintString) sink.old sink.new }
 {
     let part = arguments.next(work);
     match print_text(text(work, part), sink) {

@@ -12,6 +12,7 @@ mod scan;
 mod text_io;
 
 pub use machine::{Awaits, Machine, Report, ScanningRule};
+pub use runs::is_layout;
 pub use trac_devices::{
     BufferedReader, BufferedWriter, Input, Next, Output, ReadSource, RetryingReader,
     RetryingWriter, Sink, SinkFailed, SliceSink, SliceSource, Source, TRIES, WriteSink,

@@ -1,7 +1,6 @@
 //! The machine: one step, and a run to the end.
-ghost use Rattle.std.specs.Prelude.{◌≡◌, ◌≢◌, ◌+◌, ◌-◌, ◌^◌, ◌<◌, ◌≤◌};
-ghost use Rattle.std.specs.Prelude.{◌++◌, length, false};
-ghost use Rattle.std.specs.Prelude.{true, None, Some, IsSome};
+ghost use Rattle.std.specs.Prelude.{◌≡◌, ◌≢◌, ◌+◌, ◌-◌, ◌^◌, ◌<◌, ◌≤◌, ◌++◌};
+ghost use Rattle.std.specs.Prelude.{length, false, true, None, Some, IsSome};
 ghost use Rattle.trac_language.specs.Text.{Text};
 ghost use Rattle.trac_devices.specs.Devices.{Sent};
 ghost use Rattle.trac_core.specs.Performed.{performs, reads_input, prints_output};
@@ -11,7 +10,7 @@ ghost use Rattle.trac_core.specs.Machine.{reported_output_failures, Reports, cou
 ghost use Rattle.trac_core.specs.Machine.{MachineState, counts_as_step};
 ghost use Rattle.trac_core.specs.StepsInRow.{peak_after, PassesSome};
 
-use crate::call::{advance, carry_out};
+use crate::call::carry_out;
 use crate::scan::{Attempt, scan_on};
 use std::marker::Model;
 use trac_devices::{Sink, Source};
@@ -19,6 +18,7 @@ use trac_forms::Work;
 use trac_language::Fate;
 use trac_space::Cell;
 
+pub(crate) mod closing;
 pub(crate) mod printing;
 pub(crate) mod session;
 pub(crate) mod view;
@@ -156,8 +156,12 @@ impl<'a> Machine<'a> {
                 need: 0,
             });
         }
+        let need = self.work.used();
+        let Some(front) = scan_on(&mut self.work, 1).1 else {
+            return self.count(Attempt { fate: None, need });
+        };
         let mut meta = self.meta;
-        let attempt = advance(&mut self.work, &mut meta, source, sink);
+        let attempt = carry_out(&mut self.work, front, &mut meta, source, sink);
         self.meta = meta;
         self.count(attempt)
     }
@@ -200,9 +204,9 @@ impl<'a> Machine<'a> {
             });
         };
         let mut meta = self.meta;
-        let attempt = carry_out(&mut self.work, front, &mut meta, source, sink);
+        let last = carry_out(&mut self.work, front, &mut meta, source, sink);
         self.meta = meta;
-        self.count(attempt)
+        self.count(last)
     }
 
     /// Counts a step that came to this.

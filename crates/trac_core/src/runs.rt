@@ -44,9 +44,10 @@ pub(crate) fn layout_characters(cells: &[Cell]) -> u32
     cells.len() as u32
 }
 
-/// Whether a character is a tab, a line feed or a carriage return.
+/// Whether a character is a tab, a line feed or a carriage return, which the scanner deletes outside
+/// parentheses.
 #[inline]
-fn is_layout(character: u8) -> bool
+pub fn is_layout(character: u8) -> bool
     ensures { result ≡ is_layout character }
 {
     matches!(character, b'\t' | b'\n' | b'\r')

@@ -47,12 +47,6 @@ pub consumes_front : (rest : Option (List ℕ)) (whole front back : List ℕ) �
 consumes_front None whole front back e = tt
 consumes_front (Some xs) whole front back e = ap (λ ys. ys ++ xs) e ∙ append_assoc front back xs
 
-pub keeps_moved : (old new : Option (List ℕ)) (whole front back : List ℕ) → whole ≡ front ++ back → Appends old new front
-    → Keeps (append_known old whole) (append_known new back)
-keeps_moved None new whole front back e h = tt
-keeps_moved (Some xs) None whole front back e h = absurd h
-keeps_moved (Some xs) (Some ys) whole front back e h = ap (λ zs. zs ++ back) h ∙ append_assoc xs front back ∙ ap (λ zs. xs ++ zs) (sym e)
-
 pub appends_kept : (a b d : Option (List ℕ)) (xs : List ℕ) → Keeps a b → Appends b d xs → Appends a d xs
 appends_kept None b d xs kept took = tt
 appends_kept (Some ys) None d xs kept took = absurd kept

@@ -1,6 +1,5 @@
 -- What a call makes of forms.
-use Rattle.std.specs.Prelude.{ℕ, Bool, List, [], ◌∷◌, Option, Some, None, bytes_eq}
-use Rattle.std.specs.Prelude.{if◌then◌else◌}
+use Rattle.std.specs.Prelude.{ℕ, Bool, List, Option, option_map, bytes_eq}
 use Rattle.trac_language.specs.declared.function.Function.{Function}
 use Rattle.trac_language.specs.declared.function.Function.TheVariants.{DefineString, SegmentString}
 use Rattle.trac_language.specs.declared.function.Function.TheVariants.{DeleteDefinition, DeleteAll}
@@ -9,7 +8,7 @@ use Rattle.trac_language.specs.declared.function.Function.TheVariants.{CallNumbe
 use Rattle.trac_language.specs.declared.function.Function.TheVariants.{CallRestore}
 use Rattle.trac_language.specs.Text.{Text}
 use Rattle.trac_language.specs.Form.{Form}
-use Rattle.trac_language.specs.Store.{is_named}
+use Rattle.trac_language.specs.Store.{form_named}
 use Rattle.trac_events.specs.declared.change.Touched.{Touched}
 use Rattle.trac_events.specs.declared.change.Touched.TheVariants.{Nothing, First, Each, All}
 
@@ -28,9 +27,7 @@ touched_by _ = Nothing
 
 -- the pointer of the form of this name
 abbrev pub pointer_of : Text → List Form → Option ℕ
-pointer_of name [] = None
-pointer_of name (form ∷ forms) =
-    if is_named name form then Some form.pointer else pointer_of name forms
+pointer_of name forms = option_map (λ form. form.pointer) (form_named name forms)
 
 -- whether two texts are the same
 abbrev pub is_same : Text → Text → Bool

@@ -1,9 +1,10 @@
 //! What a call makes of forms.
 ghost use Rattle.std.specs.Prelude.{◌≡◌};
+ghost use Rattle.trac_language.specs.Store.{form_named};
 ghost use Rattle.trac_space.specs.Texts.{text_of_cells};
 ghost use Rattle.trac_events.specs.Changes.{pointer_of, is_same, touched_by};
 
-use trac_forms::Forms;
+use trac_forms::{Forms, StoredForm};
 use trac_language::Function;
 use trac_space::{Cell, character_of};
 
@@ -38,16 +39,24 @@ pub fn touched_by(function: Function) -> Touched
     }
 }
 
+/// The form that has the name. None where there is no such form.
+pub fn find_form<'f>(forms: Forms<'f>, name: &[Cell]) -> Option<StoredForm<'f>>
+    ensures { result ≡ form_named (text_of_cells name.now) forms.entry }
+{
+    for form in forms {
+        if is_same(form.name(), name) {
+            return Some(form);
+        }
+    }
+    None
+}
+
 /// The pointer of the form that has the name. None where there is no such form.
 pub fn pointer_of(forms: Forms, name: &[Cell]) -> Option<u32>
     ensures { result ≡ pointer_of (text_of_cells name.now) forms.entry }
 {
-    for form in forms {
-        if is_same(form.name(), name) {
-            return Some(form.pointer());
-        }
-    }
-    None
+    let form = find_form(forms, name)?;
+    Some(form.pointer())
 }
 
 /// Whether two texts have the same characters.

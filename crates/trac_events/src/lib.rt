@@ -10,5 +10,5 @@ mod place;
 
 pub use before::{Before, value_behind};
 pub use call::{Named, OpenCall, argument, arguments_at_end, arguments_of, innermost};
-pub use change::{Touched, is_same, pointer_of, touched_by};
-pub use place::{Place, Reading, is_layout};
+pub use change::{Touched, find_form, is_same, pointer_of, touched_by};
+pub use place::{Place, Reading};

@@ -1,10 +1,10 @@
 //! Places in the input, and the strings that were read from it.
 ghost use Rattle.std.specs.Prelude.{◌≡◌};
-ghost use Rattle.trac_language.specs.Rule.{is_layout};
 ghost use Rattle.trac_space.specs.Texts.{text_of_cells};
 ghost use Rattle.trac_events.specs.Places.{behind, behind_text, behind_layout, first_place};
 ghost use Rattle.trac_events.specs.Places.{one_more};
 
+use trac_core::is_layout;
 use trac_space::{Cell, character_of};
 
 /// A place in the input: its line and its column, both from 1. A column is a byte of ASCII or a
@@ -119,11 +119,4 @@ impl Reading {
             string: self.string,
         }
     }
-}
-
-/// Whether a scanner deletes the character outside parentheses.
-pub fn is_layout(character: u8) -> bool
-    ensures { result ≡ is_layout character }
-{
-    matches!(character, b'\t' | b'\n' | b'\r')
 }

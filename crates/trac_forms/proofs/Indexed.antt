@@ -6,7 +6,7 @@ use Rattle.std.proofs.lemmas.Bool.{false≢true, cases_lt}
 use Rattle.std.proofs.lemmas.List.{length-map, length-append, length-set, get_or-map}
 use Rattle.trac_language.specs.Text.{Text}
 use Rattle.trac_language.specs.Form.{Form}
-use Rattle.trac_language.specs.Store.{NoneNamed, without, is_named}
+use Rattle.trac_language.specs.Store.{NoneNamed}
 use Rattle.trac_space.specs.declared.cell.Cell.{Cell}
 use Rattle.trac_space.specs.declared.cell.Cell.TheVariants.{Byte, Head}
 use Rattle.trac_space.specs.Cells.{seen}
@@ -118,13 +118,3 @@ index-pointer forms k p table h =
 pub put-kept : (first : List Cell) (s m t : Lists) (n : ℕ) → IsKept first s.spare → m ≡ with_way n s → t.spare ≡ m.spare → IsKept first t.spare
 put-kept first s m t n before way put =
     kept-more first s.spare t.spare before (subst (λ l. IsKept s.spare l) (sym (put ∙ ap (λ (w : Lists). w.spare) way)) (way-kept n s))
-
--- where none has the name all stay
-pub without-same : (name : Text) (forms : List Form) → length (without name forms) ≡ length forms → without name forms ≡ forms
-without-same name [] e = refl
-without-same name (form ∷ forms) e =
-    go (is_named name form) refl (without-same name forms)
-  where
-    go : (b : Bool) → is_named name form ≡ b → (length (without name forms) ≡ length forms → without name forms ≡ forms) → without name (form ∷ forms) ≡ form ∷ forms
-    go true is more = absurd (omega (arith, rw is at e))
-    go false is more = rw is (ap (λ fs. form ∷ fs) (more (omega (arith, rw is at e))))

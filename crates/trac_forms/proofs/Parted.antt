@@ -1,7 +1,7 @@
 -- What stands between comma marks, part by part, and a list of where the parts begin.
 use Rattle.std.proofs.Common.{◌≡◌, ℕ, zero, suc, ◌+◌, ◌-◌, ◌<◌, ◌≤◌, Bool, true, false, List, [], ◌∷◌, ◌++◌, length, take, drop, map, slice_range, get_or, refl, sym, ap, ◌∙◌, arith, cond, nat_le, ⊎_elim, subst, append_assoc}
 use Rattle.std.proofs.lemmas.Bool.{cases_lt}
-use Rattle.std.proofs.lemmas.List.{length-append, length-map, length-take, drop-take, drop-drop, get_or_append_left}
+use Rattle.std.proofs.lemmas.List.{drop_more, length-append, length-map, length-take, drop-take, drop-drop, get_or_append_left}
 use Rattle.std.proofs.Math.Seq.{get_or-append_seam}
 use Rattle.std.proofs.lemmas.List.Edits.{length-between}
 use Rattle.trac_space.specs.declared.cell.Cell.{Cell}
@@ -24,6 +24,31 @@ before_comma-within (cell ∷ cells) = go (is_comma cell) (before_comma-within c
     go : (b : Bool) → before_comma cells ≤ length cells → cond b 0 (suc (before_comma cells)) ≤ suc (length cells)
     go true h = omega arith
     go false h = omega arith
+
+no-comma : (cell : Cell) → (cell ≡ Comma → ⊥) → is_comma cell ≡ false
+no-comma (Byte b) h = refl
+no-comma (Call mode link) h = refl
+no-comma Comma h = absurd (h refl)
+no-comma (Gap ordinal) h = refl
+no-comma (Head n) h = refl
+
+-- a cell that is no comma mark is passed
+module _ (cells : List Cell) where
+  before-one : (i : ℕ) (d : Cell) → i < length cells → (get_or cells i d ≡ Comma → ⊥) → before_comma cells ≡ i + before_comma (drop i cells) → before_comma cells ≡ i + 1 + before_comma (drop (i + 1) cells)
+  before-one i d less other is =
+      let here = ap before_comma (drop_more cells i d less) ∙ ap (λ b. cond b 0 (suc (before_comma (drop (i + 1) cells)))) (no-comma (get_or cells i d) other) in
+      omega (arith, is, here)
+
+  -- four such cells are
+  pub before-four : (i : ℕ) (d : Cell) → i + 4 ≤ length cells → (get_or cells i d ≡ Comma → ⊥) → (get_or cells (i + 1) d ≡ Comma → ⊥) → (get_or cells (i + 2) d ≡ Comma → ⊥) → (get_or cells (i + 3) d ≡ Comma → ⊥) → before_comma cells ≡ i + before_comma (drop i cells) → before_comma cells ≡ i + 4 + before_comma (drop (i + 4) cells)
+  before-four i d within first second third fourth is =
+      let two : i + 1 + 1 ≡ i + 2 = omega arith in
+      let three : i + 2 + 1 ≡ i + 3 = omega arith in
+      let four : i + 3 + 1 ≡ i + 4 = omega arith in
+      let a = before-one i d (omega (arith, within)) first is in
+      let b = before-one (i + 1) d (omega (arith, within)) second a in
+      let c = before-one (i + 2) d (omega (arith, within)) third (rw (← two) b) in
+      rw (← four) (before-one (i + 3) d (omega (arith, within)) fourth (rw (← three) c))
 
 is_comma-seen : (cell : Cell) → is_comma (seen cell) ≡ is_comma cell
 is_comma-seen (Byte b) = refl

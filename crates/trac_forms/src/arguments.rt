@@ -93,7 +93,7 @@ pub(crate) fn list_parts(space: &mut Space, from: u32, end: u32) -> u32
     let mut from = from;
     space.push_active(Cell::Head(from));
     while from <= end {
-        from += before_comma(space.neutral_part(from, end)) + 1;
+        from += before_near_comma(space.neutral_part(from, end)) + 1;
         space.push_active(Cell::Head(from));
         count += 1;
     }
@@ -101,12 +101,38 @@ pub(crate) fn list_parts(space: &mut Space, from: u32, end: u32) -> u32
 }
 
 /// How many cells stand before the first comma mark.
+#[inline]
 pub fn before_comma(cells: &[Cell]) -> u32
     requires { length cells.now ≤ 16777216 }
     ensures { result ≡ before_comma cells.now }
 {
     let mut i = 0;
-    // Two in a turn: the turn costs more than a look.
+    // Four in a turn: the turn costs more than a look.
+    while cells.len() - i >= 4 {
+        if let Cell::Comma = cells[i] {
+            return i as u32;
+        }
+        if let Cell::Comma = cells[i + 1] {
+            return i as u32 + 1;
+        }
+        if let Cell::Comma = cells[i + 2] {
+            return i as u32 + 2;
+        }
+        if let Cell::Comma = cells[i + 3] {
+            return i as u32 + 3;
+        }
+        i += 4;
+    }
+    i as u32 + before_near_comma(&cells[i..])
+}
+
+// The same, of few cells.
+#[inline]
+fn before_near_comma(cells: &[Cell]) -> u32
+    requires { length cells.now ≤ 16777216 }
+    ensures { result ≡ before_comma cells.now }
+{
+    let mut i = 0;
     while i + 1 < cells.len() {
         if let Cell::Comma = cells[i] {
             return i as u32;

@@ -1,22 +1,20 @@
 //! Whole forms, their gaps filled, put at the end of neutral (Mooers 1966).
 ghost use Rattle.std.specs.Prelude.{◌≡◌, ◌+◌, ◌≤◌, ◌<◌, ◌↔◌, ◌++◌, [], true, false};
-ghost use Rattle.std.specs.Prelude.{length, take, IsTrue, All, Some};
+ghost use Rattle.std.specs.Prelude.{length, IsTrue, Some};
 ghost use Rattle.std.specs.Bool.{OnTrue, OnFalse};
 ghost use Rattle.trac_language.specs.Text.{Text};
 ghost use Rattle.trac_space.specs.Lists.{used as cells_used, HasWay};
-ghost use Rattle.trac_space.specs.Texts.{flat_text};
-ghost use Rattle.trac_forms.specs.Contents.{used, IsSound};
+ghost use Rattle.trac_space.specs.Texts.{flat_text, byte_cell_at};
+ghost use Rattle.trac_forms.specs.Contents.{used, IsSound, form_place};
 ghost use Rattle.trac_forms.specs.Arguments.{AreParted, HasList, filled_body, filled_cells};
-ghost use Rattle.trac_forms.specs.Gaps.{is_byte_cell, byte_cell_at, gap_number, gap_ordinal};
+ghost use Rattle.trac_forms.specs.Gaps.{gap_number, gap_ordinal};
 ghost use Rattle.trac_forms.specs.Index.{IsKept};
-ghost use Rattle.trac_forms.specs.Contents.{form_place};
 
 use crate::arguments::{Arguments, list_parts};
 use crate::item::FormId;
-use crate::search::is_character;
 use crate::store::{heads, place_of};
 use crate::work::Work;
-use trac_space::{Cell, Space};
+use trac_space::{Cell, Space, is_character};
 
 impl<'a> Work<'a> {
     /// Puts the items of the form's body from its pointer on at the end of neutral, each gap of
@@ -165,15 +163,16 @@ fn fill_cells(space: &mut Space, from: u32, stop: u32, arguments: Arguments) -> 
     let mut at = from;
     let mut way = space.way();
     loop {
-        let gap = at + characters(space.store_part(at, stop));
-        if way < gap - at {
-            return false;
-        }
-        way -= gap - at;
-        space.put_from_store(at, gap);
+        let count = space.put_characters(at, at + way.min(stop - at));
+        let gap = at + count;
         if gap == stop {
             return true;
         }
+        // then no way is left
+        if has_character(space, gap) {
+            return false;
+        }
+        way -= count;
         let part = arguments.part(space, ordinal(space, gap));
         if way < part.1 - part.0 {
             return false;
@@ -184,20 +183,14 @@ fn fill_cells(space: &mut Space, from: u32, stop: u32, arguments: Arguments) -> 
     }
 }
 
-// How many characters begin the cells.
+// Whether a character stands at place `i` of the store.
 #[inline]
-fn characters(cells: &[Cell]) -> u32
-    requires { length cells.now ≤ 16777216 }
-    ensures within { result ≤ length cells.now }
-    ensures bytes { All (λ cell. is_byte_cell cell ≡ true) (take result cells.now) }
-    ensures stop { result < length cells.now → byte_cell_at cells.now result ≡ false }
+fn has_character(space: &Space, i: u32) -> bool
+    requires within { i < length space.now.store }
+    requires bounded { length space.now.store ≤ 16777216 }
+    ensures { result ≡ byte_cell_at space.now.store i }
 {
-    for (i, cell) in cells.iter().enumerate() {
-        if !is_character(cell) {
-            return i as u32;
-        }
-    }
-    cells.len() as u32
+    is_character(&space.store_part(i, i + 1)[0])
 }
 
 // The ordinal of the gap at place `i` of the store, 0 of any other cell.

@@ -270,9 +270,6 @@ null-part w end within =
     let none : end - end ≡ 0 = omega arith in
     record { order = omega arith; within = within; bytes = rw none (λ k d within. absurd (omega arith)) }
 
-pub null-text : (neutral : List Cell) (end : ℕ) → part_text neutral end end ≡ []
-null-text neutral end = let none : end - end ≡ 0 = omega arith in rw none refl
-
 pub argument-later : (texts rest : List Text) → rest ≡ drop 1 texts → (k : ℕ) → argument rest k ≡ argument texts (k + 1)
 argument-later texts rest e k = let swap : 1 + k ≡ k + 1 = omega arith in ap (λ l. argument l k) e ∙ get_or-drop 1 texts k [] ∙ ap (argument texts) swap
 

@@ -1,7 +1,7 @@
 -- The front and the back of a part of neutral, and the prefix of a text as its front.
 use Rattle.std.proofs.Common.{◌≡◌, ℕ, ◌+◌, ◌-◌, ◌≤◌, Bool, true, false, ◌||◌, cond, List, [], ◌++◌, length, take, drop, slice_range, All, sym, ap, ◌∙◌, subst, arith, append_assoc, eqb}
 use Rattle.std.proofs.lemmas.List.{length-append, append-nil, take-append-drop, take-append-le, take_all, take-take, take-map}
-use Rattle.std.proofs.lemmas.List.Elements.{All-take, All-drop}
+use Rattle.std.proofs.lemmas.List.Elements.{All-take}
 use Rattle.std.specs.List.{suffix_len}
 use Rattle.std.specs.Char.{is_ascii_digit}
 use Rattle.trac_language.specs.Text.{Text}
@@ -11,7 +11,7 @@ use Rattle.trac_space.specs.declared.cell.Cell.{Cell}
 use Rattle.trac_space.specs.Texts.{text_of_cells, character_of, IsByte}
 use Rattle.trac_values.proofs.Texts.{length-text}
 use Rattle.trac_forms.specs.Contents.{IsTextPart, part_text}
-use Rattle.trac_functions.proofs.DigitParts.{length-part, part_of_part}
+use Rattle.trac_functions.proofs.DigitParts.{length-part}
 
 -- a text that another begins with
 pub record IsFront (front text : Text) : Type 0 where
@@ -80,7 +80,3 @@ module _ (cells : List Cell) (a b n : ℕ) (part : IsTextPart cells a b) (front 
 
   pub front-text : part_text cells a (a + n) ≡ front
   front-text = ap text_of_cells (sym taken) ∙ sym (take-map character_of n (slice_range cells a b)) ∙ front-is front (part_text cells a b) n is long
-
-  pub back-part : IsTextPart cells (a + n) b
-  back-part =
-      record { order = inside; within = part.within; bytes = subst (All IsByte) (sym (part_of_part cells a b n inside)) (All-drop IsByte n (slice_range cells a b) part.bytes) }

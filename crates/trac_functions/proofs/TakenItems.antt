@@ -1,6 +1,5 @@
 -- Characters and gaps among the items of a form.
-use Rattle.std.proofs.Common.{◌≡◌, ℕ, zero, suc, ◌+◌, ◌-◌, ◌<◌, ◌≤◌, min, Bool, true, false, List, [], ◌∷◌, ◌++◌, length, take, drop, reverse, All, slice_range, get_or, refl, sym, ap, ◌∙◌, ⊎_elim, arith, append_assoc, append-nil, length-append}
-use Rattle.std.proofs.lemmas.Bool.{cases_lt}
+use Rattle.std.proofs.Common.{◌≡◌, ℕ, zero, suc, ◌+◌, ◌-◌, ◌<◌, ◌≤◌, min, Bool, true, false, List, [], ◌∷◌, ◌++◌, length, take, drop, reverse, All, slice_range, get_or, refl, sym, ap, ◌∙◌, arith, append_assoc, append-nil, length-append}
 use Rattle.std.proofs.lemmas.List.{length-take, length-drop, length-reverse, get_or-drop, get_or-reverse, get_or-take, drop-drop, drop-take, take-append-drop, reverse-append, reverse-reverse, take-take, map-append, length-map}
 use Rattle.std.proofs.Math.Seq.{take-append_seam, take-add, drop-append_seam}
 use Rattle.trac_language.specs.declared.item.Item.{Item}
@@ -11,7 +10,7 @@ use Rattle.trac_language.specs.Part.{first_characters}
 use Rattle.trac_space.specs.declared.cell.Cell.TheVariants.{Byte as ByteCell}
 use Rattle.trac_space.specs.Texts.{flat_text}
 use Rattle.trac_forms.specs.Contents.{Contents, used}
-use Rattle.trac_forms.specs.Search.{is_gap, item_at, character_at, gap_at, NonePasses, IsFirst, IsLast}
+use Rattle.trac_forms.specs.Search.{character_at, gap_at, NonePasses, IsFirst, IsLast}
 use Rattle.trac_forms.proofs.Copies.{characters-between}
 use Rattle.trac_functions.specs.Taking.{IsFirstOr}
 
@@ -64,12 +63,6 @@ characters-left items n =
     let split = ap (λ t. length (text_of t)) (sym (take-append-drop (length (first_characters n items)) items)) ∙ ap length (text_of-append (take k items) (drop k items)) ∙ length-append (text_of (take k items)) (text_of (drop k items)) in
     let front = ap (λ t. length (text_of t)) (sym (first_characters-take items n)) ∙ text_of-first items n in
     omega arith
-
--- a test of items that passes from the first on at i, and not before
-record FirstAt (items : List Item) (i : ℕ) : Type 0 where
-  within : i < length items
-  passes : is_character (get_or items i (Byte 0)) ≡ true
-  before : (k : ℕ) → k < i → is_character (get_or items k (Byte 0)) ≡ false
 
 pub first-one : (items : List Item) (i : ℕ) → i < length items → is_character (get_or items i (Byte 0)) ≡ true → ((k : ℕ) → k < i → is_character (get_or items k (Byte 0)) ≡ false) → length (first_characters 1 items) ≡ i + 1
 first-one [] i within passes before = absurd (omega arith)
@@ -307,38 +300,16 @@ pub first-or-none : (test : ℕ → Bool) (from to end : ℕ) → from ≤ to �
 first-or-none test from to end le within none =
     record { above = le; below = omega arith; before = λ k ge lt. none k ge (omega arith); passes = λ lt. absurd (omega arith) }
 
-not-gap : (item : Item) → is_character item ≡ true → is_gap item ≡ false
-not-gap (Byte c) h = refl
-not-gap (Gap k) h = absurd cc
-
-not-character : (item : Item) → is_gap item ≡ true → is_character item ≡ false
-not-character (Byte c) h = absurd cc
-not-character (Gap k) h = refl
-
--- a run goes on past where it was looked for
-pub run-on : (body : List Item) (from start end to : ℕ) → from < to → IsFirstOr (character_at body) from to start → IsFirstOr (gap_at body) start to end → from < end
-run-on body from start end to lt first last =
-    let above = first.above in
-    let below = first.below in
-    let higher = last.above in
-    ⊎_elim
-    (λ more. omega arith)
-    (λ same. ⊎_elim
-    (λ here.
-    let passes = first.passes (omega arith) in
-    ⊎_elim
-    (λ on. omega arith)
-    (λ stop.
-    let e : end ≡ start = omega arith in
-    absurd (let gap = last.passes (omega arith) in let wrong = not-gap (item_at body start) passes in let at = ap (gap_at body) e in cc))
-    (cases_lt start end))
-    (λ past. omega arith)
-    (cases_lt start to))
-    (cases_lt from start)
-
 -- the characters of a run
 pub run-characters : (body : List Item) (start end to : ℕ) → end ≤ length body → IsFirstOr (gap_at body) start to end → All (λ item. is_character item ≡ true) (slice_range body start end)
 run-characters body start end to within last = characters-between body start end within last.before
+
+-- the text up to the first character is that character
+pub first-character : (body : List Item) (from place : ℕ) → IsFirst (character_at body) from (length body) place → text_of (slice_range body from (place + 1)) ≡ text_of (slice_range body place (place + 1))
+first-character body from place first =
+    let above = first.above in
+    let inside = first.within in
+    text_of-split body from place (place + 1) above (omega arith) ∙ ap (λ t. t ++ text_of (slice_range body place (place + 1))) (text_of-gaps body from place (omega arith) first.before)
 
 -- more of a part was copied
 pub copied-more : (old now new : Contents) (body : List Item) (from place start end to : ℕ) → from ≤ place → to ≤ length body → now ≡ record old { neutral = old.neutral ++ flat_text (text_of (slice_range body from place)) } → new ≡ record now { neutral = now.neutral ++ flat_text (text_of (slice_range body start end)) } → IsFirstOr (character_at body) place to start → IsFirstOr (gap_at body) start to end → new ≡ record old { neutral = old.neutral ++ flat_text (text_of (slice_range body from end)) }
@@ -365,11 +336,6 @@ length-part body from place start end to le within first last =
     let run = ap length (text_of-split body start end to b below) ∙ length-append (text_of (slice_range body start end)) (text_of (slice_range body end to)) in
     let here = length-characters body start end (omega arith) (run-characters body start end to (omega arith) last) in
     omega arith
-
-pub copied-none : (old : Contents) (body : List Item) (from : ℕ) → old ≡ record old { neutral = old.neutral ++ flat_text (text_of (slice_range body from from)) }
-copied-none old body from =
-    let none : from - from ≡ 0 = omega arith in
-    ap (λ n. record old { neutral = n }) (sym (append-nil old.neutral) ∙ ap (λ n. old.neutral ++ flat_text (text_of (take n (drop from body)))) (sym none))
 
 pub used-copied : (old now : Contents) (text : Text) → now ≡ record old { neutral = old.neutral ++ flat_text text } → used now ≡ used old + length text
 used-copied old now text is = let long = length-append old.neutral (flat_text text) in let text_long = length-map text ByteCell in ap used is ∙ omega arith

@@ -19,7 +19,7 @@ use Rattle.trac_language.specs.Meaning.{World, on_form, silent, with_form, take_
 use Rattle.trac_language.specs.Number.{number}
 use Rattle.trac_space.specs.Texts.{flat_text}
 use Rattle.trac_values.specs.Digits.{signed}
-use Rattle.trac_forms.specs.Search.{is_gap, gap_at, text_at, NonePasses, IsFirst}
+use Rattle.trac_forms.specs.Search.{character_at, is_gap, gap_at, text_at, NonePasses, IsFirst}
 use Rattle.trac_forms.specs.Contents.{Contents, form_at, IsNamedAt, IsSound, part_text}
 use Rattle.trac_forms.proofs.Stores.{form_named-at, form_named-none, changed-at}
 use Rattle.trac_functions.specs.declared.arguments.Made.{Made}
@@ -29,7 +29,7 @@ use Rattle.trac_functions.specs.Calls.{world, Valued, Makes}
 use Rattle.trac_functions.specs.Taking.{part_value, moved, TakesPart}
 use Rattle.trac_functions.proofs.CountLimits.{counted}
 use Rattle.trac_functions.proofs.MadeValues.{valued-of}
-use Rattle.trac_functions.proofs.TakenItems.{length-text_of, text_of-first, taken-forward, taken-backward, length-text_of-reverse}
+use Rattle.trac_functions.proofs.TakenItems.{first-character, forward-all, forward-last, forward-more, forward-none, length-text_of, text_of-first, taken-forward, taken-backward, length-text_of-reverse}
 
 -- ---- what a call makes of the part that it takes
 
@@ -193,6 +193,18 @@ next-some form n from to from_is within to_is other =
     first-none : (items : List Item) → length (first_characters 0 items) ≡ 0
     first-none [] = refl
     first-none (x ∷ xs) = refl
+
+-- the next character after the pointer
+pub one-none : (form : Form) (from : ℕ) → from ≡ form.pointer → from ≤ length form.body → NonePasses (character_at form.body) from (length form.body) → next_characters 1 form ≡ None
+one-none form from is within none =
+    next-none form 1 from from is (forward-last form.body from 0 from within (forward-none form.body from) 1 (omega arith) none) refl
+
+pub one-some : (form : Form) (from place : ℕ) → from ≡ form.pointer → from ≤ length form.body → IsFirst (character_at form.body) from (length form.body) place → Some (record { text = text_of (slice_range form.body place (place + 1)); pointer = place + 1 }) ≡ next_characters 1 form
+one-some form from place is within first =
+    let above = first.above in
+    let there = forward-more form.body from 0 from within (forward-none form.body from) place first in
+    ap (λ t. let r : Part = record { text = t; pointer = place + 1 } in Some r) (sym (first-character form.body from place first))
+    ∙ next-some form 1 from (place + 1) is within (forward-all form.body from 1 (place + 1) within there 1 refl) (λ e. absurd (omega arith))
 
 -- the last characters before the pointer: none where none is passed
 pub previous-none : (form : Form) (n from to : ℕ) → to ≡ form.pointer → from + length (first_characters (min n (length (text_of (take to form.body)))) (reverse (take to form.body))) ≡ to → from ≡ to → previous_characters n form ≡ None

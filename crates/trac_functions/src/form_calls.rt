@@ -13,9 +13,8 @@ ghost use Rattle.trac_language.specs.Store.{NoneNamed};
 ghost use Rattle.trac_language.specs.State.{argument};
 ghost use Rattle.trac_space.specs.Texts.{flat_text};
 ghost use Rattle.trac_forms.specs.Contents.{used, name_at, part_text, IsTextPart, IsNamedAt};
-ghost use Rattle.trac_forms.specs.Contents.{IsSound};
+ghost use Rattle.trac_forms.specs.Contents.{IsSound, form_place};
 ghost use Rattle.trac_functions.specs.Calls.{AreArguments, texts, Makes, Performs};
-ghost use Rattle.trac_forms.specs.Contents.{form_place};
 
 use crate::arguments::{Arguments, Made, put_part};
 use trac_forms::{FormId, Work};

@@ -77,9 +77,68 @@ pub fn call_character(work: &mut Work, mut arguments: Arguments) -> Made
     let name = arguments.next(work);
     let default = arguments.next(work);
     match work.find(name.0, name.1) {
-        Some(form) => take_forward(work, form, 1, default),
+        Some(form) => take_character(work, form, default),
         None => Made::Value,
     }
+}
+
+/// Takes the next character after the pointer.
+fn take_character(work: &mut Work, form: FormId, default: (u32, u32)) -> Made
+    requires known { form_place form < length work.old.forms }
+    requires part { IsTextPart work.old.neutral default.0 default.1 }
+    requires sound { IsSound work.old }
+    ensures takes { TakesOrDefault (next_characters 1) (form_place form) default
+        work.old result work.new }
+    ensures unmade { result ≡ Made.Full → work.new.forms ≡ work.old.forms }
+    ensures room { work.new.room ≡ work.old.room }
+    ensures sound { IsSound work.new }
+{
+    let from = work.pointer(form);
+    match work.next_char(form, from) {
+        Some(place) => take_one(work, form, place),
+        None => give(work, default, true),
+    }
+}
+
+/// Takes the character at a place of the body; the pointer goes behind it.
+fn take_one(work: &mut Work, form: FormId, place: u32) -> Made
+    requires known { form.0 < length work.old.forms }
+    requires within { place < length (body_at work.old.forms form.0) }
+    requires character { character_at (body_at work.old.forms form.0) place ≡ true }
+    requires sound { IsSound work.old }
+    ensures takes { (z : Text) →
+        let body = body_at work.old.forms form.0 in
+        let taken = part_between body (place, place + 1) (place + 1) in
+        TakesPart (Some taken) z form.0 work.old result work.new }
+    ensures unmade { result ≡ Made.Full → work.new.forms ≡ work.old.forms }
+    ensures room { work.new.room ≡ work.old.room }
+    ensures sound { IsSound work.new }
+{
+    if !copy_character(work, form, place) {
+        return Made::Full;
+    }
+    work.set_pointer(form, place + 1);
+    Made::Value
+}
+
+/// Puts the character at a place of the body at the end of the neutral string, if there is a cell
+/// for it.
+fn copy_character(work: &mut Work, form: FormId, place: u32) -> bool
+    requires known { form.0 < length work.old.forms }
+    requires within { place < length (body_at work.old.forms form.0) }
+    requires character { character_at (body_at work.old.forms form.0) place ≡ true }
+    requires sound { IsSound work.old }
+    ensures put { let text = characters_between (body_at work.old.forms form.0) place (place + 1) in
+        IsTrue result ↔ (used work.old + length text ≤ work.old.room) }
+    ensures last { let text = characters_between (body_at work.old.forms form.0) place (place + 1) in
+        OnTrue result
+        (work.new ≡ record work.old { neutral = work.old.neutral ++ flat_text text }) }
+    ensures forms { work.new.forms ≡ work.old.forms }
+    ensures room { work.new.room ≡ work.old.room }
+    ensures sound { IsSound work.new }
+{
+    prove!(place < work.body_len(form));
+    work.copy_body(form, place, place + 1)
 }
 
 /// `cn,N,D,Z`: the next D characters, or the last -D before the pointer where D is negative, gaps

@@ -1,5 +1,5 @@
 -- The definition gives the cases of conformance/limits.cases, from which this file is written.
-use Rattle.std.proofs.Common.{◌≡◌, ℕ, [], ◌∷◌, refl, false, true}
+use Rattle.std.proofs.Common.{◌≡◌, ℕ, [], refl, false, true}
 use Rattle.std.specs.Prelude.{codes}
 use Rattle.std.specs.Fmt.{digits}
 use Rattle.trac_language.specs.declared.fate.Fate.{Fate}

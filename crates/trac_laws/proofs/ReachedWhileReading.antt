@@ -31,7 +31,3 @@ module _ (room : ℕ) (start : Memory) (written taken : Text) (n peak : ℕ) (m 
   -- the source fails after it gave these bytes in the last step
   pub anywhere_failed : (given : Text) (allowance : ℕ) → n < allowance → need (standing m given true out) ≤ room → step (standing m given true out) ≡ Over InputFailed → run room allowance (standing start (taken ++ given) true written) ≡ record { output = out; left = given; fate = InputFailed; steps = n + 0; peak = max peak (need (standing m given true out)) }
   anywhere_failed given allowance h fits e = reached_over room (standing start (taken ++ given) true written) n peak (standing m given true out) (before.is given true) allowance InputFailed h fits e
-
-  -- the room is full after it gave these bytes in the last step, or none
-  pub anywhere_is : (rest : Text) → Reached room (standing start (taken ++ rest) false written) n peak (standing m rest false out)
-  anywhere_is rest = before.is rest false

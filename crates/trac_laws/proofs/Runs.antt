@@ -197,15 +197,3 @@ least_room_law input room other allowance h le = same_in_peak room other allowan
 
 pub less_room_law : LessRoom
 less_room_law input room smaller allowance h lt = let cut = cut_by_room room smaller allowance (first input) h lt in (cut.fate, cut.output)
-
--- a run keeps within its room and its allowance
-pub within_limits : (room n : ℕ) (s : State) → ((run room n s).steps ≤ n) × ((run room n s).peak ≤ room)
-within_limits room zero s = subst (λ r. (r.steps ≤ zero) × (r.peak ≤ room)) (sym (run_none room s)) (omega arith)
-within_limits room (suc n) s =
-    ⊎_elim
-    (λ full. subst (λ r. (r.steps ≤ suc n) × (r.peak ≤ room)) (sym (run_full room n s full)) (omega arith))
-    (λ fits. ⊎_elim
-    (λ next. let rest = within_limits room n next.0 in subst (λ r. (r.steps ≤ suc n) × (r.peak ≤ room)) (sym (run_next room n s next.0 fits next.1)) (omega arith))
-    (λ over. let c = counted-le over.0 in subst (λ r. (r.steps ≤ suc n) × (r.peak ≤ room)) (sym (run_over room n s over.0 fits over.1)) (omega arith))
-    (cases_outcome (step s)))
-    (cases_lt room (need s))

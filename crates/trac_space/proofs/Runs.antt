@@ -60,13 +60,9 @@ pub plain-none : (cells : List Cell) (k : ℕ) → k ≤ length cells → NoComm
 plain-none cells k within =
     subst NoComma (sym (drop_all k (take k cells) (omega (arith, length-take-le k cells within)))) (All-nil (λ cell. is_comma cell ≡ false))
 
--- a character stays as it is, or becomes a comma mark
-pub turned-byte : (table : List ℕ) (cell : Cell) → number_in table cell ≡ 0 → IsByte cell → turned_by table cell ≡ cell
-turned-byte table (Byte b) none is = rw none refl
-turned-byte table (Call mode distance) none is = absurd is
-turned-byte table Comma none is = absurd is
-turned-byte table (Gap ordinal) none is = absurd is
-turned-byte table (Head n) none is = absurd is
+-- a character stays, or becomes a comma mark
+pub turned-byte : (table : List ℕ) (cell : Cell) → number_in table cell ≡ 0 → turned_by table cell ≡ Byte (character_of cell)
+turned-byte table cell none = rw none refl
 
 pub turned-one : (table : List ℕ) (cell : Cell) → number_in table cell ≡ 1 → turned_by table cell ≡ Comma
 turned-one table cell one = rw one refl

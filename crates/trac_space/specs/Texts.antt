@@ -1,5 +1,5 @@
 -- The cells that stand for texts.
-use Rattle.std.specs.Prelude.{ℕ, List, map}
+use Rattle.std.specs.Prelude.{ℕ, Bool, true, false, T, List, map, slice_index_or}
 use Rattle.trac_language.specs.Text.{Text}
 use Rattle.trac_space.specs.declared.cell.Cell.{Cell}
 use Rattle.trac_space.specs.declared.cell.Cell.TheVariants.{Byte, Call, Comma, Gap, Head}
@@ -20,10 +20,18 @@ character_of (Head n) = 0
 abbrev pub text_of_cells : List Cell → Text
 text_of_cells cells = map character_of cells
 
+-- whether the cell is a character
+abbrev pub is_byte_cell : Cell → Bool
+is_byte_cell (Byte _) = true
+is_byte_cell (Call _ _) = false
+is_byte_cell Comma = false
+is_byte_cell (Gap _) = false
+is_byte_cell (Head _) = false
+
 -- the cell is a character
 abbrev pub IsByte : Cell → Type 0
-IsByte (Byte _) = Unit {0}
-IsByte (Call _ _) = ⊥
-IsByte Comma = ⊥
-IsByte (Gap _) = ⊥
-IsByte (Head _) = ⊥
+IsByte cell = T (is_byte_cell cell)
+
+-- whether a character stands at the place
+abbrev pub byte_cell_at : List Cell → ℕ → Bool
+byte_cell_at cells i = is_byte_cell (slice_index_or cells i Comma)

@@ -1,11 +1,11 @@
 //! Moves of cells within a block.
-ghost use Rattle.std.specs.Prelude.{◌≡◌, ◌+◌, ◌-◌, ◌≤◌, ◌<◌, ◌⊎◌, length, All, drop, take};
-ghost use Rattle.std.specs.Prelude.{◌==◌, if◌then◌else◌, slice_index_or};
+ghost use Rattle.std.specs.Prelude.{◌≡◌, ◌+◌, ◌-◌, ◌≤◌, ◌<◌, ◌⊎◌, All, drop, false};
+ghost use Rattle.std.specs.Prelude.{length, take, ◌==◌, if◌then◌else◌, slice_index_or};
 ghost use Rattle.std.specs.List.{copy_within};
 ghost use Rattle.trac_space.specs.declared.cell.Cell.TheVariants.{Byte};
 ghost use Rattle.trac_space.specs.Cells.{NoComma};
 ghost use Rattle.trac_space.specs.Runs.{IsInRun, number_in, turned, with_cells_at};
-ghost use Rattle.trac_space.specs.Texts.{IsByte};
+ghost use Rattle.trac_space.specs.Texts.{IsByte, byte_cell_at};
 
 use crate::cell::{Cell, byte_in};
 
@@ -85,7 +85,9 @@ fn copy_long(cells: &mut [Cell], start: usize, end: usize, to: usize)
     ensures len { length cells.new ≡ length cells.old }
     ensures after { cells.new ≡ copy_within cells.old start end to }
 {
-    if end <= to || to + (end - start) <= start {
+    if end <= to {
+        copy_apart(cells, start, end, to);
+    } else if to + (end - start) <= start {
         copy_apart(cells, start, end, to);
     } else if end - start < FEW || start.abs_diff(to) < NEAR {
         cells.copy_within(start..end, to);
@@ -189,11 +191,12 @@ pub(crate) fn copy_run(
     start: usize,
     to: usize,
     most: usize,
-    table: &[u8; 256],
+    table: &[u8],
 ) -> (usize, usize)
     requires before { to ≤ start }
     requires within { start + most ≤ length cells.old }
     requires bytes { All IsByte (take most (drop start cells.old)) }
+    requires whole { length table.now ≡ 256 }
     ensures few { result.0 ≤ most }
     ensures run { All (IsInRun table.now) (take result.0 (drop start cells.old)) }
     ensures ends { result.0 < most →
@@ -208,9 +211,10 @@ pub(crate) fn copy_run(
     let mut count = 0;
     let mut last = 0;
     while count < most {
-        let number = table[usize::from(byte_in(&cells[start + count]))];
+        let byte = byte_in(&cells[start + count]);
+        let number = table[usize::from(byte)];
         if number == 0 {
-            cells[to + count] = cells[start + count];
+            cells[to + count] = Cell::Byte(byte);
         } else if number == 1 {
             cells[to + count] = Cell::Comma;
             last = count + 1;
@@ -220,4 +224,27 @@ pub(crate) fn copy_run(
         count += 1;
     }
     (count, last)
+}
+
+// Puts the characters that stand from a place on once more at a place behind, at most so many, up
+// to the first cell that is none. Gives how many they are.
+#[inline]
+pub(crate) fn copy_characters(cells: &mut [Cell], start: usize, to: usize, most: usize) -> usize
+    requires behind { start + most ≤ to }
+    requires room { to + most ≤ length cells.old }
+    ensures few { result ≤ most }
+    ensures bytes { All IsByte (take result (drop start cells.old)) }
+    ensures stop { result < most → byte_cell_at cells.old (start + result) ≡ false }
+    ensures len { length cells.new ≡ length cells.old }
+    ensures after { cells.new ≡ copy_within cells.old start (start + result) to }
+{
+    let mut count = 0;
+    while count < most {
+        match cells[start + count] {
+            Cell::Byte(byte) => cells[to + count] = Cell::Byte(byte),
+            _ => return count,
+        }
+        count += 1;
+    }
+    count
 }

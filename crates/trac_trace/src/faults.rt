@@ -86,16 +86,11 @@ fn calls_in(neutral: &[Cell]) -> usize
 {
     let mut count = 0;
     for cell in neutral {
-        count += usize::from(is_call(cell));
+        if let Cell::Call(_, _) = cell {
+            count += 1;
+        }
     }
     count
-}
-
-// Whether a cell is the mark of a call.
-fn is_call(cell: &Cell) -> bool
-    ensures { result ≡ is_call cell.now }
-{
-    matches!(cell, Cell::Call(_, _))
 }
 
 // Adds how many calls are open around those that are told, where there are such.

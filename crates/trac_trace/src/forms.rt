@@ -2,28 +2,13 @@
 ghost use Rattle.std.specs.Prelude.{◌≡◌, ◌-◌, ◌++◌, ◌≤◌, [], ◌∷◌, OnOk, drop, length, take};
 ghost use Rattle.std.specs.List.{flat_map};
 ghost use Rattle.trac_language.specs.Meaning.{show, show_form};
-ghost use Rattle.trac_language.specs.Store.{form_named};
-ghost use Rattle.trac_space.specs.Texts.{text_of_cells};
 ghost use Rattle.trac_trace.specs.Told.{form_line, form_text};
 
 use crate::escapes::{push_cut, push_name};
 use crate::lines::push;
 use itoa::Buffer;
 use std::alloc::{AllocError, Global};
-use trac_core::{Cell, Forms, Item, StoredForm};
-use trac_events::is_same;
-
-/// The form that has the name. None where there is no such form.
-pub fn find_form<'f>(forms: Forms<'f>, name: &[Cell]) -> Option<StoredForm<'f>>
-    ensures { result ≡ form_named (text_of_cells name.now) forms.entry }
-{
-    for form in forms {
-        if is_same(form.name(), name) {
-            return Some(form);
-        }
-    }
-    None
-}
+use trac_core::{Forms, Item, StoredForm};
 
 /// Adds a form: its name and, behind a colon, its body as `pf` displays it, both cut to a width. An
 /// error is want of memory.

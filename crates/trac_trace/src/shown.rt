@@ -6,14 +6,15 @@ use crate::calls::Called;
 use crate::deleted::push_deleted;
 use crate::events::{Event, push_event};
 use crate::faults::{is_fault, push_fault};
-use crate::forms::{find_form, push_form, push_forms};
+use crate::forms::{push_form, push_forms};
 use crate::lines::{Step, head, push, push_byte, push_end};
 use crate::oddities::oddity_of;
 use crate::views::Views;
 use std::alloc::{AllocError, Global};
 use trac_core::{Awaits, Cell, Fate, Machine, Report};
 use trac_events::{
-    Before, Named, OpenCall, Reading, Touched, argument, arguments_of, pointer_of, touched_by,
+    Before, Named, OpenCall, Reading, Touched, argument, arguments_of, find_form, pointer_of,
+    touched_by,
 };
 
 /// The lines of the views of a run, and what they are made from.

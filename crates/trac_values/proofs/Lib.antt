@@ -1,5 +1,6 @@
 pub mod LongNumbers
 pub mod DigitBits
+pub mod DigitsFromEnd
 pub mod OctalDigits
 pub mod Shifts
 pub mod SuffixCells

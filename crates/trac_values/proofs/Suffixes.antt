@@ -31,7 +31,7 @@ module _ (p : ℕ → Bool) (cells : List Cell) where
       omega (arith, length-take (length (text_of_cells cells) - suffix_len p (text_of_cells cells)) (text_of_cells cells))
 
 -- a decimal digit and its value
-digit_facts : (c : ℕ) → is_ascii_digit c ≡ true → (48 ≤ c) × (c < 58) × (digit_value c ≡ c - 48)
+pub digit_facts : (c : ℕ) → is_ascii_digit c ≡ true → (48 ≤ c) × (c < 58) × (digit_value c ≡ c - 48)
 digit_facts c e = grind (arith, nat_tests)
 
 -- the digit at a place of cells that all are digits

@@ -27,7 +27,7 @@ digits_pass t k h =
     ap is_ascii_digit (get_or-drop (length t - n) t k 0 ∙ ap (λ i. get_or t i 0) (sym at) ∙ sym (get_or-reverse t m 0 (omega arith))) ∙ here
 
 module _ (cells : List Cell) (s : ℕ) (is : s ≡ length (before_digits (text_of_cells cells))) where
-  place : s ≡ length (text_of_cells cells) - suffix_len is_ascii_digit (text_of_cells cells)
+  pub place : s ≡ length (text_of_cells cells) - suffix_len is_ascii_digit (text_of_cells cells)
   place = is ∙ length-before_digits (text_of_cells cells)
 
   pub back_is : text_of_cells (drop s cells) ≡ digits (text_of_cells cells)

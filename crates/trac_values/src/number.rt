@@ -1,20 +1,21 @@
 //! Numbers at the end of texts.
-ghost use Rattle.std.specs.Prelude.{◌≡◌, ◌↔◌, ◌+◌, ◌*◌, ◌%◌, ◌<◌, ◌≤◌, ◌^◌, ℕ};
-ghost use Rattle.std.specs.Prelude.{ℤ, min, IfSome, IsTrue, length, int_lt, neg_ℤ, pos};
+ghost use Rattle.std.specs.Prelude.{All, ◌≡◌, ◌↔◌, ◌+◌, ◌*◌, ◌%◌, ◌<◌, ◌≤◌, ◌^◌, ℕ};
+ghost use Rattle.std.specs.Prelude.{ℤ, min, IfSome, IsSome, IsTrue, length, int_lt, neg_ℤ, pos};
 ghost use Rattle.std.specs.Prelude.{unsigned_abs, ◌<ℤ◌};
 ghost use Rattle.std.specs.Int.{int_rem_euclid};
 ghost use Rattle.std.specs.Ordering.{nat_cmp};
 ghost use Rattle.trac_language.specs.declared.arith.Arith.TheVariants.{Divide};
 ghost use Rattle.trac_language.specs.Number.{arith, before_digits, digits, exactly, if_in_range};
 ghost use Rattle.trac_language.specs.Number.{in_range, prefix};
-ghost use Rattle.trac_space.specs.Texts.{text_of_cells};
+ghost use Rattle.std.specs.Str.Parse.{digits_value};
+ghost use Rattle.trac_space.specs.Texts.{text_of_cells, IsByte};
 ghost use Rattle.trac_values.specs.Digits.{IsDecimal, decimal_value, value_upto};
 ghost use Rattle.trac_values.specs.Cells.{IsText, number_in};
 
 use crate::text::ends_with;
 use std::cmp::Ordering;
 use trac_language::Arith;
-use trac_space::{Cell, character_of};
+use trac_space::{Cell, byte_in, character_of};
 
 /// The number at the end of a text, as `tail_number` finds it, and where it begins.
 #[derive(Clone, Copy)]
@@ -57,17 +58,28 @@ fn split_digits(cells: &[Cell]) -> (&[Cell], &[Cell])
     cells.split_at(digits_start(cells))
 }
 
-/// The number that at most 19 digits are, which 64 bits hold.
-fn short_value(digits: &[Cell]) -> u64
-    requires digits { IsDecimal digits.now }
-    requires short { length digits.now ≤ 19 }
-    ensures { result ≡ decimal_value digits.now }
+/// Where the longest suffix of decimal digits begins, and the number that it is. None where it may
+/// have more than 19 digits, which 64 bits don't always hold.
+fn short_number(cells: &[Cell]) -> Option<(usize, u64)>
+    requires bytes { All IsByte cells.now }
+    ensures start { IfSome result (λ r. r.0 ≡ length (before_digits (text_of_cells cells.now))) }
+    ensures value { IfSome result (λ r. r.1 ≡ digits_value 10 (digits (text_of_cells cells.now))) }
+    ensures few { length (digits (text_of_cells cells.now)) < 19 → IsSome result }
 {
+    let least = cells.len().saturating_sub(19);
+    let mut start = cells.len();
     let mut value: u64 = 0;
-    for cell in digits {
-        value = value * 10 + u64::from(character_of(cell) - b'0');
+    let mut power: u64 = 1;
+    while start > least {
+        let character = byte_in(&cells[start - 1]);
+        if !character.is_ascii_digit() {
+            return Some((start, value));
+        }
+        value += u64::from(character - b'0') * power;
+        power *= 10;
+        start -= 1;
     }
-    value
+    if least == 0 { Some((0, value)) } else { None }
 }
 
 /// The number that digits are, of any length, None where it is outside the range of arithmetic.
@@ -82,16 +94,20 @@ fn long_value(digits: &[Cell]) -> Option<i128>
     value
 }
 
-/// The number that digits are, None where it is outside the range of arithmetic.
-fn value_of(digits: &[Cell]) -> Option<i128>
-    requires { IsDecimal digits.now }
-    ensures { result ≡ if_in_range (Some (pos (decimal_value digits.now))) }
+/// A text before its longest suffix of decimal digits, and the number that these are, None where
+/// that is outside the range of arithmetic.
+fn split_number(cells: &[Cell]) -> (&[Cell], Option<i128>)
+    requires { IsText cells.now }
+    ensures front { text_of_cells result.0.now ≡ before_digits (text_of_cells cells.now) }
+    ensures value { result.1 ≡
+        if_in_range (Some (pos (digits_value 10 (digits (text_of_cells cells.now))))) }
+    ensures short { length result.0.now ≤ length cells.now }
 {
-    if digits.len() <= 19 {
-        Some(i128::from(short_value(digits)))
-    } else {
-        long_value(digits)
+    if let Some((start, value)) = short_number(cells) {
+        return (cells.split_at(start).0, Some(i128::from(value)));
     }
+    let (front, digits) = split_digits(cells);
+    (front, long_value(digits))
 }
 
 /// The number turned to the other sign.
@@ -111,15 +127,14 @@ pub fn tail_number(cells: &[Cell]) -> TailNumber
     ensures start { result.start ≡ length (prefix (text_of_cells cells.now)) }
     ensures value { result.value ≡ if_in_range (Some (number_in cells.now)) }
 {
-    let (front, digits) = split_digits(cells);
+    let (front, value) = split_number(cells);
     let start = front.len() as u32;
-    if digits.is_empty() {
+    if front.len() == cells.len() {
         return TailNumber {
             start,
             value: Some(0),
         };
     }
-    let value = value_of(digits);
     if ends_with(front, b'-') {
         TailNumber {
             start: start - 1,

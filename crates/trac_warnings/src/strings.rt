@@ -2,7 +2,7 @@
 ghost use Rattle.std.specs.Prelude.{◌≡◌};
 ghost use Rattle.trac_warnings.specs.Strings.{begins_with_mark, layout_len};
 
-use trac_events::is_layout;
+use trac_core::is_layout;
 
 /// Whether the bytes of a byte order mark in UTF-8 stand first.
 pub fn begins_with_mark(input: &[u8]) -> bool

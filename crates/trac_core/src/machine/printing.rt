@@ -11,11 +11,9 @@ ghost use Rattle.trac_core.specs.Display.{display_named};
 ghost use Rattle.trac_core.specs.Session.{next_printed, step_prints, printed_in};
 
 use super::Machine;
-use crate::scan::is_at;
+use super::closing::{closed_call, named_at};
 use itoa::Buffer;
 use trac_forms::{FormId, Work};
-use trac_functions::arguments::{Arguments, text};
-use trac_functions::function::function_named;
 use trac_language::{Function, Item};
 
 impl<'a> Machine<'a> {
@@ -42,11 +40,7 @@ fn printed_len(work: &mut Work) -> u32
     ensures same { work.new ≡ work.old }
     ensures sound { IsSound work.new }
 {
-    prove!(work.used() <= work.room());
-    if !is_at(work, 0, b')') {
-        return 0;
-    }
-    match work.last_call() {
+    match closed_call(work) {
         None => 0,
         Some(place) => call_len(work, place),
     }
@@ -61,15 +55,9 @@ fn call_len(work: &mut Work, place: u32) -> u32
     ensures same { work.new ≡ work.old }
     ensures sound { IsSound work.new }
 {
-    let end = work.neutral_len();
-    let mut arguments = Arguments {
-        from: place + 1,
-        end,
-        plain: end,
-    };
-    let name = arguments.next(work);
+    let (function, mut arguments) = named_at(work, place);
     let part = arguments.next(work);
-    match function_named(text(work, name)) {
+    match function {
         None => 0,
         Some(function) => match function {
             Function::PrintString => part.1 - part.0,

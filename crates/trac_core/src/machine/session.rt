@@ -1,22 +1,17 @@
 //! Sessions: a machine that is looked at, fed in pieces and used again.
-ghost use Rattle.std.specs.Prelude.{◌≡◌, ◌≢◌, ◌+◌, ◌-◌, ◌^◌, ◌<◌, ◌≤◌};
-ghost use Rattle.std.specs.Prelude.{ℕ, [], None, Some};
-ghost use Rattle.std.specs.Prelude.{IsSome};
-ghost use Rattle.trac_space.specs.Calls.{IsLastCall};
+ghost use Rattle.std.specs.Prelude.{◌≡◌, ◌≢◌, ◌+◌, ◌-◌, ◌^◌, ◌<◌, ◌≤◌, ℕ, [], None};
+ghost use Rattle.std.specs.Prelude.{Some, IsSome};
 ghost use Rattle.trac_devices.specs.Devices.{Sent};
 ghost use Rattle.trac_functions.specs.Flat.{memory_of};
 ghost use Rattle.trac_core.specs.Performed.{performs};
 ghost use Rattle.trac_core.specs.Machine.{KeepsLimits, Resumes, course, input_failures};
 ghost use Rattle.trac_core.specs.Machine.{output_failures};
 ghost use Rattle.trac_core.specs.Session.{awaited, next_function};
-ghost use Rattle.trac_core.specs.Attempts.{function_at};
 
+use super::closing::{closed_call, named_at};
 use super::{Machine, Report};
-use crate::scan::is_at;
 use trac_devices::{Sink, Source};
 use trac_forms::{Forms, Work};
-use trac_functions::arguments::{Arguments, text};
-use trac_functions::function::function_named;
 use trac_language::{Fate, Function};
 
 /// What the next step of a machine reads.
@@ -156,27 +151,8 @@ impl<'a> Machine<'a> {
 fn performed(work: &Work) -> Option<Function>
     ensures { (meta : ℕ) → result ≡ performs (memory_of meta work.now) }
 {
-    prove!(work.used() <= work.room());
-    if !is_at(work, 0, b')') {
-        return None;
-    }
-    match work.last_call() {
+    match closed_call(work) {
         None => None,
-        Some(place) => named_at(work, place),
+        Some(place) => named_at(work, place).0,
     }
-}
-
-/// The function that the innermost call names, whose mark stands at the place.
-fn named_at(work: &Work, place: u32) -> Option<Function>
-    requires { IsLastCall work.now.neutral place }
-    ensures { result ≡ function_at work.now.neutral place }
-{
-    let end = work.neutral_len();
-    let mut arguments = Arguments {
-        from: place + 1,
-        end,
-        plain: end,
-    };
-    let name = arguments.next(work);
-    function_named(text(work, name))
 }

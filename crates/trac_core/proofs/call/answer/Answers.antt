@@ -1,4 +1,4 @@
-use Rattle.std.proofs.Common.{refl, ◌+◌, arith, drop, Some, sym, ap, ◌∙◌}
+use Rattle.std.proofs.Common.{refl, inl, ◌+◌, arith, drop, Some, sym, ap, ◌∙◌}
 use Rattle.trac_language.specs.State.{argument}
 use Rattle.trac_language.specs.Function.{function_named}
 use Rattle.trac_functions.specs.Flat.{arguments_at}
@@ -43,21 +43,21 @@ returns-in_default-function-clause-stands g c =
     let plain = plain-rest c.in-Some.function d.not-ReadString d.not-ReadCharacter d.not-ChangeMeta d.not-PrintString d.not-PrintForm d.not-Halt in
     stands-made c.in-Some.function _ w c.value_of.new.work c.value_of.result (c.value_of.ensures.makes plain (argument (arguments_at w.neutral c.args.call.place) 0))
 
-pub returns-in_default-function-clause-input_failed : goal.returns-in_default-function-clause-input_failed
-returns-in_default-function-clause-input_failed g c =
+pub returns-in_default-function-clause-source : goal.returns-in_default-function-clause-source
+returns-in_default-function-clause-source g c =
     let w = c.args.work.now in
     let d = c.in_default-function in
     let plain = plain-rest c.in-Some.function d.not-ReadString d.not-ReadCharacter d.not-ChangeMeta d.not-PrintString d.not-PrintForm d.not-Halt in
     let none = no-failure-made c.in-Some.function _ w c.value_of.new.work c.value_of.result (c.value_of.ensures.makes plain (argument (arguments_at w.neutral c.args.call.place) 0)) in
-    omega (arith, none.0)
+    (λ told. told, omega (arith, none.0), λ unread. refl)
 
-pub returns-in_default-function-clause-output_failed : goal.returns-in_default-function-clause-output_failed
-returns-in_default-function-clause-output_failed g c =
+pub returns-in_default-function-clause-sink : goal.returns-in_default-function-clause-sink
+returns-in_default-function-clause-sink g c =
     let w = c.args.work.now in
     let d = c.in_default-function in
     let plain = plain-rest c.in-Some.function d.not-ReadString d.not-ReadCharacter d.not-ChangeMeta d.not-PrintString d.not-PrintForm d.not-Halt in
     let none = no-failure-made c.in-Some.function _ w c.value_of.new.work c.value_of.result (c.value_of.ensures.makes plain (argument (arguments_at w.neutral c.args.call.place) 0)) in
-    omega (arith, none.1.0)
+    (λ told. told, omega (arith, none.1.0), λ unprinted. refl, refl, λ other. inl refl)
 
 pub returns-in_default-function-clause-unspent : goal.returns-in_default-function-clause-unspent
 returns-in_default-function-clause-unspent g c =

@@ -1,6 +1,6 @@
 use Rattle.std.proofs.Common.{sym, ap, ◌∙◌, subst, length}
 use Rattle.trac_language.specs.Store.{form_named}
-use Rattle.trac_forms.specs.Contents.{Contents, used, part_text}
+use Rattle.trac_forms.specs.Contents.{Contents, used}
 use Rattle.trac_functions.specs.declared.arguments.Made.TheVariants.{Defined}
 use Rattle.trac_functions.specs.Flat.{arguments_at}
 use Rattle.trac_functions.specs.Calls.{texts}
@@ -9,7 +9,6 @@ use Rattle.trac_core.specs.Display.{display}
 use Rattle.trac_core.proofs.Performing.{stands-null}
 use Rattle.trac_core.proofs.Printing.{argument-one}
 use Rattle.trac_core.proofs.Displaying.{answers-display, answers-display-broken}
-use Rattle.trac_core.proofs.Sending.{sent-text}
 use Rattle.trac_core.proofs.display.print_form.Goals as goal
 
 pub returns-in-Ok-clause-answers : goal.returns-in-Ok-clause-answers
@@ -33,10 +32,3 @@ returns-in-Err-clause-answers g c = λ told place meta source has.
     rw (broke.1.1.1, c.in-Err.ensures.same)
     (answers-display-broken w place has.call meta source (g.O.Sink.written c.args.sink.now) broke.0 broke.1.0
     (sym shown ∙ broke.1.1.0) (λ none. c.in-Err.ensures.some (broke.1.1.0 ∙ none)))
-
-pub returns-in-Ok-clause-sent : goal.returns-in-Ok-clause-sent
-returns-in-Ok-clause-sent g c = λ other.
-    let w = c.args.work.now in
-    sent-text g.O.Sink.tells g.O.Sink.flushed g.O.Sink.written c.args.sink.now c.show_named.new.sink
-    (display (form_named (part_text w.neutral c.next-name.result.0 c.next-name.result.1) w.forms))
-    c.in-Ok.ensures.untouched c.in-Ok.ensures.flushed c.in-Ok.ensures.prints

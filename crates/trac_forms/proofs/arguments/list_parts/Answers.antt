@@ -5,8 +5,8 @@ use Rattle.trac_forms.specs.Arguments.{parts_between}
 use Rattle.trac_forms.proofs.Parted.{lists-none, lists-more, found-comma, part-fits, parts-none, shown-cells}
 use Rattle.trac_forms.proofs.arguments.list_parts.Goals as goal
 
-pub before_comma-requires : goal.before_comma-requires
-before_comma-requires c = omega (arith, shown-cells c.neutral_part.result.now c.loop-from.space.neutral c.loop-from.from c.args.end c.neutral_part.ensures, c.requires.bounded)
+pub before_near_comma-requires : goal.before_near_comma-requires
+before_near_comma-requires c = omega (arith, shown-cells c.neutral_part.result.now c.loop-from.space.neutral c.loop-from.from c.args.end c.neutral_part.ensures, c.requires.bounded)
 
 pub overflow_add-from : goal.overflow_add-from
 overflow_add-from c =
@@ -14,8 +14,8 @@ overflow_add-from c =
     let now = c.loop-from.space in
     let i = c.loop-from.invariant in
     let within : c.args.end ≤ length now.neutral = omega (arith, c.requires.within, ap (λ (s : Lists). length s.neutral) i.same) in
-    let is = found-comma _ _ _ c.neutral_part.ensures c.before_comma.ensures in
-    let fits = part-fits now.neutral c.loop-from.from c.args.end c.before_comma.result c.loop-from-test.true within is in
+    let is = found-comma _ _ _ c.neutral_part.ensures c.before_near_comma.ensures in
+    let fits = part-fits now.neutral c.loop-from.from c.args.end c.before_near_comma.result c.loop-from-test.true within is in
     omega (arith, fits, c.requires.bounded)
 
 pub overflow_add-from-in-loop-from : goal.overflow_add-from-in-loop-from
@@ -24,8 +24,8 @@ overflow_add-from-in-loop-from c =
     let now = c.loop-from.space in
     let i = c.loop-from.invariant in
     let within : c.args.end ≤ length now.neutral = omega (arith, c.requires.within, ap (λ (s : Lists). length s.neutral) i.same) in
-    let is = found-comma _ _ _ c.neutral_part.ensures c.before_comma.ensures in
-    let fits = part-fits now.neutral c.loop-from.from c.args.end c.before_comma.result c.loop-from-test.true within is in
+    let is = found-comma _ _ _ c.neutral_part.ensures c.before_near_comma.ensures in
+    let fits = part-fits now.neutral c.loop-from.from c.args.end c.before_near_comma.result c.loop-from-test.true within is in
     omega (arith, fits, c.requires.bounded)
 
 pub overflow_add-count : goal.overflow_add-count
@@ -36,9 +36,9 @@ loop-from-init c = lists-none c.args.space.now c.push_active.new.self c.args.fro
 
 pub loop-from-preserved : goal.loop-from-preserved
 loop-from-preserved c =
-    let is = found-comma _ _ _ c.neutral_part.ensures c.before_comma.ensures in
-    let e : c.loop-from.from + (c.before_comma.result + 1) ≡ c.loop-from.from + c.before_comma.result + 1 = omega arith in
-    rw e (lists-more c.args.space.now c.loop-from.space c.push_active-in-loop-from.new.self c.args.from c.loop-from.from c.args.end c.loop-from.count c.before_comma.result c.loop-from.invariant c.loop-from-test.true c.requires.within c.requires.bounded is (rw e at c.push_active-in-loop-from.ensures))
+    let is = found-comma _ _ _ c.neutral_part.ensures c.before_near_comma.ensures in
+    let e : c.loop-from.from + (c.before_near_comma.result + 1) ≡ c.loop-from.from + c.before_near_comma.result + 1 = omega arith in
+    rw e (lists-more c.args.space.now c.loop-from.space c.push_active-in-loop-from.new.self c.args.from c.loop-from.from c.args.end c.loop-from.count c.before_near_comma.result c.loop-from.invariant c.loop-from-test.true c.requires.within c.requires.bounded is (rw e at c.push_active-in-loop-from.ensures))
 
 pub returns-clause-listed : goal.returns-clause-listed
 returns-clause-listed c =

@@ -1,324 +1,116 @@
-use Rattle.std.proofs.Common.{◌≡◌, ◌+◌, ◌-◌, ◌<◌, ◌≤◌, [], length, slice_range, refl, sym, ap, ◌∙◌, arith, subst}
-use Rattle.std.proofs.lemmas.Bool.{false≢true}
-use Rattle.std.proofs.lemmas.List.{length-map}
+use Rattle.std.proofs.Common.{◌≡◌, ℕ, ◌+◌, ◌-◌, ◌≤◌, [], length, slice_range, refl, sym, ap, ◌∙◌, arith, subst, ⊎_elim}
+use Rattle.std.proofs.lemmas.Bool.{false≢true, cases_lt}
 use Rattle.std.proofs.lemmas.List.Edits.{length-between}
-use Rattle.trac_space.specs.Cells.{seen}
+use Rattle.trac_language.specs.Text.{Text}
 use Rattle.trac_space.specs.Lists.{Lists, used}
-use Rattle.trac_forms.specs.Arguments.{parts_between}
-use Rattle.trac_forms.specs.Contents.{part_texts}
-use Rattle.trac_forms.proofs.Filling.{filled, Filled, filled-store, filled-none, filled-whole, filled-fits, run-few, run-goes, run-put, run-full, run-free, gap-there, gap-part, gap-no_call, gap-put, gap-full, gap-free, part-is}
+use Rattle.trac_space.specs.Texts.{byte_cell_at}
+use Rattle.trac_forms.specs.declared.arguments.Arguments.{Arguments}
+use Rattle.trac_forms.specs.Arguments.{filled_cells, texts_between, numbered_part, parts_between}
+use Rattle.trac_forms.proofs.Filling.{Filled, Argument, filled-store, filled-none, filled-whole, filled-fits, way-left, run-put, character-full, argument-of}
 use Rattle.trac_forms.proofs.fill.fill_cells.Goals as goal
+use Rattle.trac_forms.proofs.fill.fill_cells.Goals.{After-put_characters-count, Then-gap-stop, After-part-part}
 
-pub returns-then-way-gap-clause-put : goal.returns-then-way-gap-clause-put
-returns-then-way-gap-clause-put c =
-    let old = c.args.space.now in
-    let at = c.loop-way.at in
-    let end = c.args.stop in
-    let n = c.characters.result in
-    let i = c.loop-way.invariant in
-    let h = c.characters.ensures in
-    let parts = parts_between old.neutral c.args.arguments.from c.args.arguments.end in
-    let are = c.requires.arguments.texts in
-    let given = part_texts old.neutral parts in
-    let now = c.loop-way.space in
-    let full : now.room < used now + (at + n - at) + length now.spare = omega (arith, i.way, c.if-way-gap.true) in
-    let past = run-full old now given at end n _ c.store_part.result.now i.put i.order c.requires.within c.store_part.ensures h.within h.bytes full in
-    (λ e. absurd (false≢true e), λ fits. absurd (omega (arith, past, fits)))
+-- the text of the items in the store from a place up to another
+abbrev text_of : Lists → Arguments → ℕ → ℕ → Text
+text_of old arguments place stop = filled_cells old place stop arguments.from arguments.end
 
-pub put_from_store-requires-clause-no_call : goal.put_from_store-requires-clause-no_call
-put_from_store-requires-clause-no_call c =
+-- the run stands, and this is left of the text and of the way
+abbrev Ran : After-put_characters-count → Type 0
+Ran c = Filled c.args.space.now c.put_characters-count.new.self (text_of c.args.space.now c.args.arguments c.args.from c.args.stop) (text_of c.args.space.now c.args.arguments (c.loop-arguments.at + c.put_characters-count.result) c.args.stop)
+
+few : (c : After-put_characters-count) → c.loop-arguments.at + c.put_characters-count.result ≤ c.args.stop
+few c = omega (arith, c.put_characters-count.ensures.within, c.min.ensures, c.loop-arguments.invariant.order)
+
+run : (c : After-put_characters-count) → Ran c
+run c =
+    let ran = c.put_characters-count.ensures in
+    run-put c.args.space.now c.loop-arguments.space c.put_characters-count.new.self _ c.loop-arguments.at c.put_characters-count.result c.args.stop _ c.loop-arguments.invariant.put (few c) ran.bytes ran.put
+
+left : (c : After-put_characters-count) → c.loop-arguments.way - c.put_characters-count.result + used c.put_characters-count.new.self + length c.put_characters-count.new.self.spare ≡ c.put_characters-count.new.self.room
+left c =
+    let i = c.loop-arguments.invariant in
+    let now = c.loop-arguments.space in
+    let at = c.loop-arguments.at in
+    let n = c.put_characters-count.result in
+    let ran = c.put_characters-count.ensures in
+    let within : at + n ≤ length now.store = omega (arith, few c, c.requires.within, ap length (filled-store c.args.space.now now _ _ i.put)) in
+    let size : length (slice_range now.store at (at + n)) ≡ n = omega (arith, length-between now.store at (at + n) within) in
+    way-left now c.put_characters-count.new.self (slice_range now.store at (at + n)) c.loop-arguments.way n ran.put size (omega (arith, ran.within, c.min.ensures)) i.way
+
+-- nothing is left where the run ends the items
+all : (c : Then-gap-stop) (whole : Text) → Filled c.args.space.now c.put_characters-count.new.self whole (text_of c.args.space.now c.args.arguments (c.loop-arguments.at + c.put_characters-count.result) c.args.stop) → Filled c.args.space.now c.put_characters-count.new.self whole []
+all c whole put =
     let old = c.args.space.now in
-    let at = c.loop-way.at in
-    let end = c.args.stop in
-    let n = c.characters.result in
-    let i = c.loop-way.invariant in
-    let h = c.characters.ensures in
-    let parts = parts_between old.neutral c.args.arguments.from c.args.arguments.end in
-    let are = c.requires.arguments.texts in
-    let given = part_texts old.neutral parts in
-    let now = c.loop-way.space in
-    run-goes old now given at end n _ c.store_part.result.now i.put i.order c.requires.within c.store_part.ensures h.within h.bytes
+    let ends = ap (λ place. text_of old c.args.arguments place c.args.stop) c.if-gap-stop.true ∙ filled-none (texts_between old.neutral c.args.arguments.from c.args.arguments.end) old.store c.args.stop in
+    subst (Filled old c.put_characters-count.new.self whole) ends put
 
 pub returns-then-gap-stop-clause-put : goal.returns-then-gap-stop-clause-put
 returns-then-gap-stop-clause-put c =
-    let old = c.args.space.now in
-    let at = c.loop-way.at in
-    let end = c.args.stop in
-    let n = c.characters.result in
-    let i = c.loop-way.invariant in
-    let h = c.characters.ensures in
-    let parts = parts_between old.neutral c.args.arguments.from c.args.arguments.end in
-    let are = c.requires.arguments.texts in
-    let given = part_texts old.neutral parts in
-    let now = c.loop-way.space in
-    let mid = c.put_from_store.new.self in
-    let last = c.put_from_store.ensures in
-    let run = run-put old now given at end n _ c.store_part.result.now i.put i.order c.requires.within c.store_part.ensures h.within h.bytes mid last in
-    let spare : length mid.spare ≡ length now.spare = ap (λ (w : Lists). length w.spare) last in
-    let taken = run-free old now given at end n _ c.store_part.result.now i.put i.order c.requires.within c.store_part.ensures h.within h.bytes mid last (c.loop-way.way + length now.spare) (omega (arith, i.way)) (omega (arith, c.if-way-gap.false)) in
-    let left : c.loop-way.way - (at + n - at) + used mid + length mid.spare ≡ mid.room = omega (arith, taken, spare, c.if-way-gap.false) in
-    let ends : filled given (slice_range old.store (at + n) end) ≡ [] = ap (λ k. filled given (slice_range old.store k end)) c.if-gap-stop.true ∙ filled-none given old.store end in
-    let all : Filled old mid (filled given (slice_range old.store c.args.from end)) [] = subst (Filled old mid (filled given (slice_range old.store c.args.from end))) ends run in
-    let room : used mid + length mid.spare ≤ mid.room = omega (arith, left) in
-    (λ e. filled-fits old mid _ all room, λ fits. refl)
+    let k = (goal.at.returns-then-gap-stop-clause-put c).After-put_characters-count in
+    (λ e. filled-fits _ _ _ (all c _ (run k)) (omega (arith, left k)), λ fits. refl)
 
 pub returns-then-gap-stop-clause-last : goal.returns-then-gap-stop-clause-last
 returns-then-gap-stop-clause-last c =
-    let old = c.args.space.now in
-    let at = c.loop-way.at in
-    let end = c.args.stop in
-    let n = c.characters.result in
-    let i = c.loop-way.invariant in
-    let h = c.characters.ensures in
-    let parts = parts_between old.neutral c.args.arguments.from c.args.arguments.end in
-    let are = c.requires.arguments.texts in
-    let given = part_texts old.neutral parts in
-    let now = c.loop-way.space in
-    let mid = c.put_from_store.new.self in
-    let last = c.put_from_store.ensures in
-    let run = run-put old now given at end n _ c.store_part.result.now i.put i.order c.requires.within c.store_part.ensures h.within h.bytes mid last in
-    let ends : filled given (slice_range old.store (at + n) end) ≡ [] = ap (λ k. filled given (slice_range old.store k end)) c.if-gap-stop.true ∙ filled-none given old.store end in
-    let all : Filled old mid (filled given (slice_range old.store c.args.from end)) [] = subst (Filled old mid (filled given (slice_range old.store c.args.from end))) ends run in
-    filled-whole old mid _ all
+    let k = (goal.at.returns-then-gap-stop-clause-last c).After-put_characters-count in
+    filled-whole _ _ _ (all c _ (run k))
 
-pub overflow_sub-part : goal.overflow_sub-part
-overflow_sub-part c =
-    let old = c.args.space.now in
-    let at = c.loop-way.at in
-    let end = c.args.stop in
-    let n = c.characters.result in
-    let i = c.loop-way.invariant in
-    let h = c.characters.ensures in
-    let parts = parts_between old.neutral c.args.arguments.from c.args.arguments.end in
-    let are = c.requires.arguments.texts in
-    let given = part_texts old.neutral parts in
-    let now = c.loop-way.space in
-    let mid = c.put_from_store.new.self in
-    let last = c.put_from_store.ensures in
-    let run = run-put old now given at end n _ c.store_part.result.now i.put i.order c.requires.within c.store_part.ensures h.within h.bytes mid last in
-    let gap = at + n in
-    let shown = c.store_part.ensures ∙ ap (λ store. slice_range store at end) (filled-store old now _ _ i.put) in
-    let few = run-few old.store at end n c.store_part.result.now i.order c.requires.within shown h.within h.bytes in
-    let less : gap < end = omega (arith, few, c.if-gap-stop.false) in
-    let size = sym (length-map c.store_part.result.now seen) ∙ ap length shown ∙ length-between old.store at end c.requires.within in
-    let inside : n < length c.store_part.result.now = omega (arith, less, size) in
-    let stop = gap-there old.store at end n c.store_part.result.now i.order c.requires.within shown h.within h.bytes (h.stop inside) inside in
-    let part = c.part-part.result in
-    let part_is = part-is old mid _ _ run c.args.arguments c.requires.arguments.within part c.ordinal.result gap c.part-part.ensures c.ordinal.ensures in
-    (gap-part old mid parts gap end _ are run less c.requires.within stop part.0 part.1 part_is).order
+-- no way is left where a character follows
+pub returns-then-has_character-clause-put : goal.returns-then-has_character-clause-put
+returns-then-has_character-clause-put c =
+    let k = (goal.at.returns-then-has_character-clause-put c).After-put_characters-count in
+    let gap = c.loop-arguments.at + c.put_characters-count.result in
+    let end = c.loop-arguments.at + c.min.result in
+    let ran = c.put_characters-count.ensures in
+    let there = sym c.has_character.ensures ∙ c.if-has_character.true in
+    let none : c.loop-arguments.way ≤ c.put_characters-count.result = ⊎_elim
+    (λ less. absurd (false≢true (sym (ran.stop less) ∙ ap (λ (s : Lists). byte_cell_at s.store gap) (sym ran.put) ∙ there)))
+    (λ past. omega (arith, past, few k, c.min.ensures, c.if-gap-stop.false))
+    (cases_lt gap end) in
+    let past = character-full c.args.space.now c.put_characters-count.new.self _ gap c.args.stop _ (run k) (omega (arith, few k, c.if-gap-stop.false)) c.requires.within there (omega (arith, left k, none)) in
+    (λ e. absurd (false≢true e), λ fits. absurd (omega (arith, past, fits)))
+
+pub returns-then-has_character-clause-some : goal.returns-then-has_character-clause-some
+returns-then-has_character-clause-some c =
+    let put = run (goal.at.returns-then-has_character-clause-some c).After-put_characters-count in
+    (put.done, put.stands)
+
+-- the argument of the gap behind the run
+argument : (c : After-part-part) (whole : Text) → Filled c.args.space.now c.put_characters-count.new.self whole (text_of c.args.space.now c.args.arguments (c.loop-arguments.at + c.put_characters-count.result) c.args.stop) → c.loop-arguments.at + c.put_characters-count.result ≤ c.args.stop → Argument c.args.space.now c.put_characters-count.new.self whole (text_of c.args.space.now c.args.arguments (c.loop-arguments.at + c.put_characters-count.result + 1) c.args.stop) c.part-part.result.0 c.part-part.result.1
+argument c whole put within =
+    let mid = c.put_characters-count.new.self in
+    let stop = sym c.has_character.ensures ∙ c.if-has_character.false in
+    let found = c.part-part.ensures ∙ ap (numbered_part (parts_between mid.neutral c.args.arguments.from c.args.arguments.end)) c.ordinal.ensures in
+    argument-of c.args.space.now mid c.args.arguments c.requires.arguments (c.loop-arguments.at + c.put_characters-count.result) c.args.stop whole c.part-part.result put (omega (arith, within, c.if-gap-stop.false)) c.requires.within stop found
 
 pub returns-then-way-part-clause-put : goal.returns-then-way-part-clause-put
 returns-then-way-part-clause-put c =
-    let old = c.args.space.now in
-    let at = c.loop-way.at in
-    let end = c.args.stop in
-    let n = c.characters.result in
-    let i = c.loop-way.invariant in
-    let h = c.characters.ensures in
-    let parts = parts_between old.neutral c.args.arguments.from c.args.arguments.end in
-    let are = c.requires.arguments.texts in
-    let given = part_texts old.neutral parts in
-    let now = c.loop-way.space in
-    let mid = c.put_from_store.new.self in
-    let last = c.put_from_store.ensures in
-    let run = run-put old now given at end n _ c.store_part.result.now i.put i.order c.requires.within c.store_part.ensures h.within h.bytes mid last in
-    let spare : length mid.spare ≡ length now.spare = ap (λ (w : Lists). length w.spare) last in
-    let taken = run-free old now given at end n _ c.store_part.result.now i.put i.order c.requires.within c.store_part.ensures h.within h.bytes mid last (c.loop-way.way + length now.spare) (omega (arith, i.way)) (omega (arith, c.if-way-gap.false)) in
-    let left : c.loop-way.way - (at + n - at) + used mid + length mid.spare ≡ mid.room = omega (arith, taken, spare, c.if-way-gap.false) in
-    let gap = at + n in
-    let shown = c.store_part.ensures ∙ ap (λ store. slice_range store at end) (filled-store old now _ _ i.put) in
-    let few = run-few old.store at end n c.store_part.result.now i.order c.requires.within shown h.within h.bytes in
-    let less : gap < end = omega (arith, few, c.if-gap-stop.false) in
-    let size = sym (length-map c.store_part.result.now seen) ∙ ap length shown ∙ length-between old.store at end c.requires.within in
-    let inside : n < length c.store_part.result.now = omega (arith, less, size) in
-    let stop = gap-there old.store at end n c.store_part.result.now i.order c.requires.within shown h.within h.bytes (h.stop inside) inside in
-    let part = c.part-part.result in
-    let part_is = part-is old mid _ _ run c.args.arguments c.requires.arguments.within part c.ordinal.result gap c.part-part.ensures c.ordinal.ensures in
-    let full : mid.room < used mid + (part.1 - part.0) + length mid.spare = omega (arith, left, c.if-way-part.true) in
-    let past = gap-full old mid parts gap end _ are run less c.requires.within stop part.0 part.1 part_is full in
+    let at = goal.at.returns-then-way-part-clause-put c in
+    let k = at.After-put_characters-count in
+    let past = (argument at.After-part-part _ (run k) (few k)).full (omega (arith, left k, c.if-way-part.true)) in
     (λ e. absurd (false≢true e), λ fits. absurd (omega (arith, past, fits)))
 
 pub returns-then-way-part-clause-some : goal.returns-then-way-part-clause-some
 returns-then-way-part-clause-some c =
-    let old = c.args.space.now in
-    let at = c.loop-way.at in
-    let end = c.args.stop in
-    let n = c.characters.result in
-    let i = c.loop-way.invariant in
-    let h = c.characters.ensures in
-    let parts = parts_between old.neutral c.args.arguments.from c.args.arguments.end in
-    let are = c.requires.arguments.texts in
-    let given = part_texts old.neutral parts in
-    let now = c.loop-way.space in
-    let mid = c.put_from_store.new.self in
-    let last = c.put_from_store.ensures in
-    let run = run-put old now given at end n _ c.store_part.result.now i.put i.order c.requires.within c.store_part.ensures h.within h.bytes mid last in
-    (run.done, run.stands)
-
-pub overflow_sub-way-in-loop-way-2 : goal.overflow_sub-way-in-loop-way-2
-overflow_sub-way-in-loop-way-2 c =
-    let old = c.args.space.now in
-    let at = c.loop-way.at in
-    let end = c.args.stop in
-    let n = c.characters.result in
-    let i = c.loop-way.invariant in
-    let h = c.characters.ensures in
-    let parts = parts_between old.neutral c.args.arguments.from c.args.arguments.end in
-    let are = c.requires.arguments.texts in
-    let given = part_texts old.neutral parts in
-    let now = c.loop-way.space in
-    let mid = c.put_from_store.new.self in
-    let last = c.put_from_store.ensures in
-    let run = run-put old now given at end n _ c.store_part.result.now i.put i.order c.requires.within c.store_part.ensures h.within h.bytes mid last in
-    let gap = at + n in
-    let shown = c.store_part.ensures ∙ ap (λ store. slice_range store at end) (filled-store old now _ _ i.put) in
-    let few = run-few old.store at end n c.store_part.result.now i.order c.requires.within shown h.within h.bytes in
-    let less : gap < end = omega (arith, few, c.if-gap-stop.false) in
-    let size = sym (length-map c.store_part.result.now seen) ∙ ap length shown ∙ length-between old.store at end c.requires.within in
-    let inside : n < length c.store_part.result.now = omega (arith, less, size) in
-    let stop = gap-there old.store at end n c.store_part.result.now i.order c.requires.within shown h.within h.bytes (h.stop inside) inside in
-    let part = c.part-part.result in
-    let part_is = part-is old mid _ _ run c.args.arguments c.requires.arguments.within part c.ordinal.result gap c.part-part.ensures c.ordinal.ensures in
-    let order = (gap-part old mid parts gap end _ are run less c.requires.within stop part.0 part.1 part_is).order in
-    omega (arith, order, c.if-way-part.false)
-
-pub put_from_neutral-requires-clause-order : goal.put_from_neutral-requires-clause-order
-put_from_neutral-requires-clause-order c =
-    let old = c.args.space.now in
-    let at = c.loop-way.at in
-    let end = c.args.stop in
-    let n = c.characters.result in
-    let i = c.loop-way.invariant in
-    let h = c.characters.ensures in
-    let parts = parts_between old.neutral c.args.arguments.from c.args.arguments.end in
-    let are = c.requires.arguments.texts in
-    let given = part_texts old.neutral parts in
-    let now = c.loop-way.space in
-    let mid = c.put_from_store.new.self in
-    let last = c.put_from_store.ensures in
-    let run = run-put old now given at end n _ c.store_part.result.now i.put i.order c.requires.within c.store_part.ensures h.within h.bytes mid last in
-    let gap = at + n in
-    let shown = c.store_part.ensures ∙ ap (λ store. slice_range store at end) (filled-store old now _ _ i.put) in
-    let few = run-few old.store at end n c.store_part.result.now i.order c.requires.within shown h.within h.bytes in
-    let less : gap < end = omega (arith, few, c.if-gap-stop.false) in
-    let size = sym (length-map c.store_part.result.now seen) ∙ ap length shown ∙ length-between old.store at end c.requires.within in
-    let inside : n < length c.store_part.result.now = omega (arith, less, size) in
-    let stop = gap-there old.store at end n c.store_part.result.now i.order c.requires.within shown h.within h.bytes (h.stop inside) inside in
-    let part = c.part-part.result in
-    let part_is = part-is old mid _ _ run c.args.arguments c.requires.arguments.within part c.ordinal.result gap c.part-part.ensures c.ordinal.ensures in
-    (gap-part old mid parts gap end _ are run less c.requires.within stop part.0 part.1 part_is).order
-
-pub put_from_neutral-requires-clause-within : goal.put_from_neutral-requires-clause-within
-put_from_neutral-requires-clause-within c =
-    let old = c.args.space.now in
-    let at = c.loop-way.at in
-    let end = c.args.stop in
-    let n = c.characters.result in
-    let i = c.loop-way.invariant in
-    let h = c.characters.ensures in
-    let parts = parts_between old.neutral c.args.arguments.from c.args.arguments.end in
-    let are = c.requires.arguments.texts in
-    let given = part_texts old.neutral parts in
-    let now = c.loop-way.space in
-    let mid = c.put_from_store.new.self in
-    let last = c.put_from_store.ensures in
-    let run = run-put old now given at end n _ c.store_part.result.now i.put i.order c.requires.within c.store_part.ensures h.within h.bytes mid last in
-    let gap = at + n in
-    let shown = c.store_part.ensures ∙ ap (λ store. slice_range store at end) (filled-store old now _ _ i.put) in
-    let few = run-few old.store at end n c.store_part.result.now i.order c.requires.within shown h.within h.bytes in
-    let less : gap < end = omega (arith, few, c.if-gap-stop.false) in
-    let size = sym (length-map c.store_part.result.now seen) ∙ ap length shown ∙ length-between old.store at end c.requires.within in
-    let inside : n < length c.store_part.result.now = omega (arith, less, size) in
-    let stop = gap-there old.store at end n c.store_part.result.now i.order c.requires.within shown h.within h.bytes (h.stop inside) inside in
-    let part = c.part-part.result in
-    let part_is = part-is old mid _ _ run c.args.arguments c.requires.arguments.within part c.ordinal.result gap c.part-part.ensures c.ordinal.ensures in
-    (gap-part old mid parts gap end _ are run less c.requires.within stop part.0 part.1 part_is).within
+    let put = run (goal.at.returns-then-way-part-clause-some c).After-put_characters-count in
+    (put.done, put.stands)
 
 pub put_from_neutral-requires-clause-no_call : goal.put_from_neutral-requires-clause-no_call
 put_from_neutral-requires-clause-no_call c =
-    let old = c.args.space.now in
-    let at = c.loop-way.at in
-    let end = c.args.stop in
-    let n = c.characters.result in
-    let i = c.loop-way.invariant in
-    let h = c.characters.ensures in
-    let parts = parts_between old.neutral c.args.arguments.from c.args.arguments.end in
-    let are = c.requires.arguments.texts in
-    let given = part_texts old.neutral parts in
-    let now = c.loop-way.space in
-    let mid = c.put_from_store.new.self in
-    let last = c.put_from_store.ensures in
-    let run = run-put old now given at end n _ c.store_part.result.now i.put i.order c.requires.within c.store_part.ensures h.within h.bytes mid last in
-    let gap = at + n in
-    let shown = c.store_part.ensures ∙ ap (λ store. slice_range store at end) (filled-store old now _ _ i.put) in
-    let few = run-few old.store at end n c.store_part.result.now i.order c.requires.within shown h.within h.bytes in
-    let less : gap < end = omega (arith, few, c.if-gap-stop.false) in
-    let size = sym (length-map c.store_part.result.now seen) ∙ ap length shown ∙ length-between old.store at end c.requires.within in
-    let inside : n < length c.store_part.result.now = omega (arith, less, size) in
-    let stop = gap-there old.store at end n c.store_part.result.now i.order c.requires.within shown h.within h.bytes (h.stop inside) inside in
-    let part = c.part-part.result in
-    let part_is = part-is old mid _ _ run c.args.arguments c.requires.arguments.within part c.ordinal.result gap c.part-part.ensures c.ordinal.ensures in
-    gap-no_call old mid parts gap end _ are run less c.requires.within stop part.0 part.1 part_is
+    let at = goal.at.put_from_neutral-requires-clause-no_call c in
+    let k = at.After-put_characters-count in
+    (argument at.After-part-part _ (run k) (few k)).no_call
 
-pub overflow_add-at : goal.overflow_add-at
-overflow_add-at c =
-    let old = c.args.space.now in
-    let at = c.loop-way.at in
-    let end = c.args.stop in
-    let n = c.characters.result in
-    let i = c.loop-way.invariant in
-    let h = c.characters.ensures in
-    let parts = parts_between old.neutral c.args.arguments.from c.args.arguments.end in
-    let are = c.requires.arguments.texts in
-    let given = part_texts old.neutral parts in
-    let now = c.loop-way.space in
-    let mid = c.put_from_store.new.self in
-    let last = c.put_from_store.ensures in
-    let run = run-put old now given at end n _ c.store_part.result.now i.put i.order c.requires.within c.store_part.ensures h.within h.bytes mid last in
-    let gap = at + n in
-    let shown = c.store_part.ensures ∙ ap (λ store. slice_range store at end) (filled-store old now _ _ i.put) in
-    let few = run-few old.store at end n c.store_part.result.now i.order c.requires.within shown h.within h.bytes in
-    let less : gap < end = omega (arith, few, c.if-gap-stop.false) in
-    let size = sym (length-map c.store_part.result.now seen) ∙ ap length shown ∙ length-between old.store at end c.requires.within in
-    let inside : n < length c.store_part.result.now = omega (arith, less, size) in
-    let stop = gap-there old.store at end n c.store_part.result.now i.order c.requires.within shown h.within h.bytes (h.stop inside) inside in
+pub loop-arguments-preserved : goal.loop-arguments-preserved
+loop-arguments-preserved c =
+    let at = goal.at.loop-arguments-preserved c in
+    let k = at.After-put_characters-count in
     let part = c.part-part.result in
-    let part_is = part-is old mid _ _ run c.args.arguments c.requires.arguments.within part c.ordinal.result gap c.part-part.ensures c.ordinal.ensures in
-    omega (arith, less, c.requires.within, c.requires.bounded)
-
-pub loop-way-preserved : goal.loop-way-preserved
-loop-way-preserved c =
-    let old = c.args.space.now in
-    let at = c.loop-way.at in
-    let end = c.args.stop in
-    let n = c.characters.result in
-    let i = c.loop-way.invariant in
-    let h = c.characters.ensures in
-    let parts = parts_between old.neutral c.args.arguments.from c.args.arguments.end in
-    let are = c.requires.arguments.texts in
-    let given = part_texts old.neutral parts in
-    let now = c.loop-way.space in
-    let mid = c.put_from_store.new.self in
-    let last = c.put_from_store.ensures in
-    let run = run-put old now given at end n _ c.store_part.result.now i.put i.order c.requires.within c.store_part.ensures h.within h.bytes mid last in
-    let spare : length mid.spare ≡ length now.spare = ap (λ (w : Lists). length w.spare) last in
-    let taken = run-free old now given at end n _ c.store_part.result.now i.put i.order c.requires.within c.store_part.ensures h.within h.bytes mid last (c.loop-way.way + length now.spare) (omega (arith, i.way)) (omega (arith, c.if-way-gap.false)) in
-    let left : c.loop-way.way - (at + n - at) + used mid + length mid.spare ≡ mid.room = omega (arith, taken, spare, c.if-way-gap.false) in
-    let gap = at + n in
-    let shown = c.store_part.ensures ∙ ap (λ store. slice_range store at end) (filled-store old now _ _ i.put) in
-    let few = run-few old.store at end n c.store_part.result.now i.order c.requires.within shown h.within h.bytes in
-    let less : gap < end = omega (arith, few, c.if-gap-stop.false) in
-    let size = sym (length-map c.store_part.result.now seen) ∙ ap length shown ∙ length-between old.store at end c.requires.within in
-    let inside : n < length c.store_part.result.now = omega (arith, less, size) in
-    let stop = gap-there old.store at end n c.store_part.result.now i.order c.requires.within shown h.within h.bytes (h.stop inside) inside in
-    let part = c.part-part.result in
-    let part_is = part-is old mid _ _ run c.args.arguments c.requires.arguments.within part c.ordinal.result gap c.part-part.ensures c.ordinal.ensures in
+    let mid = c.put_characters-count.new.self in
     let new = c.put_from_neutral.new.self in
-    let more = c.put_from_neutral.ensures in
-    let spare_m : length new.spare ≡ length mid.spare = ap (λ (w : Lists). length w.spare) more in
-    let filled_m = gap-free old mid parts gap end _ are run less c.requires.within stop part.0 part.1 part_is new more (c.loop-way.way - (at + n - at) + length mid.spare) (omega (arith, left)) (omega (arith, c.if-way-part.false)) in
+    let given = argument at.After-part-part _ (run k) (few k) in
+    let size : length (slice_range mid.neutral part.0 part.1) ≡ part.1 - part.0 = length-between mid.neutral part.0 part.1 given.part.within in
     record {
-      order = omega (arith, less);
-      way = omega (arith, filled_m, spare_m, c.if-way-part.false);
-      put = gap-put old mid parts gap end _ are run less c.requires.within stop part.0 part.1 part_is new more;
+      order = omega (arith, few k, c.if-gap-stop.false);
+      way = way-left mid new (slice_range mid.neutral part.0 part.1) (c.loop-arguments.way - c.put_characters-count.result) (part.1 - part.0) c.put_from_neutral.ensures size (omega (arith, c.if-way-part.false)) (left k);
+      put = given.put new c.put_from_neutral.ensures;
     }

@@ -5,8 +5,8 @@ use Rattle.trac_forms.proofs.Filling.{filled, Filled}
 use Rattle.trac_forms.proofs.fill.fill_cells.Given as goal
 
 -- the items up to a place stand, their gaps filled
-abbrev pub invariant-loop-way : goal.invariant-loop-way
-invariant-loop-way l =
+abbrev pub invariant-loop-arguments : goal.invariant-loop-arguments
+invariant-loop-arguments l =
     let given = texts_between l.fn.space.neutral l.arguments.from l.arguments.end in
     record {
       order : l.at ≤ l.stop;
@@ -15,5 +15,5 @@ invariant-loop-way l =
     }
 
 -- the cells that are left
-abbrev pub decreases-loop-way : goal.decreases-loop-way
-decreases-loop-way l = l.stop - l.at
+abbrev pub decreases-loop-arguments : goal.decreases-loop-arguments
+decreases-loop-arguments l = l.stop - l.at

@@ -14,8 +14,8 @@ returns-in-Some-clause-makes c = λ name.
     let w = c.args.work.now in
     let ts = texts w c.args.arguments in
     makes-found CallCharacter (name ∷ ts) (argument ts 0) (λ form. characters (pos 1) form) (argument ts 1) (record { means = λ w. refl; builds = λ w. refl })
-    w c.find.new.self c.take_forward.new.work c.in-Some.form.0 c.take_forward.result _ c.next-default.result.0 c.next-default.result.1
-    c.requires.sound c.in-Some.ensures.same c.in-Some.ensures.found c.next-name.ensures.text c.take_forward.ensures.takes (c.next-default.ensures.text ∙ c.next-name.ensures.later 0)
+    w c.find.new.self c.take_character.new.work c.in-Some.form.0 c.take_character.result _ c.next-default.result.0 c.next-default.result.1
+    c.requires.sound c.in-Some.ensures.same c.in-Some.ensures.found c.next-name.ensures.text c.take_character.ensures.takes (c.next-default.ensures.text ∙ c.next-name.ensures.later 0)
 
 pub returns-in-None-clause-makes : goal.returns-in-None-clause-makes
 unfolding meaning_of

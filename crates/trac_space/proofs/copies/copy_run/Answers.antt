@@ -9,8 +9,8 @@ use Rattle.trac_space.proofs.Runs.{run-cell, byte-at, run-more, turned-at, turne
 use Rattle.trac_space.proofs.copies.copy_run.Goals as goal
 use Rattle.trac_space.proofs.copies.copy_run.Goals.{then-number-eq0, else-number-eq0+then-number-eq1}
 
-pub byte_in-requires : goal.byte_in-requires
-byte_in-requires c =
+pub byte_in-byte-requires : goal.byte_in-byte-requires
+byte_in-byte-requires c =
     let was = c.args.cells.now in
     let start = c.args.start in
     let k = c.loop-count.count in
@@ -35,18 +35,19 @@ loop-count-preserved c =
     let long : length source ≡ length was - start = length-map (drop start was) (turned_by table) ∙ length-drop start was in
     let same = run-cell was now source start to k (Byte 0) c.requires.before inside (omega (arith, long, inside)) kept.copied in
     let cell = slice_index_or was (start + k) (Byte 0) in
-    let number : slice_index_or table c.from.result 0 ≡ number_in table cell = ap (λ b. slice_index_or table b 0) (c.from.ensures ∙ c.byte_in.ensures ∙ ap character_of same) in
+    let number : slice_index_or table c.from.result 0 ≡ number_in table cell = ap (λ b. slice_index_or table b 0) (c.from.ensures ∙ c.byte_in-byte.ensures ∙ ap character_of same) in
     let put = sym (turned-at table was start k (Byte 0) inside) in
     let copied : set now (to + k) (turned_by table cell) ≡ paste was to source (k + 1) = ap (set now (to + k)) put ∙ ap (λ cells. set cells (to + k) (slice_index_or source k (turned_by table (Byte 0)))) kept.copied ∙ paste_more was to source k (turned_by table (Byte 0)) (omega (arith, inside, c.requires.before)) (omega (arith, long, inside)) in
     elim c.if-number-eq0.branch [
       | then-number-eq0 w ↦ (
           let none : number_in table cell ≡ 0 = omega (arith, number, w.if-number-eq0.true) in
+          let byte : Byte c.byte_in-byte.result ≡ Byte (character_of cell) = ap Byte (c.byte_in-byte.ensures ∙ ap character_of same) in
           record {
             within = omega (arith, less);
             run = run-more table was start k (Byte 0) inside kept.run (omega (arith, none));
             last = omega (arith, w.last-is, kept.last);
             plain = rw w.last-is (plain-more table was start k (Byte 0) inside c.loop-count.last kept.last (turned-none table cell none) kept.plain);
-            copied = w.cells-is ∙ ap (set now (to + k)) (same ∙ sym (turned-byte table cell none (byte-at was start k c.args.most (Byte 0) less c.requires.within c.requires.bytes))) ∙ copied;
+            copied = w.cells-is ∙ ap (set now (to + k)) (byte ∙ sym (turned-byte table cell none)) ∙ copied;
           })
       | else-number-eq0+then-number-eq1 w ↦ (
           let one : number_in table cell ≡ 1 = omega (arith, number, w.if-number-eq1.true) in

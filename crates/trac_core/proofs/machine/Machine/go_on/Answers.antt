@@ -46,7 +46,7 @@ returns-clause-answers g c =
       m,
       (
         (n, (memory, c.scan_on-count.ensures.passes i.meta, refl, omega (arith, stops.0))),
-        λ told_source told_sink. rw (c.count-2.ensures.answer, c.count-2.ensures.after, c.carry_out-attempt.ensures.room, c.scan_on-count.ensures.room, peak)
-            (c.carry_out-attempt.ensures.tried told_source told_sink m (sym c.scan_on-count.ensures.room) refl allowed),
+        λ told_source told_sink. rw (c.count-2.ensures.answer, c.count-2.ensures.after, c.carry_out-last.ensures.room, c.scan_on-count.ensures.room, peak)
+            (c.carry_out-last.ensures.tried told_source told_sink m (sym c.scan_on-count.ensures.room) refl allowed),
       ),
     )

@@ -1,0 +1,16 @@
+use Rattle.std.proofs.Common.{subst}
+use Rattle.trac_core.specs.StepsInRow.{AsksFor}
+use Rattle.trac_core.proofs.Performing.{performs-closed, function-performs}
+use Rattle.trac_core.proofs.call.carry_out.Goals as goal
+
+pub returns-in-Closes-clause-source : goal.returns-in-Closes-clause-source
+returns-in-Closes-clause-source g c =
+    let asks = subst (λ front. AsksFor front c.args.work.now) c.in-Closes.is c.requires.asks in
+    let p = performs-closed c.args.work.now c.drop_active.new.self c.in-Closes.call.place c.requires.sound asks.0 asks.1 c.drop_active.ensures.rest in
+    rw (function-performs _ _ _ c.args.meta.now p) c.perform.ensures.source
+
+pub returns-in-Closes-clause-sink : goal.returns-in-Closes-clause-sink
+returns-in-Closes-clause-sink g c =
+    let asks = subst (λ front. AsksFor front c.args.work.now) c.in-Closes.is c.requires.asks in
+    let p = performs-closed c.args.work.now c.drop_active.new.self c.in-Closes.call.place c.requires.sound asks.0 asks.1 c.drop_active.ensures.rest in
+    rw (function-performs _ _ _ c.args.meta.now p) c.perform.ensures.sink

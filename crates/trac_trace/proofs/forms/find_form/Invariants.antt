@@ -1,8 +1,0 @@
-use Rattle.std.proofs.Common.{◌≡◌}
-use Rattle.trac_language.specs.Store.{form_named}
-use Rattle.trac_space.specs.Texts.{text_of_cells}
-use Rattle.trac_trace.proofs.forms.find_form.Given as goal
-
--- no form so far has the name
-abbrev pub invariant-loop-form : goal.invariant-loop-form
-invariant-loop-form l = form_named (text_of_cells l.name) l.form-iterator ≡ form_named (text_of_cells l.name) l.fn.forms

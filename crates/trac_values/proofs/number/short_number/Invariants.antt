@@ -1,0 +1,20 @@
+use Rattle.std.proofs.Common.{◌≡◌, length, ◌+◌, ◌-◌, ◌<◌, ◌≤◌, ◌^◌, take, drop}
+use Rattle.std.specs.List.{suffix_len}
+use Rattle.std.specs.Char.{is_ascii_digit}
+use Rattle.std.specs.Str.Parse.{digits_value}
+use Rattle.trac_space.specs.Texts.{text_of_cells}
+use Rattle.trac_values.proofs.number.short_number.Given as goal
+
+-- the cells from start on are digits, and the value is theirs
+abbrev pub invariant-loop-start : goal.invariant-loop-start
+invariant-loop-start l = record {
+  within : l.start ≤ length l.cells;
+  least : l.least ≤ l.start;
+  digits : l.start + suffix_len is_ascii_digit (text_of_cells l.cells) ≡ length l.cells + suffix_len is_ascii_digit (take l.start (text_of_cells l.cells));
+  value : l.value ≡ digits_value 10 (drop l.start (text_of_cells l.cells));
+  power : l.power ≡ 10 ^ (length l.cells - l.start);
+  below : l.value < 10 ^ (length l.cells - l.start);
+}
+
+abbrev pub decreases-loop-start : goal.decreases-loop-start
+decreases-loop-start l = l.start
