@@ -195,11 +195,35 @@ fn next_parenthesis(cells: &[Cell], from: usize) -> usize
     ensures found { result < length cells.now →
         is_parenthesis (get_or (text_of_cells cells.now) result 0) ≡ true }
 {
-    let near = cells.len().min(from + BLOCK);
-    match parenthesis_before(cells, from, near) {
-        Some(i) => i,
-        None => far_parenthesis(cells, near),
+    if cells.len() - from < BLOCK {
+        return match parenthesis_before(cells, from, cells.len()) {
+            Some(i) => i,
+            None => cells.len(),
+        };
     }
+    let passed = others_in_block(cells, from);
+    if passed < BLOCK {
+        from + passed
+    } else {
+        far_parenthesis(cells, from + BLOCK)
+    }
+}
+
+/// How many of the eight characters from a place on stand before the first parenthesis.
+#[inline]
+fn others_in_block(cells: &[Cell], at: usize) -> usize
+    requires within { at + 8 ≤ length cells.now }
+    requires bytes { All IsByte cells.now }
+    ensures few { result ≤ 8 }
+    ensures passes { GoesBy (text_of_cells cells.now) at (at + result) }
+    ensures found { result < 8 →
+        is_parenthesis (get_or (text_of_cells cells.now) (at + result) 0) ≡ true }
+{
+    let mut count = 0;
+    while count < BLOCK && !is_parenthesis(byte_in(&cells[at + count])) {
+        count += 1;
+    }
+    count
 }
 
 /// The same, farther on.

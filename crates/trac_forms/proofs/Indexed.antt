@@ -92,27 +92,35 @@ index-same table was now len names starts h some =
     let i = h some in
     index-as table (length was) (length was) (length now) (length now) (name_at was) (name_at now) (start_of was) (start_of now) (omega (arith, len, i.roomy)) (λ k within there. (omega (arith, len, within), λ e. absurd (omega (arith, e, within, len)), names k, starts k)) (λ k within there. (omega (arith, len, within), λ e. absurd (omega (arith, e, within, len)))) i
 
--- form k with another pointer
-same_name : (p : ℕ) (forms : List Form) (k j : ℕ) → name_at (set forms k (record (form_at forms k) { pointer = p })) j ≡ name_at forms j
-same_name p [] k j = refl
-same_name p (form ∷ forms) zero zero = refl
-same_name p (form ∷ forms) zero (suc j) = refl
-same_name p (form ∷ forms) (suc k) zero = refl
-same_name p (form ∷ forms) (suc k) (suc j) = same_name p forms k j
+-- another form of the same name and length at place k
+same_name : (new : Form) (forms : List Form) (k j : ℕ) → new.name ≡ (form_at forms k).name → name_at (set forms k new) j ≡ name_at forms j
+same_name new [] k j named = refl
+same_name new (form ∷ forms) zero zero named = named
+same_name new (form ∷ forms) zero (suc j) named = refl
+same_name new (form ∷ forms) (suc k) zero named = refl
+same_name new (form ∷ forms) (suc k) (suc j) named = same_name new forms k j named
 
-same_start : (p : ℕ) (forms : List Form) (k j : ℕ) → start_of (set forms k (record (form_at forms k) { pointer = p })) j ≡ start_of forms j
-same_start p [] k j = refl
-same_start p (form ∷ forms) zero zero = refl
-same_start p (form ∷ forms) (suc k) zero = refl
-same_start p (form ∷ forms) zero (suc j) = refl
-same_start p (form ∷ forms) (suc k) (suc j) =
-    length-append (flat_form form) (flat_forms (take j (set forms k (record (form_at forms k) { pointer = p }))))
-    ∙ ap (λ n. length (flat_form form) + n) (same_start p forms k j)
+same_start : (new : Form) (forms : List Form) (k j : ℕ) → length (flat_form new) ≡ length (flat_form (form_at forms k)) → start_of (set forms k new) j ≡ start_of forms j
+same_start new [] k j long = refl
+same_start new (form ∷ forms) zero zero long = refl
+same_start new (form ∷ forms) (suc k) zero long = refl
+same_start new (form ∷ forms) zero (suc j) long =
+    length-append (flat_form new) (flat_forms (take j forms))
+    ∙ ap (λ n. n + length (flat_forms (take j forms))) long
+    ∙ sym (length-append (flat_form form) (flat_forms (take j forms)))
+same_start new (form ∷ forms) (suc k) (suc j) long =
+    length-append (flat_form form) (flat_forms (take j (set forms k new)))
+    ∙ ap (λ n. length (flat_form form) + n) (same_start new forms k j long)
     ∙ sym (length-append (flat_form form) (flat_forms (take j forms)))
 
+pub index-replaced : (forms : List Form) (k : ℕ) (new : Form) (table : List Cell) → new.name ≡ (form_at forms k).name → length (flat_form new) ≡ length (flat_form (form_at forms k)) → IsIndexed table forms → IsIndexed table (set forms k new)
+index-replaced forms k new table named long h =
+    index-same table forms (set forms k new) (length-set forms k new) (λ j. same_name new forms k j named) (λ j. same_start new forms k j long) h
+
+-- form k with another pointer
 pub index-pointer : (forms : List Form) (k p : ℕ) (table : List Cell) → IsIndexed table forms → IsIndexed table (set forms k (record (form_at forms k) { pointer = p }))
 index-pointer forms k p table h =
-    index-same table forms (set forms k (record (form_at forms k) { pointer = p })) (length-set forms k (record (form_at forms k) { pointer = p })) (same_name p forms k) (same_start p forms k) h
+    index-replaced forms k (record (form_at forms k) { pointer = p }) table refl refl h
 
 -- the spare list makes way for what is put
 pub put-kept : (first : List Cell) (s m t : Lists) (n : ℕ) → IsKept first s.spare → m ≡ with_way n s → t.spare ≡ m.spare → IsKept first t.spare

@@ -1,23 +1,28 @@
 -- What `define` and `segment` leave in a store, from what they put there.
 use Rattle.std.proofs.Common.{◌≡◌, ℕ, ◌+◌, ◌-◌, ◌<◌, ◌≤◌, List, ◌∷◌, [], ◌++◌, length, take, drop, map, set, slice_range, refl, sym, ap, subst, ◌∙◌, arith}
-use Rattle.std.proofs.lemmas.List.{length_push, length-append, length-map, length-set, length-take-le, take_at}
+use Rattle.std.proofs.lemmas.List.{length_push, length-append, length-map, length-set, length-take-le, length-drop, take_at}
+use Rattle.std.proofs.lemmas.List.Edits.{length-between}
 use Rattle.std.proofs.lemmas.List.Sums.{sum_by_push}
+use Rattle.trac_language.specs.declared.item.Item.TheVariants as item
+use Rattle.trac_language.specs.Form.{Form, items_of}
 use Rattle.trac_language.specs.Segment.{segment}
 use Rattle.trac_language.specs.Store.{without, defined, form_cells}
 use Rattle.trac_language.specs.Text.{Text}
 use Rattle.trac_space.specs.declared.cell.Cell.{Cell}
-use Rattle.trac_space.specs.declared.cell.Cell.TheVariants.{Head}
+use Rattle.trac_space.specs.declared.cell.Cell.TheVariants.{Byte, Head}
+use Rattle.trac_space.specs.Texts.{flat_text, character_of}
 use Rattle.trac_space.specs.Lists as lists
 use Rattle.trac_space.specs.Lists.{Lists}
 use Rattle.trac_forms.specs.FlatForms.{flat_item, flat_form, flat_forms}
-use Rattle.trac_forms.specs.Contents.{form_at, name_at, part_text, new_form}
+use Rattle.trac_forms.specs.Contents.{form_at, name_at, part_text, new_form, IsTextPart}
 use Rattle.trac_forms.specs.Gaps.{segmented_cells}
 use Rattle.trac_forms.specs.Index.{IsIndexed, IsIndexBut, started}
 use Rattle.trac_forms.specs.Stored.{forms_in, head_at, start_of, IsStored}
-use Rattle.trac_forms.proofs.FlatLemmas.{forms_in-flat, used-stored, length-flat, length-new_form}
+use Rattle.trac_forms.proofs.FlatLemmas.{forms_in-flat, used-stored, length-flat, length-new_form, flat_items_of, Byte-character_of}
 use Rattle.trac_forms.proofs.Places.{stands, start_of-set}
 use Rattle.trac_forms.proofs.Stores.{IsStore-defined, IsStore-set, cells-without, cells-set}
 use Rattle.trac_forms.proofs.FormTables.{index-set}
+use Rattle.trac_forms.proofs.Indexed.{index-replaced}
 use Rattle.trac_forms.proofs.Strings.{restored, redefined}
 use Rattle.trac_forms.proofs.Segments.{flat-segment, regapped, written}
 
@@ -76,3 +81,32 @@ segmented-stored s t u v w count last begins k start name body end a b ordinal h
     index-set forms k new within refl (to - end) (omega (arith, shorter, to_is, size)) w.spare count counted
     (index (name_at forms) (start_of forms) (subst (λ l. IsIndexBut l count count (name_at forms) (start_of forms)) (sym was) (subst (λ n. IsIndexBut s.spare n n (name_at forms) (start_of forms)) (sym counted) (h.index (omega (arith, some, len, ap length was)))))) in
     (is_all, restored w.spare s w (set forms k new) count k start table h.sound (IsStore-set forms k new refl (omega arith) h.sound.forms) (omega (arith, ap length h.whole, h.sound.fits)) is_all (omega (arith, h.count_is, length-set forms k new)) (omega (arith, h.count_is, within)) (start_is ∙ sym (start_of-set forms k new)))
+
+-- a part of neutral that is written over the store leaves it as long as it was
+pub written-long : (s t : Lists) (at a b : ℕ) → b ≤ length s.neutral → at + (b - a) ≤ length s.store → t ≡ record s { store = take at s.store ++ slice_range s.neutral a b ++ drop (at + (b - a)) s.store } → length t.store ≡ length s.store
+written-long s t at a b within inside is =
+    omega (arith, ap (λ v. length v.store) is, length-append (take at s.store ++ slice_range s.neutral a b) (drop (at + (b - a)) s.store), length-append (take at s.store) (slice_range s.neutral a b), length-take-le at s.store (omega (arith, inside)), length-between s.neutral a b within, length-drop (at + (b - a)) s.store, inside)
+
+-- form k with the characters of a part of neutral as its body, which is as long as the one that it had: they are written over that, and two heads after it
+pub rewritten-stored : (s t u v : Lists) (count last begins k start body a b : ℕ) → IsStored s count last begins → k < length (forms_in s.store) → start ≡ start_of (forms_in s.store) k → body ≡ start + 3 + head_at s.store start → IsTextPart s.neutral a b → b - a ≡ length (form_at (forms_in s.store) k).body → t ≡ record s { store = take body s.store ++ slice_range s.neutral a b ++ drop (body + (b - a)) s.store } → u ≡ record t { store = set t.store (start + 1) (Head (b - a)) } → v ≡ record u { store = set u.store (start + 2) (Head 0) } → (v ≡ record s { store = flat_forms (set (forms_in s.store) k (record (form_at (forms_in s.store) k) { body = items_of (part_text s.neutral a b); pointer = 0 })) }) × IsStored v count k start
+rewritten-stored s t u v count last begins k start body a b h within start_is body_is part same over first second =
+    let forms = forms_in s.store in
+    let f = stands forms s.store k start h.whole within start_is in
+    let form = form_at forms k in
+    let text = part_text s.neutral a b in
+    let items = items_of text in
+    let new = record form { body = items; pointer = 0 } in
+    let size : length items ≡ b - a = length-map text item.Byte ∙ length-map (slice_range s.neutral a b) character_of ∙ length-between s.neutral a b part.within in
+    let from_is : body ≡ start + 3 + length form.name = omega (arith, body_is, f.name_len) in
+    let to_is : body + (b - a) ≡ body + length form.body = omega (arith, same) in
+    let cells : slice_range s.neutral a b ≡ map flat_item items = sym (flat_items_of text ∙ Byte-character_of (slice_range s.neutral a b) part.bytes) in
+    let number : Head (b - a) ≡ Head (length items) = ap (λ n. Head n) (sym size) in
+    let all = written s t u v (take body s.store ++ map flat_item items ++ drop (body + (b - a)) s.store) (start + 1) (start + 2) (Head (length items)) (Head 0) (rw cells at over) (rw number at first) second in
+    let is = all ∙ ap (λ cells. record s { store = cells }) (regapped forms s.store k start body (body + (b - a)) items within start_is f from_is to_is) in
+    let less = cells-set forms k new within (omega (arith, size, same)) in
+    let used = used-stored s h.whole in
+    let long : length (flat_form new) ≡ length (flat_form form) = length_form new ∙ omega (arith, size, same) ∙ sym (length_form form) in
+    (is, restored s.spare s v (set forms k new) count k start (index-replaced forms k new s.spare refl long h.index) h.sound (IsStore-set forms k new refl (omega arith) h.sound.forms) (omega (arith, less, ap length h.whole, h.sound.fits)) is (omega (arith, h.count_is, length-set forms k new)) (omega (arith, h.count_is, within)) (start_is ∙ sym (start_of-set forms k new)))
+  where
+    length_form : (f : Form) → length (flat_form f) ≡ 3 + length f.name + length f.body
+    length_form f = omega (arith, length-append (flat_text f.name) (map flat_item f.body), length-map f.name Byte, length-map f.body flat_item)

@@ -1,5 +1,5 @@
 //! Moves of cells within a block.
-ghost use Rattle.std.specs.Prelude.{◌≡◌, ◌+◌, ◌-◌, ◌≤◌, ◌<◌, ◌⊎◌, All, drop, false};
+ghost use Rattle.std.specs.Prelude.{◌≡◌, ◌+◌, ◌-◌, ◌≤◌, ◌<◌, ◌⊎◌, ◌++◌, All, drop, false};
 ghost use Rattle.std.specs.Prelude.{length, take, ◌==◌, if◌then◌else◌, slice_index_or};
 ghost use Rattle.std.specs.List.{copy_within};
 ghost use Rattle.trac_space.specs.declared.cell.Cell.TheVariants.{Byte};
@@ -7,7 +7,7 @@ ghost use Rattle.trac_space.specs.Cells.{NoComma};
 ghost use Rattle.trac_space.specs.Runs.{IsInRun, number_in, turned, with_cells_at};
 ghost use Rattle.trac_space.specs.Texts.{IsByte, byte_cell_at};
 
-use crate::cell::{Cell, byte_in};
+use crate::cell::{Cell, byte_in, is_character};
 
 // How many cells a long move takes at once.
 const PART: usize = 256;
@@ -15,6 +15,8 @@ const PART: usize = 256;
 const NEAR: usize = 8;
 // How many cells are too few for parts where the places overlap.
 const FEW: usize = 24;
+// How many characters are moved at once before each of them is looked at.
+const BLOCK: usize = 8;
 
 // As `copy_within`. A short move goes cell by cell.
 #[inline]
@@ -227,9 +229,64 @@ pub(crate) fn copy_run(
 }
 
 // Puts the characters that stand from a place on once more at a place behind, at most so many, up
-// to the first cell that is none. Gives how many they are.
-#[inline]
+// to the first cell that is none. Gives how many they are. Behind them other cells may be written
+// over, at most as far as so many would reach.
+#[inline(always)]
 pub(crate) fn copy_characters(cells: &mut [Cell], start: usize, to: usize, most: usize) -> usize
+    requires behind { start + most ≤ to }
+    requires room { to + most ≤ length cells.old }
+    ensures few { result ≤ most }
+    ensures bytes { All IsByte (take result (drop start cells.old)) }
+    ensures stop { result < most → byte_cell_at cells.old (start + result) ≡ false }
+    ensures len { length cells.new ≡ length cells.old }
+    ensures front { take (to + result) cells.new ≡
+        take to cells.old ++ take result (drop start cells.old) }
+    ensures behind { drop (to + most) cells.new ≡ drop (to + most) cells.old }
+{
+    let mut count = 0;
+    while most - count >= BLOCK {
+        copy_block(cells, start + count, to + count);
+        let more = characters_in_block(cells, start + count);
+        count += more;
+        if more < BLOCK {
+            return count;
+        }
+    }
+    count + copy_characters_each(cells, start + count, to + count, most - count)
+}
+
+// How many characters begin the block of cells at a place.
+#[inline]
+fn characters_in_block(cells: &[Cell], at: usize) -> usize
+    requires { at + 8 ≤ length cells.now }
+    ensures few { result ≤ 8 }
+    ensures bytes { All IsByte (take result (drop at cells.now)) }
+    ensures stop { result < 8 → byte_cell_at cells.now (at + result) ≡ false }
+{
+    let mut count = 0;
+    while count < BLOCK && is_character(&cells[at + count]) {
+        count += 1;
+    }
+    count
+}
+
+// Makes a block of cells the same as another that stands before, and apart.
+#[inline]
+fn copy_block(cells: &mut [Cell], start: usize, to: usize)
+    requires apart { start + 8 ≤ to }
+    requires room { to + 8 ≤ length cells.old }
+    ensures len { length cells.new ≡ length cells.old }
+    ensures after { cells.new ≡ copy_within cells.old start (start + 8) to }
+{
+    let end = start + BLOCK;
+    let n = end - start;
+    let (front, back) = cells.split_at_mut(to);
+    back[..n].copy_from_slice(&front[start..end]);
+}
+
+// The same as `copy_characters`, one by one, and no other cell is written over.
+#[inline]
+fn copy_characters_each(cells: &mut [Cell], start: usize, to: usize, most: usize) -> usize
     requires behind { start + most ≤ to }
     requires room { to + most ≤ length cells.old }
     ensures few { result ≤ most }

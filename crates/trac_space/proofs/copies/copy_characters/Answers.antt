@@ -1,27 +1,82 @@
-use Rattle.std.proofs.Common.{◌≡◌, ◌+◌, ◌<◌, length, drop, set, sym, ap, ◌∙◌, subst, slice_index_or, arith}
-use Rattle.std.proofs.lemmas.List.{length-drop, get_or-drop}
-use Rattle.std.proofs.lemmas.List.Edits.{paste_more}
-use Rattle.trac_space.specs.declared.cell.Cell.TheVariants.{Byte}
-use Rattle.trac_space.specs.Texts.{IsByte}
-use Rattle.trac_space.proofs.Characters.{front-cell, bytes-more}
+use Rattle.std.proofs.Common.{◌≡◌, ◌+◌, length, drop, ap, ◌∙◌, arith}
+use Rattle.std.proofs.lemmas.List.{length-drop}
+use Rattle.trac_space.proofs.BlockChanges.{drop-paste_above}
+use Rattle.trac_space.proofs.Blocks.{front-of, below-of, bytes-on, copied-on}
 use Rattle.trac_space.proofs.copies.copy_characters.Goals as goal
+
+pub returns-then-more-lt-BLOCK-clause-bytes : goal.returns-then-more-lt-BLOCK-clause-bytes
+returns-then-more-lt-BLOCK-clause-bytes c =
+    let was = c.args.cells.now in
+    let start = c.args.start in
+    let to = c.args.to in
+    let k = c.loop-count.count in
+    let j = c.characters_in_block-more.result in
+    let more = copied-on was c.loop-count.cells c.copy_block.new.cells start to k 8 (omega (arith, c.requires.behind, c.loop-count-test.true)) (omega (arith, c.requires.room, c.loop-count-test.true)) c.loop-count.invariant.copied c.copy_block.ensures.after in
+    bytes-on was c.copy_block.new.cells start to k j (below-of was c.copy_block.new.cells (drop start was) to (k + 8) (omega (arith, c.requires.room)) more) (omega (arith, c.requires.behind, c.loop-count-test.true, c.characters_in_block-more.ensures.few)) c.loop-count.invariant.bytes c.characters_in_block-more.ensures.bytes
+
+pub returns-then-more-lt-BLOCK-clause-front : goal.returns-then-more-lt-BLOCK-clause-front
+returns-then-more-lt-BLOCK-clause-front c =
+    let was = c.args.cells.now in
+    let start = c.args.start in
+    let to = c.args.to in
+    let k = c.loop-count.count in
+    let j = c.characters_in_block-more.result in
+    let more = copied-on was c.loop-count.cells c.copy_block.new.cells start to k 8 (omega (arith, c.requires.behind, c.loop-count-test.true)) (omega (arith, c.requires.room, c.loop-count-test.true)) c.loop-count.invariant.copied c.copy_block.ensures.after in
+    front-of was c.copy_block.new.cells (drop start was) to (k + 8) (k + j) (omega (arith, c.requires.room)) (omega (arith, length-drop start was, c.requires.behind, c.requires.room, c.loop-count-test.true)) (omega (arith, c.characters_in_block-more.ensures.few)) more
+
+pub returns-then-more-lt-BLOCK-clause-behind : goal.returns-then-more-lt-BLOCK-clause-behind
+returns-then-more-lt-BLOCK-clause-behind c =
+    let was = c.args.cells.now in
+    let start = c.args.start in
+    let to = c.args.to in
+    let k = c.loop-count.count in
+    let more = copied-on was c.loop-count.cells c.copy_block.new.cells start to k 8 (omega (arith, c.requires.behind, c.loop-count-test.true)) (omega (arith, c.requires.room, c.loop-count-test.true)) c.loop-count.invariant.copied c.copy_block.ensures.after in
+    ap (drop (to + c.args.most)) more ∙ drop-paste_above was (drop start was) to (k + 8) (to + c.args.most) (omega (arith, c.loop-count-test.true)) (omega (arith, c.requires.room)) (omega (arith, length-drop start was, c.requires.behind, c.requires.room, c.loop-count-test.true))
 
 pub loop-count-preserved : goal.loop-count-preserved
 loop-count-preserved c =
     let was = c.args.cells.now in
-    let now = c.loop-count.cells in
     let start = c.args.start in
     let to = c.args.to in
     let k = c.loop-count.count in
-    let kept = c.loop-count.invariant in
-    let less = c.loop-count-test.true in
-    let inside : start + k < length was = omega (arith, c.requires.behind, c.requires.room, less) in
-    let source = drop start was in
-    let same = front-cell was now source to k (start + k) (Byte 0) (omega (arith, c.requires.behind, less)) (omega (arith, c.requires.room)) kept.copied in
-    let byte : IsByte (slice_index_or now (start + k) (Byte 0)) = subst IsByte (sym c.in-Byte.is) tt in
-    let cell : slice_index_or now (start + k) (Byte 0) ≡ slice_index_or source k (Byte 0) = same ∙ sym (get_or-drop start was k (Byte 0)) in
+    let j = c.characters_in_block-more.result in
+    let more = copied-on was c.loop-count.cells c.copy_block.new.cells start to k 8 (omega (arith, c.requires.behind, c.loop-count-test.true)) (omega (arith, c.requires.room, c.loop-count-test.true)) c.loop-count.invariant.copied c.copy_block.ensures.after in
+    let all : j ≡ 8 = omega (arith, c.characters_in_block-more.ensures.few, c.if-more-lt-BLOCK.false) in
     record {
-      within = omega (arith, less);
-      bytes = bytes-more was start k (Byte 0) inside kept.bytes (subst IsByte same byte);
-      copied = ap (set now (to + k)) (sym c.in-Byte.is ∙ cell) ∙ ap (λ cells. set cells (to + k) (slice_index_or source k (Byte 0))) kept.copied ∙ paste_more was to source k (Byte 0) (omega (arith, c.requires.room, less)) (omega (arith, inside, length-drop start was));
+      within = omega (arith, all, c.loop-count-test.true);
+      bytes = bytes-on was c.copy_block.new.cells start to k j (below-of was c.copy_block.new.cells (drop start was) to (k + 8) (omega (arith, c.requires.room)) more) (omega (arith, c.requires.behind, c.loop-count-test.true, c.characters_in_block-more.ensures.few)) c.loop-count.invariant.bytes c.characters_in_block-more.ensures.bytes;
+      copied = rw all more;
     }
+
+pub returns-clause-bytes : goal.returns-clause-bytes
+returns-clause-bytes c =
+    let was = c.args.cells.now in
+    let now = c.loop-count.cells in
+    let to = c.args.to in
+    let k = c.loop-count.count in
+    let m = c.copy_characters_each.result in
+    bytes-on was now c.args.start to k m (below-of was now (drop c.args.start was) to k (omega (arith, c.requires.room)) c.loop-count.invariant.copied) (omega (arith, c.requires.behind, c.loop-count.invariant.within, c.copy_characters_each.ensures.few)) c.loop-count.invariant.bytes c.copy_characters_each.ensures.bytes
+
+pub returns-clause-front : goal.returns-clause-front
+returns-clause-front c =
+    let was = c.args.cells.now in
+    let start = c.args.start in
+    let to = c.args.to in
+    let k = c.loop-count.count in
+    let m = c.copy_characters_each.result in
+    let few = c.copy_characters_each.ensures.few in
+    let within = c.loop-count.invariant.within in
+    let more = copied-on was c.loop-count.cells c.copy_characters_each.new.cells start to k m (omega (arith, c.requires.behind, few, within)) (omega (arith, c.requires.room, few, within)) c.loop-count.invariant.copied c.copy_characters_each.ensures.after in
+    front-of was c.copy_characters_each.new.cells (drop start was) to (k + m) (k + m) (omega (arith, c.requires.room)) (omega (arith, length-drop start was, c.requires.behind, c.requires.room, few, within)) (omega arith) more
+
+pub returns-clause-behind : goal.returns-clause-behind
+returns-clause-behind c =
+    let was = c.args.cells.now in
+    let start = c.args.start in
+    let to = c.args.to in
+    let k = c.loop-count.count in
+    let m = c.copy_characters_each.result in
+    let few = c.copy_characters_each.ensures.few in
+    let within = c.loop-count.invariant.within in
+    let more = copied-on was c.loop-count.cells c.copy_characters_each.new.cells start to k m (omega (arith, c.requires.behind, few, within)) (omega (arith, c.requires.room, few, within)) c.loop-count.invariant.copied c.copy_characters_each.ensures.after in
+    ap (drop (to + c.args.most)) more ∙ drop-paste_above was (drop start was) to (k + m) (to + c.args.most) (omega (arith, few, within)) (omega (arith, c.requires.room)) (omega (arith, length-drop start was, c.requires.behind, c.requires.room, few, within))

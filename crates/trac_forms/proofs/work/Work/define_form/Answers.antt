@@ -60,7 +60,7 @@ store_form-requires-clause-room c =
     let form = new_form s.neutral c.args.name.0 c.args.name.1 c.args.text.0 c.args.text.1 in
     let rest = without name forms in
     let fewer = cells-without name forms in
-    let gone = c.remove_named-count.ensures.gone in
+    let gone = c.remove_found-count.ensures.gone in
     let is = ap lists.used gone in
     let room = ap (λ v. v.room) gone in
     omega (arith, c.free-free.ensures, length-flat rest, length-flat forms, ap length h.whole)
@@ -78,8 +78,8 @@ index_form-requires-clause-whole c =
     let form = new_form s.neutral c.args.name.0 c.args.name.1 c.args.text.0 c.args.text.1 in
     let rest = without name forms in
     let fewer = cells-without name forms in
-    let gone = c.remove_named-count.ensures.gone in
-    let is = redefined s c.remove_named-count.new.space c.store_form.new.space rest c.args.name.0 c.args.name.1 c.args.text.0 c.args.text.1 gone c.store_form.ensures.stored in
+    let gone = c.remove_found-count.ensures.gone in
+    let is = redefined s c.remove_found-count.new.space c.store_form.new.space rest c.args.name.0 c.args.name.1 c.args.text.0 c.args.text.1 gone c.store_form.ensures.stored in
     let all = defined name text forms in
     let there : c.store_form.new.space.store ≡ flat_forms all = ap (λ (w : Lists). w.store) is in
     let read : forms_in c.store_form.new.space.store ≡ all = ap forms_in there ∙ forms_in-flat all in
@@ -98,12 +98,12 @@ index_form-requires-clause-within c =
     let form = new_form s.neutral c.args.name.0 c.args.name.1 c.args.text.0 c.args.text.1 in
     let rest = without name forms in
     let fewer = cells-without name forms in
-    let gone = c.remove_named-count.ensures.gone in
-    let is = redefined s c.remove_named-count.new.space c.store_form.new.space rest c.args.name.0 c.args.name.1 c.args.text.0 c.args.text.1 gone c.store_form.ensures.stored in
+    let gone = c.remove_found-count.ensures.gone in
+    let is = redefined s c.remove_found-count.new.space c.store_form.new.space rest c.args.name.0 c.args.name.1 c.args.text.0 c.args.text.1 gone c.store_form.ensures.stored in
     let all = defined name text forms in
     let there : c.store_form.new.space.store ≡ flat_forms all = ap (λ (w : Lists). w.store) is in
     let read : forms_in c.store_form.new.space.store ≡ all = ap forms_in there ∙ forms_in-flat all in
-    omega (arith, ap length read, length_push rest form, c.remove_named-count.ensures.count)
+    omega (arith, ap length read, length_push rest form, c.remove_found-count.ensures.count)
 
 pub index_form-requires-clause-begins : goal.index_form-requires-clause-begins
 index_form-requires-clause-begins c =
@@ -118,14 +118,14 @@ index_form-requires-clause-begins c =
     let form = new_form s.neutral c.args.name.0 c.args.name.1 c.args.text.0 c.args.text.1 in
     let rest = without name forms in
     let fewer = cells-without name forms in
-    let gone = c.remove_named-count.ensures.gone in
-    let is = redefined s c.remove_named-count.new.space c.store_form.new.space rest c.args.name.0 c.args.name.1 c.args.text.0 c.args.text.1 gone c.store_form.ensures.stored in
+    let gone = c.remove_found-count.ensures.gone in
+    let is = redefined s c.remove_found-count.new.space c.store_form.new.space rest c.args.name.0 c.args.name.1 c.args.text.0 c.args.text.1 gone c.store_form.ensures.stored in
     let all = defined name text forms in
     let there : c.store_form.new.space.store ≡ flat_forms all = ap (λ (w : Lists). w.store) is in
     let read : forms_in c.store_form.new.space.store ≡ all = ap forms_in there ∙ forms_in-flat all in
     let first = take_at rest (form ∷ []) (length rest) refl in
     let place : c.store_len-start.result ≡ start_of all (length rest) = c.store_len-start.ensures ∙ ap (λ (w : Lists). length w.store) gone ∙ ap (λ fs. length (flat_forms fs)) (sym first) in
-    place ∙ ap (start_of all) (sym c.remove_named-count.ensures.count) ∙ ap (λ fs. start_of fs c.remove_named-count.result) (sym read)
+    place ∙ ap (start_of all) (sym c.remove_found-count.ensures.count) ∙ ap (λ fs. start_of fs c.remove_found-count.result) (sym read)
 
 pub index_form-requires-clause-index : goal.index_form-requires-clause-index
 index_form-requires-clause-index c =
@@ -135,14 +135,14 @@ index_form-requires-clause-index c =
     let text = part_text s.neutral c.args.text.0 c.args.text.1 in
     let form = new_form s.neutral c.args.name.0 c.args.name.1 c.args.text.0 c.args.text.1 in
     let rest = without name forms in
-    let t = c.remove_named-count.new.space in
+    let t = c.remove_found-count.new.space in
     let spare = c.store_form.new.space.spare in
-    let is = redefined s t c.store_form.new.space rest c.args.name.0 c.args.name.1 c.args.text.0 c.args.text.1 c.remove_named-count.ensures.gone c.store_form.ensures.stored in
+    let is = redefined s t c.store_form.new.space rest c.args.name.0 c.args.name.1 c.args.text.0 c.args.text.1 c.remove_found-count.ensures.gone c.store_form.ensures.stored in
     let all = defined name text forms in
     let there : c.store_form.new.space.store ≡ flat_forms all = ap (λ (w : Lists). w.store) is in
     let read : forms_in c.store_form.new.space.store ≡ all = ap forms_in there ∙ forms_in-flat all in
-    let front : take c.remove_named-count.result (forms_in c.store_form.new.space.store) ≡ rest = ap (take c.remove_named-count.result) read ∙ take_at rest (form ∷ []) c.remove_named-count.result (sym c.remove_named-count.ensures.count) in
-    subst (IsIndexed spare) (sym front) (index-kept t.spare spare rest c.store_form.ensures.kept c.remove_named-count.ensures.index)
+    let front : take c.remove_found-count.result (forms_in c.store_form.new.space.store) ≡ rest = ap (take c.remove_found-count.result) read ∙ take_at rest (form ∷ []) c.remove_found-count.result (sym c.remove_found-count.ensures.count) in
+    subst (IsIndexed spare) (sym front) (index-kept t.spare spare rest c.store_form.ensures.kept c.remove_found-count.ensures.index)
 
 pub index_form-requires-clause-bounded : goal.index_form-requires-clause-bounded
 index_form-requires-clause-bounded c =
@@ -157,7 +157,7 @@ index_form-requires-clause-bounded c =
     let form = new_form s.neutral c.args.name.0 c.args.name.1 c.args.text.0 c.args.text.1 in
     let rest = without name forms in
     let all = defined name text forms in
-    let is = redefined s c.remove_named-count.new.space c.store_form.new.space rest c.args.name.0 c.args.name.1 c.args.text.0 c.args.text.1 c.remove_named-count.ensures.gone c.store_form.ensures.stored in
+    let is = redefined s c.remove_found-count.new.space c.store_form.new.space rest c.args.name.0 c.args.name.1 c.args.text.0 c.args.text.1 c.remove_found-count.ensures.gone c.store_form.ensures.stored in
     let there : length c.store_form.new.space.store ≡ length (flat_forms all) = ap (λ (w : Lists). length w.store) is in
     let size = length-new_form s.neutral c.args.name.0 c.args.name.1 c.args.text.0 c.args.text.1 name_in text_in in
     let more = sum_by_push form_cells rest form in
@@ -189,13 +189,13 @@ overflow_add-self c =
     let form = new_form s.neutral c.args.name.0 c.args.name.1 c.args.text.0 c.args.text.1 in
     let rest = without name forms in
     let fewer = cells-without name forms in
-    let gone = c.remove_named-count.ensures.gone in
-    let is = redefined s c.remove_named-count.new.space c.store_form.new.space rest c.args.name.0 c.args.name.1 c.args.text.0 c.args.text.1 gone c.store_form.ensures.stored in
-    omega (arith, c.remove_named-count.ensures.count, count-le rest, length-flat rest, length-flat forms, ap length h.whole, h.bounded)
+    let gone = c.remove_found-count.ensures.gone in
+    let is = redefined s c.remove_found-count.new.space c.store_form.new.space rest c.args.name.0 c.args.name.1 c.args.text.0 c.args.text.1 gone c.store_form.ensures.stored in
+    omega (arith, c.remove_found-count.ensures.count, count-le rest, length-flat rest, length-flat forms, ap length h.whole, h.bounded)
 
 pub invariant_of-self : goal.invariant_of-self
 invariant_of-self c =
-    defined-stored c.self.inside.space c.remove_named-count.new.space c.store_form.new.space c.index_form.new.space c.self.inside.count c.self.inside.last c.self.inside.start c.args.name.0 c.args.name.1 c.args.text.0 c.args.text.1 c.remove_named-count.result c.store_len-start.result c.self.invariant (rw (← c.self.view_is) at c.requires.name_part.within) (rw (← c.self.view_is) at c.requires.text_part.within) (omega (arith, c.free-free.ensures)) c.remove_named-count.ensures.gone c.remove_named-count.ensures.count c.store_len-start.ensures c.store_form.ensures.stored (indexed c.self.inside.space c.remove_named-count.new.space c.store_form.new.space c.args.name c.args.text.0 c.args.text.1 c.remove_named-count.result c.index_form.new.space.spare c.remove_named-count.ensures.gone c.store_form.ensures.stored c.remove_named-count.ensures.count c.index_form.ensures.index) c.index_form.ensures.same
+    defined-stored c.self.inside.space c.remove_found-count.new.space c.store_form.new.space c.index_form.new.space c.self.inside.count c.self.inside.last c.self.inside.start c.args.name.0 c.args.name.1 c.args.text.0 c.args.text.1 c.remove_found-count.result c.store_len-start.result c.self.invariant (rw (← c.self.view_is) at c.requires.name_part.within) (rw (← c.self.view_is) at c.requires.text_part.within) (omega (arith, c.free-free.ensures)) c.remove_found-count.ensures.gone c.remove_found-count.ensures.count c.store_len-start.ensures c.store_form.ensures.stored (indexed c.self.inside.space c.remove_found-count.new.space c.store_form.new.space c.args.name c.args.text.0 c.args.text.1 c.remove_found-count.result c.index_form.new.space.spare c.remove_found-count.ensures.gone c.store_form.ensures.stored c.remove_found-count.ensures.count c.index_form.ensures.index) c.index_form.ensures.same
 
 pub returns-clause-full : goal.returns-clause-full
 returns-clause-full c =
@@ -220,11 +220,11 @@ returns-clause-ok c =
     let form = new_form s.neutral c.args.name.0 c.args.name.1 c.args.text.0 c.args.text.1 in
     let rest = without name forms in
     let fewer = cells-without name forms in
-    let gone = c.remove_named-count.ensures.gone in
-    let is = redefined s c.remove_named-count.new.space c.store_form.new.space rest c.args.name.0 c.args.name.1 c.args.text.0 c.args.text.1 gone c.store_form.ensures.stored in
+    let gone = c.remove_found-count.ensures.gone in
+    let is = redefined s c.remove_found-count.new.space c.store_form.new.space rest c.args.name.0 c.args.name.1 c.args.text.0 c.args.text.1 gone c.store_form.ensures.stored in
     rw (← c.self.view_is) (shown-restored _ s _ (defined name text forms) (c.index_form.ensures.same ∙ ap (λ (w : Lists). record w { spare = c.index_form.new.space.spare }) is))
 
 pub returns-clause-sound : goal.returns-clause-sound
 returns-clause-sound c =
-    let stored = defined-stored c.self.inside.space c.remove_named-count.new.space c.store_form.new.space c.index_form.new.space c.self.inside.count c.self.inside.last c.self.inside.start c.args.name.0 c.args.name.1 c.args.text.0 c.args.text.1 c.remove_named-count.result c.store_len-start.result c.self.invariant (rw (← c.self.view_is) at c.requires.name_part.within) (rw (← c.self.view_is) at c.requires.text_part.within) (omega (arith, c.free-free.ensures)) c.remove_named-count.ensures.gone c.remove_named-count.ensures.count c.store_len-start.ensures c.store_form.ensures.stored (indexed c.self.inside.space c.remove_named-count.new.space c.store_form.new.space c.args.name c.args.text.0 c.args.text.1 c.remove_named-count.result c.index_form.new.space.spare c.remove_named-count.ensures.gone c.store_form.ensures.stored c.remove_named-count.ensures.count c.index_form.ensures.index) c.index_form.ensures.same in
+    let stored = defined-stored c.self.inside.space c.remove_found-count.new.space c.store_form.new.space c.index_form.new.space c.self.inside.count c.self.inside.last c.self.inside.start c.args.name.0 c.args.name.1 c.args.text.0 c.args.text.1 c.remove_found-count.result c.store_len-start.result c.self.invariant (rw (← c.self.view_is) at c.requires.name_part.within) (rw (← c.self.view_is) at c.requires.text_part.within) (omega (arith, c.free-free.ensures)) c.remove_found-count.ensures.gone c.remove_found-count.ensures.count c.store_len-start.ensures c.store_form.ensures.stored (indexed c.self.inside.space c.remove_found-count.new.space c.store_form.new.space c.args.name c.args.text.0 c.args.text.1 c.remove_found-count.result c.index_form.new.space.spare c.remove_found-count.ensures.gone c.store_form.ensures.stored c.remove_found-count.ensures.count c.index_form.ensures.index) c.index_form.ensures.same in
     stored.sound

@@ -1,0 +1,39 @@
+use Rattle.std.proofs.Common.{◌≡◌, ◌+◌, ◌-◌, ◌<◌, ◌≤◌, length, ap, ◌∙◌, arith}
+use Rattle.trac_forms.specs.Contents.{IsSound, part_text}
+use Rattle.trac_forms.specs.Stored.{forms_in, IsFoundAt}
+use Rattle.trac_forms.proofs.FlatLemmas.{count-le, used-stored}
+use Rattle.trac_forms.proofs.Places.{stands}
+use Rattle.trac_forms.proofs.Stores.{defined-last}
+use Rattle.trac_forms.proofs.work.Work.replace_last.Goals as goal
+
+pub overflow_add-k : goal.overflow_add-k
+overflow_add-k c =
+    let s = c.self.inside.space in
+    let h = c.self.invariant in
+    let found = rw c.in-Some.is at c.requires.found in
+    let within = rw (← c.self.view_is) at found.named.within in
+    omega (arith, within, count-le (forms_in s.store), ap length h.whole, h.bounded)
+
+pub write_body-requires-clause-same : goal.write_body-requires-clause-same
+write_body-requires-clause-same c =
+    let s = c.self.inside.space in
+    let h = c.self.invariant in
+    let found = rw c.in-Some.is at c.requires.found in
+    let f = stands (forms_in s.store) s.store c.in-Some.k c.in-Some.start h.whole (rw (← c.self.view_is) at found.named.within) (rw (← c.self.view_is) at found.start_is) in
+    rw (← c.self.view_is) (omega (arith, f.body_len, c.head.ensures, c.if-head-len.false))
+
+pub returns-clause-fits : goal.returns-clause-fits
+returns-clause-fits c = λ _.
+    let s = c.self.inside.space in
+    let h = c.self.invariant in
+    let used = used-stored s h.whole in
+    rw (← c.self.view_is) (omega (arith, used, c.free.ensures, c.if-free-name.false))
+
+pub returns-clause-done : goal.returns-clause-done
+returns-clause-done c =
+    let h = c.self.invariant in
+    let now = c.args.self.now in
+    let found = rw c.in-Some.is at c.requires.found in
+    let sound : IsSound now = rw (← c.self.view_is) h.sound in
+    let last : length now.forms ≤ c.in-Some.k + 1 = rw (← c.self.view_is) (omega (arith, h.count_is, c.if-k-count.false)) in
+    c.write_body.ensures.written ∙ ap (λ forms. record now { forms = forms }) (defined-last (part_text now.neutral c.args.name.0 c.args.name.1) (part_text now.neutral c.args.text.0 c.args.text.1) now.forms c.in-Some.k sound.forms found.named last)

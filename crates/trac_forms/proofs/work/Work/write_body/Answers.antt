@@ -1,0 +1,72 @@
+use Rattle.std.proofs.Common.{◌≡◌, ◌+◌, ◌-◌, ◌<◌, length, ap, arith}
+use Rattle.std.proofs.lemmas.List.{length-append, length-set, length-take-le, length-drop}
+use Rattle.std.proofs.lemmas.List.Edits.{length-between}
+use Rattle.trac_space.specs.declared.cell.Cell.TheVariants.{Head}
+use Rattle.trac_space.specs.Lists.{Lists}
+use Rattle.trac_forms.specs.Contents.{IsTextPart}
+use Rattle.trac_forms.specs.Stored.{forms_in}
+use Rattle.trac_forms.proofs.Places.{stands, Stands}
+use Rattle.trac_forms.proofs.Strings.{shown-restored}
+use Rattle.trac_forms.proofs.StoreChanges.{rewritten-stored, written-long}
+use Rattle.trac_forms.proofs.work.Work.write_body.Goals as goal
+
+pub overflow_add-body : goal.overflow_add-body
+overflow_add-body c =
+    let s = c.self.inside.space in
+    let f = stands (forms_in s.store) s.store c.args.k c.args.start c.self.invariant.whole (rw (← c.self.view_is) at c.requires.known) (rw (← c.self.view_is) at c.requires.begins) in
+    omega (arith, f.end, c.self.invariant.bounded)
+
+pub overflow_add-body-2 : goal.overflow_add-body-2
+overflow_add-body-2 c =
+    let s = c.self.inside.space in
+    let f = stands (forms_in s.store) s.store c.args.k c.args.start c.self.invariant.whole (rw (← c.self.view_is) at c.requires.known) (rw (← c.self.view_is) at c.requires.begins) in
+    omega (arith, f.end, f.name_len, c.head-name.ensures, c.self.invariant.bounded)
+
+pub write_part-requires-clause-inside : goal.write_part-requires-clause-inside
+write_part-requires-clause-inside c =
+    let s = c.self.inside.space in
+    let f = stands (forms_in s.store) s.store c.args.k c.args.start c.self.invariant.whole (rw (← c.self.view_is) at c.requires.known) (rw (← c.self.view_is) at c.requires.begins) in
+    omega (arith, f.end, f.name_len, c.head-name.ensures, rw (← c.self.view_is) at c.requires.same)
+
+pub overflow_add-start : goal.overflow_add-start
+overflow_add-start c =
+    let s = c.self.inside.space in
+    let f = stands (forms_in s.store) s.store c.args.k c.args.start c.self.invariant.whole (rw (← c.self.view_is) at c.requires.known) (rw (← c.self.view_is) at c.requires.begins) in
+    omega (arith, f.end, c.self.invariant.bounded)
+
+pub write_store-requires-clause-within : goal.write_store-requires-clause-within
+write_store-requires-clause-within c =
+    let s = c.self.inside.space in
+    let f = stands (forms_in s.store) s.store c.args.k c.args.start c.self.invariant.whole (rw (← c.self.view_is) at c.requires.known) (rw (← c.self.view_is) at c.requires.begins) in
+    let long = written-long s c.write_part.new.self (c.args.start + 3 + c.head-name.result) c.args.text.0 c.args.text.1 (rw (← c.self.view_is) at c.requires.text_part.within) (omega (arith, f.end, f.name_len, c.head-name.ensures, rw (← c.self.view_is) at c.requires.same)) c.write_part.ensures in
+    omega (arith, long, f.end)
+
+pub overflow_add-start-2 : goal.overflow_add-start-2
+overflow_add-start-2 c =
+    let s = c.self.inside.space in
+    let f = stands (forms_in s.store) s.store c.args.k c.args.start c.self.invariant.whole (rw (← c.self.view_is) at c.requires.known) (rw (← c.self.view_is) at c.requires.begins) in
+    omega (arith, f.end, c.self.invariant.bounded)
+
+pub write_store-requires-2-clause-within : goal.write_store-requires-2-clause-within
+write_store-requires-2-clause-within c =
+    let s = c.self.inside.space in
+    let f = stands (forms_in s.store) s.store c.args.k c.args.start c.self.invariant.whole (rw (← c.self.view_is) at c.requires.known) (rw (← c.self.view_is) at c.requires.begins) in
+    let long = written-long s c.write_part.new.self (c.args.start + 3 + c.head-name.result) c.args.text.0 c.args.text.1 (rw (← c.self.view_is) at c.requires.text_part.within) (omega (arith, f.end, f.name_len, c.head-name.ensures, rw (← c.self.view_is) at c.requires.same)) c.write_part.ensures in
+    omega (arith, long, f.end, ap (λ (w : Lists). length w.store) c.write_store.ensures, length-set c.write_part.new.self.store (c.args.start + 1) (Head (c.args.text.1 - c.args.text.0)))
+
+pub invariant_of-self : goal.invariant_of-self
+invariant_of-self c =
+    let s = c.self.inside.space in
+    let f = stands (forms_in s.store) s.store c.args.k c.args.start c.self.invariant.whole (rw (← c.self.view_is) at c.requires.known) (rw (← c.self.view_is) at c.requires.begins) in
+    (rewritten-stored s c.write_part.new.self c.write_store.new.self c.write_store-2.new.self c.self.inside.count c.self.inside.last c.self.inside.start c.args.k c.args.start (c.args.start + 3 + c.head-name.result) c.args.text.0 c.args.text.1 c.self.invariant (rw (← c.self.view_is) at c.requires.known) (rw (← c.self.view_is) at c.requires.begins) (ap (λ n. c.args.start + 3 + n) c.head-name.ensures) (rw (← c.self.view_is) at c.requires.text_part) (rw (← c.self.view_is) at c.requires.same) c.write_part.ensures c.write_store.ensures c.write_store-2.ensures).1
+
+pub returns-clause-written : goal.returns-clause-written
+returns-clause-written c =
+    let s = c.self.inside.space in
+    let is = (rewritten-stored s c.write_part.new.self c.write_store.new.self c.write_store-2.new.self c.self.inside.count c.self.inside.last c.self.inside.start c.args.k c.args.start (c.args.start + 3 + c.head-name.result) c.args.text.0 c.args.text.1 c.self.invariant (rw (← c.self.view_is) at c.requires.known) (rw (← c.self.view_is) at c.requires.begins) (ap (λ n. c.args.start + 3 + n) c.head-name.ensures) (rw (← c.self.view_is) at c.requires.text_part) (rw (← c.self.view_is) at c.requires.same) c.write_part.ensures c.write_store.ensures c.write_store-2.ensures).0 in
+    rw (← c.self.view_is) (shown-restored _ s _ _ is)
+
+pub returns-clause-sound : goal.returns-clause-sound
+returns-clause-sound c =
+    let s = c.self.inside.space in
+    (rewritten-stored s c.write_part.new.self c.write_store.new.self c.write_store-2.new.self c.self.inside.count c.self.inside.last c.self.inside.start c.args.k c.args.start (c.args.start + 3 + c.head-name.result) c.args.text.0 c.args.text.1 c.self.invariant (rw (← c.self.view_is) at c.requires.known) (rw (← c.self.view_is) at c.requires.begins) (ap (λ n. c.args.start + 3 + n) c.head-name.ensures) (rw (← c.self.view_is) at c.requires.text_part) (rw (← c.self.view_is) at c.requires.same) c.write_part.ensures c.write_store.ensures c.write_store-2.ensures).1.sound

@@ -1,0 +1,10 @@
+use Rattle.std.proofs.Common.{◌≡◌, ◌∙◌, arith}
+use Rattle.std.specs.Char.{to_ascii_lowercase}
+use Rattle.std.proofs.lemmas.List.FromFn.{get_or-map-range_with_len}
+use Rattle.trac_space.specs.Texts.{character_of}
+use Rattle.trac_functions.proofs.function.lower.Goals as goal
+
+pub returns : goal.returns
+returns c =
+    let same : c.from.result ≡ character_of c.args.cell.now = c.from.ensures ∙ c.character_of.ensures in
+    get_or-map-range_with_len to_ascii_lowercase 0 256 c.from.result (character_of c.args.cell.now) 0 (omega (arith, c.from.ensures)) (omega (arith, same))
