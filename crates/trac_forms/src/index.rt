@@ -327,6 +327,21 @@ fn index_all(space: &mut Space, count: u32, cells: u32)
     ensures index { IsIndexed space.new.spare (forms_in space.old.store) }
 {
     space.take_spare(cells);
+    index_each(space, count);
+}
+
+// Puts all forms into a table that has none, if there is a table.
+pub(crate) fn index_each(space: &mut Space, count: u32)
+    requires whole { flat_forms (forms_in space.old.store) ≡ space.old.store }
+    requires bounded { length space.old.store ≤ 16777216 }
+    requires count_is { count ≡ length (forms_in space.old.store) }
+    requires none { IsIndexed space.old.spare [] }
+    ensures same { space.new ≡ record space.old { spare = space.new.spare } }
+    ensures index { IsIndexed space.new.spare (forms_in space.old.store) }
+{
+    if space.spare_len() == 0 {
+        return;
+    }
     let mut start = 0;
     for k in 0..count {
         index_form(space, k, start);
@@ -360,30 +375,47 @@ pub(crate) fn index_fitting(space: &mut Space, count: u32)
 // How many looks at a form, or at a slot, making a table costs for each form.
 const COST: u32 = 8;
 
+// Makes a table of the forms in free cells, by which they are found, where searches have cost more
+// since the last one than that does. Nothing else changes, and each call that needs its cells takes
+// them back.
+#[inline]
+pub(crate) fn keep_index(space: &mut Space, count: u32, toil: &mut u32)
+    requires whole { flat_forms (forms_in space.old.store) ≡ space.old.store }
+    requires bounded { length space.old.store ≤ 16777216 }
+    requires count_is { count ≡ length (forms_in space.old.store) }
+    requires index { IsIndexed space.old.spare (forms_in space.old.store) }
+    ensures same { space.new ≡ record space.old { spare = space.new.spare } }
+    ensures index { IsIndexed space.new.spare (forms_in space.old.store) }
+{
+    if count >= MANY && *toil / COST > count {
+        index_worthwhile(space, count, toil);
+    }
+}
+
+// The same, where they have cost more but for the move of active that it takes.
+#[inline(never)]
+fn index_worthwhile(space: &mut Space, count: u32, toil: &mut u32)
+    requires whole { flat_forms (forms_in space.old.store) ≡ space.old.store }
+    requires bounded { length space.old.store ≤ 16777216 }
+    requires count_is { count ≡ length (forms_in space.old.store) }
+    requires index { IsIndexed space.old.spare (forms_in space.old.store) }
+    ensures same { space.new ≡ record space.old { spare = space.new.spare } }
+    ensures index { IsIndexed space.new.spare (forms_in space.old.store) }
+{
+    if (*toil / COST).saturating_sub(count) < space.active_len() / 64 {
+        return;
+    }
+    *toil = 0;
+    index_fitting(space, count);
+}
+
 impl<'a> Work<'a> {
-    // Makes a table of the forms in free cells, by which they are found, where
-    // searches have cost more since the last one than that does. Nothing else
-    // changes, and each call that needs its cells takes them back.
+    // Makes the index of the forms where searches have cost more than that does.
     #[inline]
     pub(crate) fn keep_index(&mut self)
         ensures same { self.new ≡ self.old }
         ensures sound { IsSound self.new }
     {
-        if self.count >= MANY && self.toil / COST > self.count {
-            self.index();
-        }
-    }
-
-    // The same, where they have cost more but for the move of active that it takes.
-    #[inline(never)]
-    fn index(&mut self)
-        ensures same { self.new ≡ self.old }
-        ensures sound { IsSound self.new }
-    {
-        if (self.toil / COST).saturating_sub(self.count) < self.space.active_len() / 64 {
-            return;
-        }
-        self.toil = 0;
-        index_fitting(&mut self.space, self.count);
+        keep_index(&mut self.space, self.count, &mut self.toil);
     }
 }

@@ -126,10 +126,17 @@ pub fn delete_definition(work: &mut Work, mut arguments: Arguments) -> Made
     ensures room { work.new.room ≡ work.old.room }
     ensures sound { IsSound work.new }
 {
-    while !arguments.is_empty() {
-        if let Some(form) = next_form(work, &mut arguments) {
-            work.delete(form);
-        }
+    if arguments.is_empty() {
+        return Made::Value;
+    }
+    let all = arguments;
+    let name = arguments.next(work);
+    if !arguments.is_empty() {
+        work.delete_named(all.from, all.end);
+        return Made::Value;
+    }
+    if let Some(form) = work.find(name.0, name.1) {
+        work.delete(form);
     }
     Made::Value
 }

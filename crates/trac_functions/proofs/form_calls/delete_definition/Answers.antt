@@ -1,85 +1,78 @@
-use Rattle.std.proofs.Common.{◌≡◌, ℕ, ◌<◌, ◌≤◌, ◌∷◌, [], List, length, drop, refl, sym, ap, ◌∙◌, arith}
+use Rattle.std.proofs.Common.{◌≡◌, ℕ, ◌<◌, ◌≤◌, ◌∷◌, [], List, drop, refl, sym, ap, ◌∙◌, subst, arith, false}
 use Rattle.std.specs.List.{remove}
 use Rattle.trac_language.specs.declared.function.Function.TheVariants.{DeleteDefinition}
-use Rattle.trac_language.specs.Form.{Form}
-use Rattle.trac_language.specs.Store.{without}
+use Rattle.trac_language.specs.Text.{Text}
+use Rattle.trac_language.specs.Store.{NoneNamed, without}
 use Rattle.trac_language.specs.State.{Input, argument}
 use Rattle.trac_language.specs.Meaning.{meaning_of, silent}
-use Rattle.trac_forms.specs.Contents.{Contents}
+use Rattle.trac_forms.specs.Contents.{Contents, IsSound, IsNamedAt}
 use Rattle.trac_forms.proofs.Stores.{without-at, without-none}
 use Rattle.trac_functions.specs.declared.arguments.Arguments.{Arguments}
-use Rattle.trac_functions.specs.Calls.{world, texts, texts_from, AreArguments}
+use Rattle.trac_functions.specs.Calls.{world, texts, IsValue}
 use Rattle.trac_functions.proofs.ArgumentLemmas.{none-left}
-use Rattle.trac_functions.proofs.FormLemmas.{null-value, arguments-kept, next-left, fewer-left, only-forms, unnamed, unnamed-none, unnamed-first}
+use Rattle.trac_functions.proofs.FormLemmas.{null-value, next-left, parted, parted-texts, unnamed, unnamed-none, unnamed-first}
 use Rattle.trac_functions.proofs.form_calls.delete_definition.Goals as goal
 
--- one name is taken, and the form that it names left
-module _ (now new : Contents) (a b : Arguments) (are : AreArguments now a) (some : a.from ≤ a.end) (rest : texts now b ≡ drop 1 (texts now a)) (forms : List Form) (is : new ≡ record now { forms = forms }) where
-  neutral : new.neutral ≡ now.neutral
-  neutral = ap (λ (w : Contents). w.neutral) is
-
-  fewer : length (texts new b) < length (texts now a)
-  fewer = omega (arith, fewer-left now a b some rest, ap (λ cells. length (texts_from cells b.from b.end)) neutral)
-
-  leaves : forms ≡ without (argument (texts now a) 0) now.forms → unnamed (texts new b) new.forms ≡ unnamed (texts now a) now.forms
-  leaves gone =
-      ap (λ cells. unnamed (texts_from cells b.from b.end) new.forms) neutral
-      ∙ ap (unnamed (texts now b)) (ap (λ (w : Contents). w.forms) is ∙ gone)
-      ∙ sym (unnamed-first (argument (texts now a) 0) (texts now b) now.forms are.sound.forms)
-      ∙ sym (ap (λ names. unnamed names now.forms) (next-left now a b some rest))
-
-pub loop-arguments-smaller-in-Some : goal.loop-arguments-smaller-in-Some
-loop-arguments-smaller-in-Some c =
-    let now = c.loop-arguments.work in
-    let some : c.loop-arguments.arguments.from ≤ c.loop-arguments.arguments.end = grind (arith, c.is_empty.ensures) in
-    let is = c.delete.ensures.gone ∙ ap (λ (w : Contents). record w { forms = remove w.forms c.in-Some.form.0 }) c.next_form.ensures.same in
-    fewer now c.delete.new.self c.loop-arguments.arguments c.next_form.new.arguments c.loop-arguments.invariant.left some c.next_form.ensures.rest _ is
-
-pub loop-arguments-preserved-in-Some : goal.loop-arguments-preserved-in-Some
-loop-arguments-preserved-in-Some c =
-    let now = c.loop-arguments.work in
-    let new = c.delete.new.self in
-    let i = c.loop-arguments.invariant in
-    let some : c.loop-arguments.arguments.from ≤ c.loop-arguments.arguments.end = grind (arith, c.is_empty.ensures) in
-    let is = c.delete.ensures.gone ∙ ap (λ (w : Contents). record w { forms = remove w.forms c.in-Some.form.0 }) c.next_form.ensures.same in
-    record {
-      left = arguments-kept now new c.next_form.new.arguments c.next_form.ensures.left c.delete.ensures.sound (ap (λ (w : Contents). w.neutral) is);
-      same = only-forms c.args.work.now now new _ i.same is;
-      leaves = leaves now new c.loop-arguments.arguments c.next_form.new.arguments i.left some c.next_form.ensures.rest _ is
-          (sym (without-at _ now.forms c.in-Some.form.0 i.left.sound.forms c.in-Some.ensures.found))
-          ∙ i.leaves;
-    }
-
-pub loop-arguments-smaller : goal.loop-arguments-smaller
-loop-arguments-smaller c =
-    let now = c.loop-arguments.work in
-    let some : c.loop-arguments.arguments.from ≤ c.loop-arguments.arguments.end = grind (arith, c.is_empty.ensures) in
-    fewer now c.next_form.new.work c.loop-arguments.arguments c.next_form.new.arguments c.loop-arguments.invariant.left some c.next_form.ensures.rest now.forms c.next_form.ensures.same
-
-pub loop-arguments-preserved : goal.loop-arguments-preserved
-loop-arguments-preserved c =
-    let now = c.loop-arguments.work in
-    let new = c.next_form.new.work in
-    let i = c.loop-arguments.invariant in
-    let some : c.loop-arguments.arguments.from ≤ c.loop-arguments.arguments.end = grind (arith, c.is_empty.ensures) in
-    let is = c.next_form.ensures.same in
-    record {
-      left = rw is c.next_form.ensures.left;
-      same = only-forms c.args.work.now now new now.forms i.same is;
-      leaves = leaves now new c.loop-arguments.arguments c.next_form.new.arguments i.left some c.next_form.ensures.rest now.forms is
-          (sym (without-none _ now.forms c.in_default.ensures.found))
-          ∙ i.leaves;
-    }
-
-pub returns-clause-makes : goal.returns-clause-makes
+-- what a call means that leaves these forms
+left : (old new : Contents) (ts : List Text) → IsSound old → unnamed ts old.forms ≡ new.forms → new ≡ record old { forms = new.forms } → (name : Text) → (value : Text) × IsValue DeleteDefinition (name ∷ ts) old new false value
 unfolding meaning_of
-returns-clause-makes c = λ name.
-    let old = c.args.work.now in
-    let new = c.loop-arguments.work in
-    let i = c.loop-arguments.invariant in
-    let ts = texts old c.args.arguments in
-    let past : c.loop-arguments.arguments.end < c.loop-arguments.arguments.from = grind (arith, c.is_empty.ensures) in
-    let all : unnamed ts old.forms ≡ new.forms =
-    sym i.leaves ∙ ap (λ names. unnamed names new.forms) (none-left new c.loop-arguments.arguments past) ∙ unnamed-none new.forms in
+left old new ts sound all same name =
     let means = λ (meta : ℕ) (input : Input). ap (λ forms. silent (world forms meta input)) all in
-    ([], null-value DeleteDefinition (name ∷ ts) old new c.requires.sound means (λ _. refl) i.same)
+    ([], null-value DeleteDefinition (name ∷ ts) old new sound means (λ _. refl) same)
+
+-- one argument alone is left
+module _ (old : Contents) (a b : Arguments) (sound : IsSound old) (some : a.from ≤ a.end) (past : b.end < b.from) (rest : texts old b ≡ drop 1 (texts old a)) where
+  one : texts old a ≡ argument (texts old a) 0 ∷ []
+  one = next-left old a b some rest ∙ ap (λ ts. argument (texts old a) 0 ∷ ts) (none-left old b past)
+
+  -- the forms without that of its name
+  leaves : unnamed (texts old a) old.forms ≡ without (argument (texts old a) 0) old.forms
+  leaves =
+      ap (λ ts. unnamed ts old.forms) one
+      ∙ unnamed-first (argument (texts old a) 0) [] old.forms sound.forms
+      ∙ unnamed-none (without (argument (texts old a) 0) old.forms)
+
+pub returns-then-is_empty-clause-makes : goal.returns-then-is_empty-clause-makes
+returns-then-is_empty-clause-makes c =
+    let old = c.args.work.now in
+    let past : c.args.arguments.end < c.args.arguments.from = grind (arith, c.is_empty.ensures) in
+    left old old (texts old c.args.arguments) c.requires.sound (ap (λ ts. unnamed ts old.forms) (none-left old c.args.arguments past) ∙ unnamed-none old.forms) refl
+
+pub delete_named-requires : goal.delete_named-requires
+delete_named-requires c = parted c.args.work.now c.args.arguments c.requires
+
+pub returns-then-not-is_empty-clause-makes : goal.returns-then-not-is_empty-clause-makes
+returns-then-not-is_empty-clause-makes c =
+    let old = c.args.work.now in
+    let new = c.delete_named.new.self in
+    let gone = c.delete_named.ensures.gone in
+    let forms = ap (λ (w : Contents). w.forms) gone in
+    let names = parted-texts old c.args.arguments c.requires in
+    left old new (texts old c.args.arguments) c.requires.sound (ap (λ ts. unnamed ts old.forms) (sym names) ∙ sym forms) (gone ∙ ap (λ fs. record old { forms = fs }) (sym forms))
+
+pub returns-in-Some-clause-makes : goal.returns-in-Some-clause-makes
+returns-in-Some-clause-makes c =
+    let old = c.args.work.now in
+    let new = c.delete.new.self in
+    let k = c.in-Some.form.0 in
+    let some : c.args.arguments.from ≤ c.args.arguments.end = grind (arith, c.is_empty.ensures) in
+    let past : c.next-name.new.self.end < c.next-name.new.self.from = grind (arith, c.is_empty-2.ensures) in
+    let gone : new ≡ record old { forms = remove old.forms k } = c.delete.ensures.gone ∙ ap (λ (w : Contents). record w { forms = remove w.forms k }) c.find.ensures.same in
+    let forms = ap (λ (w : Contents). w.forms) gone in
+    let named : IsNamedAt old.forms (argument (texts old c.args.arguments) 0) k = subst (λ name. IsNamedAt old.forms name k) c.next-name.ensures.text c.in-Some.ensures.found in
+    left old new (texts old c.args.arguments) c.requires.sound
+    (leaves old c.args.arguments c.next-name.new.self c.requires.sound some past c.next-name.ensures.rest ∙ without-at _ old.forms k c.requires.sound.forms named ∙ sym forms)
+    (gone ∙ ap (λ fs. record old { forms = fs }) (sym forms))
+
+pub returns-in_default-clause-makes : goal.returns-in_default-clause-makes
+returns-in_default-clause-makes c =
+    let old = c.args.work.now in
+    let new = c.find.new.self in
+    let same = c.find.ensures.same in
+    let some : c.args.arguments.from ≤ c.args.arguments.end = grind (arith, c.is_empty.ensures) in
+    let past : c.next-name.new.self.end < c.next-name.new.self.from = grind (arith, c.is_empty-2.ensures) in
+    let forms = ap (λ (w : Contents). w.forms) same in
+    let none : NoneNamed (argument (texts old c.args.arguments) 0) old.forms = subst (λ name. NoneNamed name old.forms) c.next-name.ensures.text c.in_default.ensures.found in
+    left old new (texts old c.args.arguments) c.requires.sound
+    (leaves old c.args.arguments c.next-name.new.self c.requires.sound some past c.next-name.ensures.rest ∙ without-none _ old.forms none ∙ sym forms)
+    (same ∙ ap (λ fs. record old { forms = fs }) (sym forms))

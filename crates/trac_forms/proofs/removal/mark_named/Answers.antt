@@ -1,0 +1,41 @@
+use Rattle.std.proofs.Common.{sym, ap, ◌∙◌, arith}
+use Rattle.trac_forms.specs.Contents.{part_text}
+use Rattle.trac_forms.specs.FlatForms.{flat_forms}
+use Rattle.trac_forms.specs.Stored.{forms_in}
+use Rattle.trac_forms.proofs.Places.{stands}
+use Rattle.trac_forms.proofs.Removals.{mark-none, marked-lists}
+use Rattle.trac_forms.proofs.removal.mark_named.Goals as goal
+
+pub overflow_add-start : goal.overflow_add-start
+overflow_add-start c =
+    let s = c.args.space.now in
+    let h = c.requires.formed in
+    let found = c.in-Some.ensures in
+    let f = stands (forms_in s.store) s.store c.in-Some.k c.in-Some.start h.whole found.named.within found.start_is in
+    omega (arith, f.end, h.bounded)
+
+pub write_store-requires-clause-within : goal.write_store-requires-clause-within
+write_store-requires-clause-within c =
+    let s = c.args.space.now in
+    let h = c.requires.formed in
+    let found = c.in-Some.ensures in
+    let f = stands (forms_in s.store) s.store c.in-Some.k c.in-Some.start h.whole found.named.within found.start_is in
+    omega (arith, f.end)
+
+pub returns-in-Some-clause-marked : goal.returns-in-Some-clause-marked
+returns-in-Some-clause-marked c =
+    let s = c.args.space.now in
+    let found = c.in-Some.ensures in
+    (marked-lists s c.write_store.new.self c.args.count c.args.last.0 c.args.last.1 c.in-Some.k c.in-Some.start (part_text s.neutral c.args.name.0 c.args.name.1) c.requires.formed found.named found.start_is c.write_store.ensures).0
+
+pub returns-in-Some-clause-formed : goal.returns-in-Some-clause-formed
+returns-in-Some-clause-formed c =
+    let s = c.args.space.now in
+    let found = c.in-Some.ensures in
+    (marked-lists s c.write_store.new.self c.args.count c.args.last.0 c.args.last.1 c.in-Some.k c.in-Some.start (part_text s.neutral c.args.name.0 c.args.name.1) c.requires.formed found.named found.start_is c.write_store.ensures).1
+
+pub returns-in-None-clause-marked : goal.returns-in-None-clause-marked
+returns-in-None-clause-marked c =
+    let s = c.args.space.now in
+    let none = mark-none (part_text s.neutral c.args.name.0 c.args.name.1) (forms_in s.store) c.in-None.ensures in
+    ap (λ cells. record s { store = cells }) (sym c.requires.formed.whole ∙ ap flat_forms (sym none))
