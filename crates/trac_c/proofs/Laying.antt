@@ -1,5 +1,5 @@
 -- Items that are put into a buffer one after the other.
-use Rattle.std.proofs.Common.{◌≡◌, ℕ, zero, suc, ◌+◌, ◌<◌, ◌≤◌, List, [], ◌∷◌, ◌++◌, length, take, map, min, refl, sym, ap, ◌∙◌, arith, slice_set}
+use Rattle.std.proofs.Common.{◌≡◌, ℕ, zero, suc, ◌+◌, ◌<◌, ◌≤◌, List, [], ◌∷◌, ◌++◌, length, take, drop, map, min, refl, sym, ap, ◌∙◌, arith, slice_set}
 use Rattle.std.proofs.Common.{get_or}
 use Rattle.std.proofs.lemmas.List.{take_more, length-map, map-append}
 use Rattle.std.proofs.Math.Seq.{length-take-le}
@@ -20,43 +20,25 @@ module _ {A : Type 0} where
   laid-behind xs (suc n) [] le = refl
   laid-behind xs (suc n) (y ∷ room) le = ap (λ r. y ∷ r) (laid-behind xs n room (omega arith))
 
-  pub laid-nothing : (n : ℕ) (room : List A) → laid_from n [] room ≡ room
-  laid-nothing zero room = refl
-  laid-nothing (suc n) [] = refl
-  laid-nothing (suc n) (y ∷ room) = ap (λ r. y ∷ r) (laid-nothing n room)
-
   laid-then : (xs ys : List A) (room : List A) → laid_from (length xs) ys (laid xs room) ≡ laid (xs ++ ys) room
   laid-then [] ys room = refl
   laid-then (x ∷ xs) ys [] = refl
   laid-then (x ∷ xs) ys (z ∷ room) = ap (λ r. x ∷ r) (laid-then xs ys room)
 
-  -- items behind items
-  pub laid-more : (n : ℕ) (xs ys : List A) (room : List A) → laid_from (n + length xs) ys (laid_from n xs room) ≡ laid_from n (xs ++ ys) room
-  laid-more zero xs ys room =
-      ap (λ m. laid_from m ys (laid xs room)) (omega arith) ∙ laid-then xs ys room
-  laid-more (suc n) xs ys [] = ap (λ m. laid_from m ys []) (let e : suc n + length xs ≡ suc (n + length xs) = omega arith in e)
-  laid-more (suc n) xs ys (z ∷ room) =
-      let e : suc n + length xs ≡ suc (n + length xs) = omega arith in
-      ap (λ m. laid_from m ys (z ∷ laid_from n xs room)) e ∙ ap (λ r. z ∷ r) (laid-more n xs ys room)
-
-  -- one item more of a list
-  pub laid-one_more : (n i : ℕ) (xs : List A) (d : A) (room : List A) → i < length xs → laid_from (n + i) (get_or xs i d ∷ []) (laid_from n (take i xs) room) ≡ laid_from n (take (i + 1) xs) room
-  laid-one_more n i xs d room lt =
-      let long : length (take i xs) ≡ i = length-take-le i xs (omega arith) in
-      ap (λ m. laid_from (n + m) (get_or xs i d ∷ []) (laid_from n (take i xs) room)) (sym long)
-      ∙ laid-more n (take i xs) (get_or xs i d ∷ []) room
-      ∙ ap (λ l. laid_from n l room) (sym (take_more xs i d lt))
-
   laid-none : (xs : List A) → laid xs [] ≡ []
   laid-none [] = refl
   laid-none (x ∷ xs) = refl
 
-  -- items behind items that were put before
-  pub laid-on : (n m : ℕ) (xs ys : List A) (r r₁ r₂ : List A) → m ≡ n + length xs → r₁ ≡ laid_from n xs r → r₂ ≡ laid_from m ys r₁ → r₂ ≡ laid_from n (xs ++ ys) r
-  laid-on n m xs ys r r₁ r₂ place first then =
-      then ∙ ap (λ k. laid_from k ys r₁) place ∙ ap (λ r. laid_from (n + length xs) ys r) first ∙ laid-more n xs ys r
+  -- the front of a buffer is the front of the items, and the rest as it was
+  pub laid-front : (n : ℕ) (xs room : List A) → n ≡ min (length xs) (length room) → laid xs room ≡ take n xs ++ drop n room
+  laid-front zero [] room least = refl
+  laid-front zero (x ∷ xs) [] least = refl
+  laid-front zero (x ∷ xs) (y ∷ room) least = absurd (omega arith)
+  laid-front (suc n) [] room least = absurd (omega arith)
+  laid-front (suc n) (x ∷ xs) [] least = absurd (omega arith)
+  laid-front (suc n) (x ∷ xs) (y ∷ room) least = ap (λ r. x ∷ r) (laid-front n xs room (omega arith))
 
-  -- the same from the front
+  -- items behind items that were put before
   pub laid-next : (m : ℕ) (xs ys : List A) (r r₁ r₂ : List A) → m ≡ length xs → r₁ ≡ laid xs r → r₂ ≡ laid_from m ys r₁ → r₂ ≡ laid (xs ++ ys) r
   laid-next m xs ys r r₁ r₂ place first then =
       then ∙ ap (λ k. laid_from k ys r₁) place ∙ ap (λ r. laid_from (length xs) ys r) first ∙ laid-then xs ys r

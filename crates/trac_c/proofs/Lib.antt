@@ -8,4 +8,3 @@ mod Listing
 mod Loans
 mod Rooms
 mod SameLoan
-mod Showing

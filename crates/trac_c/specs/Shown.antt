@@ -1,10 +1,10 @@
 -- What C sees of a form.
-use Rattle.std.specs.Prelude.{ℕ, ◌+◌, min, List, [], ◌∷◌, map, Option, Some, None}
+use Rattle.std.specs.Prelude.{ℕ, ◌+◌, min, List, [], map, Option, Some, None}
 use Rattle.trac_language.specs.declared.item.Item.{Item}
 use Rattle.trac_language.specs.declared.item.Item.TheVariants.{Byte, Gap}
 use Rattle.trac_language.specs.Text.{Text}
 use Rattle.trac_language.specs.Form.{Form}
-use Rattle.trac_language.specs.Meaning.{show, show_form}
+use Rattle.trac_language.specs.Meaning.{show_form}
 
 -- the name of a form, null where there is none
 abbrev pub name_of : Option Form → Text
@@ -35,8 +35,3 @@ codes_of (Some form) = map item_code form.body
 abbrev pub pointer_of : Option Form → ℕ
 pointer_of None = 0
 pointer_of (Some form) = form.pointer
-
--- what an item displays, if there is one
-abbrev pub shown : Option Item → Text
-shown None = []
-shown (Some item) = show (item ∷ [])

@@ -1,6 +1,8 @@
 //! Buffers of a caller's, filled from the front as far as they reach.
-ghost use Rattle.std.specs.Prelude.{◌≡◌, ◌+◌, ◌≤◌, ◌^◌, [], ◌∷◌, length};
+ghost use Rattle.std.specs.Prelude.{◌≡◌, ◌+◌, ◌^◌, ◌<◌, ◌≤◌, [], ◌∷◌, length, take};
 ghost use Rattle.trac_c.specs.Laid.{laid_from};
+
+use trac_core::{Sink, SinkFailed};
 
 /// Puts an item to a place of a buffer. Behind the end of the buffer nothing is done.
 pub(crate) fn put<T: Copy>(item: T, place: usize, room: &mut [T])
@@ -11,14 +13,59 @@ pub(crate) fn put<T: Copy>(item: T, place: usize, room: &mut [T])
     }
 }
 
-/// Puts a text to a place of a buffer, as much of it as fits, and gives the place behind it.
-pub(crate) fn put_text(text: &[u8], place: usize, room: &mut [u8]) -> usize
-    requires { place ≤ 2 ^ 60 }
-    ensures place { result ≡ place + length text.now }
-    ensures laid { room.new ≡ laid_from place text.now room.old }
-{
-    for i in 0..text.len() {
-        put(text[i], place + i, room);
+/// A sink over a buffer. It fails only where that is full.
+#[derive(Drop)]
+pub(crate) struct FillingSink<'a> {
+    room: &'a mut [u8],
+    len: usize,
+    failures: u64,
+    ghost within: { len ≤ length room.now },
+    ghost full: { 0 < failures → length room.now ≤ len },
+}
+
+impl<'a> FillingSink<'a> {
+    /// A sink over this buffer, to which nothing was written.
+    pub(crate) fn new(room: &'a mut [u8]) -> FillingSink<'a>
+        ensures same_room { result.room.ghost_name ≡ room.entry.ghost_name }
+        ensures as_it_was { result.room.now ≡ room.old }
+        ensures empty { result.len ≡ 0 }
+        ensures none_failed { result.failures ≡ 0 }
+    {
+        FillingSink {
+            room,
+            len: 0,
+            failures: 0,
+        }
     }
-    place + text.len()
+}
+
+impl Sink for FillingSink<'_> {
+    ghost tells = { λ _. Unit {0} };
+
+    ghost written = { λ s. take s.len s.room.now };
+
+    ghost flushed = { λ _. Unit {0} };
+
+    ghost failure_count = { λ s. s.failures };
+
+    ghost lent = { λ s. s.room.ghost_name };
+
+    fn put(&mut self, byte: u8) -> Result<(), SinkFailed> {
+        if self.len < self.room.len() {
+            self.room[self.len] = byte;
+            self.len += 1;
+            Ok(())
+        } else {
+            self.failures += 1;
+            Err(SinkFailed)
+        }
+    }
+
+    fn flush(&mut self) -> Result<(), SinkFailed> {
+        Ok(())
+    }
+
+    fn failures(&self) -> u64 {
+        self.failures
+    }
 }

@@ -1,15 +1,13 @@
 //! The forms of a machine, one after the other: names, bodies and displays.
-ghost use Rattle.std.specs.Prelude.{◌≡◌, ◌+◌, ◌*◌, ◌≤◌, ◌^◌, [], ◌∷◌, length, map};
-ghost use Rattle.std.specs.Prelude.{◌-◌, slice_get, slice_range};
-ghost use Rattle.trac_language.specs.Meaning.{show, show_form};
+ghost use Rattle.std.specs.Prelude.{◌≡◌, ◌≤◌, length, map, slice_get, take};
+ghost use Rattle.trac_language.specs.Meaning.{show_form};
 ghost use Rattle.trac_space.specs.Texts.{text_of_cells};
-ghost use Rattle.trac_c.specs.Laid.{Lays, laid, laid_from};
+ghost use Rattle.trac_c.specs.Laid.{Lays, laid};
 ghost use Rattle.trac_c.specs.Shown.{item_code, code_of, name_of, display_of, codes_of};
-ghost use Rattle.trac_c.specs.Shown.{pointer_of, shown};
+ghost use Rattle.trac_c.specs.Shown.{pointer_of};
 
-use crate::filling::{put, put_text};
-use itoa::Buffer;
-use trac_core::{Cell, Item, Machine, StoredForm};
+use crate::filling::{FillingSink, put};
+use trac_core::{Cell, Item, Machine, StoredForm, display_len, show_form};
 use trac_space::character_of;
 
 /// The form at place `k`, from 0, in the order of definition. None where it has no such place.
@@ -45,7 +43,7 @@ pub(crate) fn lay_display(machine: &mut Machine<'static>, k: usize, room: &mut [
         (machine.new ≡ machine.old) }
 {
     match form_at(machine, k) {
-        Some(form) => show_form(&form, room),
+        Some(form) => lay_shown(&form, room),
         None => 0,
     }
 }
@@ -114,60 +112,21 @@ fn item_code(item: Option<Item>) -> u32
 }
 
 /// Puts the display of a form to the front of a buffer, as much as fits, and gives its length.
-fn show_form(form: &StoredForm, room: &mut [u8]) -> usize
+fn lay_shown(form: &StoredForm, room: &mut [u8]) -> usize
     ensures length { result ≡ length (show_form form.now) }
     ensures laid { room.new ≡ laid (show_form form.now) room.old }
 {
-    let pointer = form.pointer();
-    let before = show_items(form, (0, pointer), 0, room);
-    let middle = put_text(b"<^>", before, room);
-    show_items(form, (pointer, form.body_len()), middle, room)
+    let len = display_len(form) as usize;
+    let fitting = len.min(room.len());
+    fill_with(form, &mut room[..fitting]);
+    len
 }
 
-/// Puts the display of the items of a form from a place up to another to a place of a buffer, and
-/// gives the place behind it.
-fn show_items(form: &StoredForm, part: (u32, u32), place: usize, room: &mut [u8]) -> usize
-    requires order { part.0 ≤ part.1 }
-    requires within { part.1 ≤ length form.now.body }
-    requires bounded { place ≤ 2 ^ 40 }
-    ensures place { result ≡ place + length (show (slice_range form.now.body part.0 part.1)) }
-    ensures laid { let text = show (slice_range form.now.body part.0 part.1) in
-        room.new ≡ laid_from place text room.old }
-    ensures bounded { result ≤ place + 12 * (part.1 - part.0) }
+/// Fills a buffer with the display of a form, which is no shorter, as far as it reaches.
+fn fill_with(form: &StoredForm, room: &mut [u8])
+    requires { length room.old ≤ length (show_form form.now) }
+    ensures { room.new ≡ take (length room.old) (show_form form.now) }
 {
-    let mut end = place;
-    for i in part.0..part.1 {
-        end = show_item(form.item(i), end, room);
-    }
-    end
-}
-
-/// Puts the display of an item to a place of a buffer, and gives the place behind it.
-fn show_item(item: Option<Item>, place: usize, room: &mut [u8]) -> usize
-    requires { place ≤ 2 ^ 50 }
-    ensures place { result ≡ place + length (shown item) }
-    ensures laid { room.new ≡ laid_from place (shown item) room.old }
-    ensures short { result ≤ place + 12 }
-{
-    match item {
-        Some(Item::Byte(byte)) => {
-            put(byte, place, room);
-            place + 1
-        }
-        Some(Item::Gap(ordinal)) => show_gap(ordinal, place, room),
-        None => place,
-    }
-}
-
-/// Puts an ordinal in angle brackets to a place of a buffer, and gives the place behind it.
-fn show_gap(ordinal: u32, place: usize, room: &mut [u8]) -> usize
-    requires { place ≤ 2 ^ 50 }
-    ensures place { result ≡ place + length (show (Item.Gap ordinal ∷ [])) }
-    ensures laid { room.new ≡ laid_from place (show (Item.Gap ordinal ∷ [])) room.old }
-    ensures short { result ≤ place + 12 }
-{
-    let mut buffer = Buffer::new();
-    let opened = put_text(b"<", place, room);
-    let named = put_text(buffer.format(ordinal).as_bytes(), opened, room);
-    put_text(b">", named, room)
+    let mut sink = FillingSink::new(room);
+    let _ = show_form(form, &mut sink);
 }

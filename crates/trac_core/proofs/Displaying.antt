@@ -1,8 +1,9 @@
 -- The display of a form.
-use Rattle.std.proofs.Common.{◌≡◌, ◌≢◌, ℕ, ◌+◌, ◌-◌, ◌<◌, ◌≤◌, false, List, [], ◌∷◌, ◌++◌, length, take, drop, slice_range, Option, Some, None, refl, sym, ap, ◌∙◌, subst, arith, append_assoc, append-nil}
+use Rattle.std.proofs.Common.{◌≡◌, ◌≢◌, ℕ, ◌+◌, ◌-◌, ◌<◌, ◌≤◌, false, List, [], ◌∷◌, ◌++◌, length, take, drop, slice_get, slice_range, Option, Some, None, refl, sym, ap, ◌∙◌, subst, arith, append_assoc, append-nil}
 use Rattle.std.specs.Prelude.{Result, Ok, Err, OnErr, codes, decimal}
 use Rattle.std.proofs.Math.Seq.{take-add, drop-cons}
 use Rattle.std.proofs.lemmas.List.{take-append-drop, drop-drop, take_rest, length-append}
+use Rattle.std.proofs.lemmas.Option.{slice_get-get_or}
 use Rattle.trac_language.specs.declared.item.Item.{Item}
 use Rattle.trac_language.specs.declared.item.Item.TheVariants.{Byte, Gap}
 use Rattle.trac_language.specs.declared.function.Function.TheVariants.{PrintForm}
@@ -12,7 +13,6 @@ use Rattle.trac_language.specs.Form.{Form, before_pointer, after_pointer}
 use Rattle.trac_language.specs.Store.{form_named}
 use Rattle.trac_language.specs.State.{argument}
 use Rattle.trac_language.specs.Meaning.{World, on_form, printing, show, show_form, meaning_of, value_length}
-use Rattle.trac_forms.specs.Search.{item_at}
 use Rattle.trac_forms.specs.Contents.{Contents, used}
 use Rattle.trac_devices.specs.Devices.{Stream, Breaks, Prints}
 use Rattle.trac_functions.specs.Flat.{mode_at, arguments_at}
@@ -20,7 +20,7 @@ use Rattle.trac_functions.specs.Calls.{world}
 use Rattle.trac_core.specs.Machine.{ending}
 use Rattle.trac_functions.specs.declared.arguments.Made.TheVariants.{Defined, Over}
 use Rattle.trac_core.specs.Attempts.{scene, IsCall, AnswersCall}
-use Rattle.trac_core.specs.Display.{display}
+use Rattle.trac_core.specs.Display.{display, shown}
 use Rattle.trac_core.proofs.Performing.{closed, delivered-null, tried-answer, tried-broken}
 
 pub show-append : (xs ys : List Item) → show (xs ++ ys) ≡ show xs ++ show ys
@@ -65,37 +65,36 @@ range-split body a b c ab bc =
     ∙ take-add (b - a) (c - b) (drop a body)
     ∙ ap (λ t. slice_range body a b ++ take (c - b) t) (drop-drop (b - a) a body ∙ ap (λ n. drop n body) (omega arith))
 
-range-one : (body : List Item) (k : ℕ) → k < length body → slice_range body k (k + 1) ≡ item_at body k ∷ []
-range-one body k lt =
+show-one : (body : List Item) (k : ℕ) → k < length body → show (slice_range body k (k + 1)) ≡ shown (slice_get body k)
+show-one body k lt =
     let one : (k + 1) - k ≡ 1 = omega arith in
-    ap (λ n. take n (drop k body)) one ∙ ap (take 1) (drop-cons body k (Byte 0) lt)
+    ap (λ n. show (take n (drop k body))) one ∙ ap (λ items. show (take 1 items)) (drop-cons body k (Byte 0) lt)
+    ∙ ap shown (sym (slice_get-get_or body k (Byte 0) lt))
 
 show-split : (body : List Item) (a b c : ℕ) → a ≤ b → b ≤ c → show (slice_range body a c) ≡ show (slice_range body a b) ++ show (slice_range body b c)
 show-split body a b c ab bc = ap show (range-split body a b c ab bc) ∙ show-append (slice_range body a b) (slice_range body b c)
 
-show-more : (body : List Item) (from place : ℕ) → from ≤ place → place < length body → show (slice_range body from (place + 1)) ≡ show (slice_range body from place) ++ show (item_at body place ∷ [])
-show-more body from place le lt =
-    show-split body from place (place + 1) le (omega arith)
-    ∙ ap (λ items. show (slice_range body from place) ++ show items) (range-one body place lt)
-
 -- one more item was displayed
-pub displays-more : (old mid new : Text) (body : List Item) (from place : ℕ) (item : Item) → from ≤ place → place < length body → item ≡ item_at body place → mid ≡ old ++ show (slice_range body from place) → new ≡ mid ++ show (item ∷ []) → new ≡ old ++ show (slice_range body from (place + 1))
-displays-more old mid new body from place item le lt is first then_ =
-    then_
-    ∙ ap (λ t. t ++ show (item ∷ [])) first
-    ∙ append_assoc old (show (slice_range body from place)) (show (item ∷ []))
-    ∙ ap (λ t. old ++ t) (ap (λ item. show (slice_range body from place) ++ show (item ∷ [])) is ∙ sym (show-more body from place le lt))
+module _ (old mid new : Text) (body : List Item) (from place : ℕ) (item : Option Item) (order : from ≤ place) (is : item ≡ slice_get body place) (first : mid ≡ old ++ show (slice_range body from place)) where
+  show-more : place < length body → show (slice_range body from (place + 1)) ≡ show (slice_range body from place) ++ shown item
+  show-more within =
+      show-split body from place (place + 1) order (omega arith)
+      ∙ ap (λ text. show (slice_range body from place) ++ text) (show-one body place within ∙ ap shown (sym is))
 
--- the display of an item was broken off
-pub displays-broken : (old mid new : Text) (body : List Item) (from place to : ℕ) (item : Item) → from ≤ place → place < to → to ≤ length body → item ≡ item_at body place → mid ≡ old ++ show (slice_range body from place) → Breaks mid (show (item ∷ [])) new → Breaks old (show (slice_range body from to)) new
-displays-broken old mid new body from place to item le lt within is first p =
-    let rest = show (slice_range body (place + 1) to) in
-    let whole : show (slice_range body from to) ≡ show (slice_range body from place) ++ (show (item ∷ []) ++ rest) =
-    show-split body from (place + 1) to (omega arith) (omega arith)
-    ∙ ap (λ t. t ++ rest) (show-more body from place le (omega arith) ∙ ap (λ item. show (slice_range body from place) ++ show (item ∷ [])) (sym is))
-    ∙ append_assoc (show (slice_range body from place)) (show (item ∷ [])) rest in
-    subst (λ t. Breaks old t new) (sym whole)
-    (breaks-then old mid new (show (slice_range body from place)) (show (item ∷ []) ++ rest) first (breaks-off mid new (show (item ∷ [])) rest p))
+  pub displays-more : place < length body → new ≡ mid ++ shown item → new ≡ old ++ show (slice_range body from (place + 1))
+  displays-more within more =
+      more ∙ ap (λ t. t ++ shown item) first ∙ append_assoc old (show (slice_range body from place)) (shown item)
+      ∙ ap (λ t. old ++ t) (sym (show-more within))
+
+  -- or its display was broken off
+  pub displays-broken : (to : ℕ) → place < to → to ≤ length body → Breaks mid (shown item) new → Breaks old (show (slice_range body from to)) new
+  displays-broken to less within broke =
+      let rest = show (slice_range body (place + 1) to) in
+      let whole : show (slice_range body from to) ≡ show (slice_range body from place) ++ (shown item ++ rest) =
+      show-split body from (place + 1) to (omega arith) (omega arith)
+      ∙ ap (λ t. t ++ rest) (show-more (omega arith)) ∙ append_assoc (show (slice_range body from place)) (shown item) rest in
+      subst (λ t. Breaks old t new) (sym whole)
+      (breaks-then old mid new (show (slice_range body from place)) (shown item ++ rest) first (breaks-off mid new (shown item) rest broke))
 
 -- ---- forms
 

@@ -1,8 +1,9 @@
 -- What a step prints, and how long it is.
-use Rattle.std.proofs.Common.{◌≡◌, ◌≢◌, ℕ, ◌+◌, ◌-◌, ◌<◌, Bool, true, false, List, [], ◌∷◌, ◌++◌, length, take, drop, slice_range, slice_get, Option, Some, None, refl, sym, ap, ◌∙◌, arith}
+use Rattle.std.proofs.Common.{◌≡◌, ◌≢◌, ℕ, ◌+◌, ◌-◌, ◌<◌, Bool, true, false, List, [], ◌∷◌, ◌++◌, length, take, drop, slice_range, slice_get, get_or, Option, Some, None, refl, sym, ap, ◌∙◌, arith}
 use Rattle.std.specs.Prelude.{codes, ℤ}
 use Rattle.std.proofs.lemmas.List.{length-append, length-map, take-append-drop, take_more}
 use Rattle.std.proofs.lemmas.List.Edits.{length-between}
+use Rattle.std.proofs.lemmas.Option.{slice_get-get_or}
 use Rattle.trac_language.specs.declared.mode.Mode.{Mode}
 use Rattle.trac_language.specs.declared.item.Item.{Item}
 use Rattle.trac_language.specs.declared.item.Item.TheVariants.{Byte}
@@ -18,26 +19,25 @@ use Rattle.trac_language.specs.Step.{function_of, world_of, perform, end_call, f
 use Rattle.trac_space.specs.declared.cell.Cell.{Cell}
 use Rattle.trac_space.specs.Calls.{IsLastCall}
 use Rattle.trac_space.specs.Texts.{text_of_cells, character_of}
-use Rattle.trac_forms.specs.Search.{item_at}
 use Rattle.trac_forms.specs.Contents.{Contents, IsTextPart, IsSound, part_text}
 use Rattle.trac_functions.specs.Flat.{memory_of, mode_at, arguments_at}
 use Rattle.trac_functions.specs.Calls.{world}
 use Rattle.trac_core.specs.Machine.{state_with}
 use Rattle.trac_core.specs.Performed.{performed_by, performs, prints_output}
 use Rattle.trac_core.specs.Attempts.{function_at}
-use Rattle.trac_core.specs.Display.{display}
+use Rattle.trac_core.specs.Display.{display, shown}
 use Rattle.trac_core.specs.Session.{printed_in, output_after, step_prints}
 use Rattle.trac_core.proofs.Displaying.{show-append}
 use Rattle.trac_core.proofs.Performing.{closed, performs-closed, step-performs}
 
 -- ---- how long a display is
 
-pub length-show-more : (body : List Item) (k : ℕ) (item : Item) (n : ℕ) → k < length body → item ≡ item_at body k → n ≡ length (show (item ∷ [])) → length (show (take (k + 1) body)) ≡ length (show (take k body)) + n
+pub length-show-more : (body : List Item) (k : ℕ) (item : Option Item) (n : ℕ) → k < length body → item ≡ slice_get body k → n ≡ length (shown item) → length (show (take (k + 1) body)) ≡ length (show (take k body)) + n
 length-show-more body k item n within is n_is =
     ap (λ items. length (show items)) (take_more body k (Byte 0) within)
-    ∙ ap length (show-append (take k body) (item_at body k ∷ []))
-    ∙ length-append (show (take k body)) (show (item_at body k ∷ []))
-    ∙ ap (λ i. length (show (take k body)) + length (show (i ∷ []))) (sym is)
+    ∙ ap length (show-append (take k body) (get_or body k (Byte 0) ∷ []))
+    ∙ length-append (show (take k body)) (show (get_or body k (Byte 0) ∷ []))
+    ∙ ap (λ o. length (show (take k body)) + length (shown o)) (sym (is ∙ slice_get-get_or body k (Byte 0) within))
     ∙ ap (λ m. length (show (take k body)) + m) (sym n_is)
 
 pub length-display : (form : Form) → length (show_form form) ≡ 3 + length (show form.body)

@@ -1,12 +1,18 @@
 -- What contracts say of the display of a form.
-use Rattle.std.specs.Prelude.{ℕ, [], Option, Some, None}
+use Rattle.std.specs.Prelude.{ℕ, [], ◌∷◌, Option, Some, None}
+use Rattle.trac_language.specs.declared.item.Item.{Item}
 use Rattle.trac_language.specs.Text.{Text}
 use Rattle.trac_language.specs.Form.{Form}
 use Rattle.trac_language.specs.Store.{form_named}
-use Rattle.trac_language.specs.Meaning.{show_form}
+use Rattle.trac_language.specs.Meaning.{show, show_form}
 use Rattle.trac_forms.specs.Contents.{Contents, part_text}
 
--- the display of a form, if there is one
+-- the display of an item, null where there is none
+abbrev pub shown : Option Item → Text
+shown None = []
+shown (Some item) = show (item ∷ [])
+
+-- the display of a form, null where there is none
 abbrev pub display : Option Form → Text
 display None = []
 display (Some form) = show_form form

@@ -1,19 +1,19 @@
-//! The function that displays a form: `pf`.
+//! The display of a form, and the function that prints it: `pf`.
 ghost use Rattle.std.specs.Prelude.{◌≡◌, ◌≢◌, ◌+◌, ◌-◌, ◌<◌, ◌≤◌, ◌^◌, [], ◌∷◌};
 ghost use Rattle.std.specs.Prelude.{◌++◌, ℕ, length, Some, slice_range, OnErr, OnOk, codes};
 ghost use Rattle.std.specs.Prelude.{decimal};
 ghost use Rattle.trac_language.specs.Meaning.{show, show_form};
-ghost use Rattle.trac_forms.specs.Contents.{form_at, body_at, used, IsTextPart, IsSound};
+ghost use Rattle.trac_forms.specs.Contents.{used, IsTextPart, IsSound};
 ghost use Rattle.trac_devices.specs.Devices.{Stream, failures_of, Prints};
 ghost use Rattle.trac_functions.specs.Calls.{AreArguments};
 ghost use Rattle.trac_core.specs.Attempts.{scene, HasArguments, AnswersCall, Stands, fate_after};
 ghost use Rattle.trac_core.specs.Attempts.{LeavesSink};
-ghost use Rattle.trac_core.specs.Display.{display_named};
+ghost use Rattle.trac_core.specs.Display.{display_named, shown};
 
 use crate::text_io::print_bytes;
 use itoa::Buffer;
 use trac_devices::{Sink, SinkFailed};
-use trac_forms::{FormId, Work};
+use trac_forms::{StoredForm, Work};
 use trac_functions::arguments::{Arguments, Made};
 use trac_language::{Fate, Function, Item};
 
@@ -56,65 +56,78 @@ fn show_named<O: Sink>(work: &mut Work, name: (u32, u32), sink: &mut O) -> Resul
     ensures counts { O.failure_count sink.new ≡ O.failure_count sink.old + failures_of result }
 {
     match work.find(name.0, name.1) {
-        Some(form) => show_form(work, form, sink),
+        Some(form) => show_and_flush(&work.stored(form), sink),
         None => Ok(()),
     }
 }
 
 /// Puts the display of a form into a sink, and then flushes it.
-fn show_form<O: Sink>(work: &Work, form: FormId, sink: &mut O) -> Result<(), SinkFailed>
-    requires known { form.0 < length work.now.forms }
-    requires counts { O.failure_count sink.old < 2 ^ 64 - 1 }
-    ensures prints { let text = show_form (form_at work.now.forms form.0) in
-        O.tells sink.old → Prints result (O.written sink.old) text (O.written sink.new) }
+fn show_and_flush<O: Sink>(form: &StoredForm, sink: &mut O) -> Result<(), SinkFailed>
+    requires { O.failure_count sink.old < 2 ^ 64 - 1 }
+    ensures prints { O.tells sink.old →
+        Prints result (O.written sink.old) (show_form form.now) (O.written sink.new) }
     ensures flushed { OnOk result (O.flushed sink.new) }
     ensures told { O.tells sink.old → O.tells sink.new }
     ensures kept { O.lent sink.new ≡ O.lent sink.old }
     ensures counts { O.failure_count sink.new ≡ O.failure_count sink.old + failures_of result }
 {
-    let pointer = work.pointer(form);
-    show_items(work, form, 0, pointer, sink)?;
-    print_bytes(b"<^>", sink)?;
-    show_items(work, form, pointer, work.body_len(form), sink)?;
+    show_form(form, sink)?;
     sink.flush()
+}
+
+/// Puts the display of a form into a sink, as `pf` prints it, byte by byte: its characters as they
+/// are, each gap as its ordinal in angle brackets, and `<^>` at the pointer. It doesn't flush. An
+/// error is the sink's: a first part of the display was then put. The display is this processor's
+/// own choice.
+pub fn show_form<O: Sink>(form: &StoredForm, sink: &mut O) -> Result<(), SinkFailed>
+    requires { O.failure_count sink.old < 2 ^ 64 - 1 }
+    ensures prints { O.tells sink.old →
+        Prints result (O.written sink.old) (show_form form.now) (O.written sink.new) }
+    ensures told { O.tells sink.old → O.tells sink.new }
+    ensures kept { O.lent sink.new ≡ O.lent sink.old }
+    ensures counts { O.failure_count sink.new ≡ O.failure_count sink.old + failures_of result }
+{
+    let pointer = form.pointer();
+    show_items(form, 0, pointer, sink)?;
+    print_bytes(b"<^>", sink)?;
+    show_items(form, pointer, form.body_len(), sink)
 }
 
 /// Puts the display of the items of a form from a place up to another into a sink.
 fn show_items<O: Sink>(
-    work: &Work,
-    form: FormId,
+    form: &StoredForm,
     from: u32,
     to: u32,
     sink: &mut O,
 ) -> Result<(), SinkFailed>
-    requires known { form.0 < length work.now.forms }
     requires order { from ≤ to }
-    requires within { to ≤ length (body_at work.now.forms form.0) }
+    requires within { to ≤ length form.now.body }
     requires counts { O.failure_count sink.old < 2 ^ 64 - 1 }
-    ensures prints { let text = show (slice_range (body_at work.now.forms form.0) from to) in
+    ensures prints { let text = show (slice_range form.now.body from to) in
         O.tells sink.old → Prints result (O.written sink.old) text (O.written sink.new) }
     ensures told { O.tells sink.old → O.tells sink.new }
     ensures kept { O.lent sink.new ≡ O.lent sink.old }
     ensures counts { O.failure_count sink.new ≡ O.failure_count sink.old + failures_of result }
 {
     for place in from..to {
-        show_item(work.item(form, place), sink)?;
+        show_item(form.item(place), sink)?;
     }
     Ok(())
 }
 
-/// Puts the display of an item into a sink.
-fn show_item<O: Sink>(item: Item, sink: &mut O) -> Result<(), SinkFailed>
+/// Puts the display of an item into a sink, where there is one.
+fn show_item<O: Sink>(item: Option<Item>, sink: &mut O) -> Result<(), SinkFailed>
     requires { O.failure_count sink.old < 2 ^ 64 - 1 }
     ensures prints { O.tells sink.old →
-        Prints result (O.written sink.old) (show (item ∷ [])) (O.written sink.new) }
+        Prints result (O.written sink.old) (shown item) (O.written sink.new) }
     ensures told { O.tells sink.old → O.tells sink.new }
     ensures kept { O.lent sink.new ≡ O.lent sink.old }
     ensures counts { O.failure_count sink.new ≡ O.failure_count sink.old + failures_of result }
 {
     match item {
-        Item::Byte(byte) => sink.put(byte),
-        Item::Gap(ordinal) => show_gap(ordinal, sink),
+        Some(Item::Byte(byte)) => sink.put(byte),
+        Some(Item::Gap(ordinal)) => show_gap(ordinal, sink),
+        None => Ok(()),
     }
 }
 
@@ -131,4 +144,30 @@ fn show_gap<O: Sink>(ordinal: u32, sink: &mut O) -> Result<(), SinkFailed>
     print_bytes(b"<", sink)?;
     print_bytes(buffer.format(ordinal).as_bytes(), sink)?;
     print_bytes(b">", sink)
+}
+
+/// How many bytes the display of a form has, which `show_form` puts into a sink.
+pub fn display_len(form: &StoredForm) -> u32
+    ensures { result ≡ length (show_form form.now) }
+{
+    let mut len = 3;
+    for place in 0..form.body_len() {
+        len += item_len(form.item(place));
+    }
+    len
+}
+
+/// How many bytes the display of an item has, 0 where there is none.
+fn item_len(item: Option<Item>) -> u32
+    ensures length { result ≡ length (shown item) }
+    ensures short { result ≤ 12 }
+{
+    match item {
+        Some(Item::Byte(_)) => 1,
+        Some(Item::Gap(ordinal)) => {
+            let mut buffer = Buffer::new();
+            2 + buffer.format(ordinal).len() as u32
+        }
+        None => 0,
+    }
 }

@@ -11,6 +11,7 @@ mod runs;
 mod scan;
 mod text_io;
 
+pub use display::{display_len, show_form};
 pub use machine::{Awaits, Machine, Report, ScanningRule};
 pub use runs::is_layout;
 pub use trac_devices::{

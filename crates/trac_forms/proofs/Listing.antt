@@ -11,10 +11,10 @@ use Rattle.trac_space.specs.Cells.{seen}
 use Rattle.trac_space.specs.Texts.{text_of_cells}
 use Rattle.trac_forms.specs.FlatForms.{flat_forms}
 use Rattle.trac_forms.specs.Contents.{form_at}
-use Rattle.trac_forms.specs.Stored.{item_of, forms_in, head_number}
+use Rattle.trac_forms.specs.Stored.{item_of, forms_in, start_of, head_number, head_at}
 use Rattle.trac_forms.specs.Listed.{form_of, IsListed, IsForm}
 use Rattle.trac_forms.proofs.FlatLemmas.{character_of-Byte, item_of-cell, forms_in-flat}
-use Rattle.trac_forms.proofs.Finding.{begins_at, number_is, part-seen}
+use Rattle.trac_forms.proofs.Finding.{part-seen}
 use Rattle.trac_forms.proofs.Gaps.{bytes-seen}
 use Rattle.trac_forms.proofs.Heads.{number-at}
 use Rattle.trac_forms.proofs.Places.{stands}
@@ -27,6 +27,39 @@ item_of-seen (Call mode k ∷ cells) = ap (λ items. item_of Comma ∷ items) (i
 item_of-seen (Comma ∷ cells) = ap (λ items. item_of Comma ∷ items) (item_of-seen cells)
 item_of-seen (Gap k ∷ cells) = ap (λ items. item_of (Gap k) ∷ items) (item_of-seen cells)
 item_of-seen (Head k ∷ cells) = ap (λ items. item_of Comma ∷ items) (item_of-seen cells)
+
+-- the cells of a form in the store, and what they are seen as
+module _ (forms : List Form) (store name body : List Cell) (k at n m p : ℕ) (whole : flat_forms forms ≡ store) (within : k < length forms) (begins : at ≡ start_of forms k) (n_is : n ≡ head_at store at) (m_is : m ≡ head_at store (at + 1)) (p_is : p ≡ head_at store (at + 2)) where
+  pub stored-end : at + 3 + n + m ≤ length store
+  stored-end =
+      let f = stands forms store k at whole within begins in
+      omega (arith, f.end, f.name_len, f.body_len, n_is, m_is)
+
+  module _ (named : map seen name ≡ slice_range store (at + 3) (at + 3 + n)) (bodied : map seen body ≡ slice_range store (at + 3 + n) (at + 3 + n + m)) where
+    pub stored-form : form_of name body p ≡ form_at forms k
+    stored-form =
+        let form = form_at forms k in
+        let f = stands forms store k at whole within begins in
+        let name_len = n_is ∙ f.name_len in
+        let text : text_of_cells name ≡ form.name =
+        sym (bytes-seen name) ∙ ap text_of_cells (named ∙ ap (λ i. slice_range store (at + 3) (at + 3 + i)) name_len ∙ f.name_part) ∙ character_of-Byte form.name in
+        let items : map item_of body ≡ form.body =
+        sym (item_of-seen body) ∙ ap (map item_of) (bodied ∙ ap (λ i. slice_range store (at + 3 + i) (at + 3 + i + m)) name_len ∙ ap (λ i. slice_range store (at + 3 + length form.name) (at + 3 + length form.name + i)) (m_is ∙ f.body_len) ∙ f.body_part)
+        ∙ item_of-cell form.body in
+        let pointer : p ≡ form.pointer = p_is ∙ f.pointer in
+        λ i. record { name = text i; body = items i; pointer = pointer i }
+
+    pub stored-is_form : length store ≤ 16777216 → IsStore forms → IsForm name body p
+    stored-is_form bounded sound =
+        let f = stands forms store k at whole within begins in
+        let end = stored-end in
+        let name_long = ap length named ∙ length-between store (at + 3) (at + 3 + n) (omega (arith, end)) in
+        let body_long = ap length bodied ∙ length-between store (at + 3 + n) (at + 3 + n + m) end in
+        record {
+          name_bounded = omega (arith, end, bounded, name_long, length-map name seen);
+          body_bounded = omega (arith, end, bounded, body_long, length-map body seen);
+          pointer_within = omega (arith, body_long, length-map body seen, m_is, f.body_len, p_is, f.pointer, pointer-within forms k sound);
+        }
 
 -- the first form stands in its cells, and the others in the rest
 pub record IsFirst (cells : List Cell) (count n m p : ℕ) : Type 0 where
@@ -43,41 +76,30 @@ module _ (cells : List Cell) (count n m p : ℕ) (listed : IsListed cells count)
       let form = form_at forms 0 in
       let long : length store ≡ length cells = length-map cells seen in
       let within : 0 < length forms = omega (arith, listed.count_is, some) in
-      let b = begins_at cells 0 0 listed.whole within refl in
       let f = stands forms store 0 0 listed.whole within refl in
-      let end : 3 + length form.name + length form.body ≤ length cells = omega (arith, b.end) in
-      let name_len : n ≡ length form.name = n_is ∙ number_is (get_or cells 0 (Byte 0)) (length form.name) b.name_len in
-      let body_len : m ≡ length form.body = m_is ∙ number_is (get_or cells 1 (Byte 0)) (length form.body) b.body_len in
-      let pointer : p ≡ form.pointer = p_is ∙ number-at cells store 2 refl (omega (arith, end)) ∙ f.pointer in
+      let name_at : n ≡ head_at store 0 = n_is ∙ number-at cells store 0 refl (omega (arith, f.end, long)) in
+      let body_at : m ≡ head_at store 1 = m_is ∙ number-at cells store 1 refl (omega (arith, f.end, long)) in
+      let pointer_at : p ≡ head_at store 2 = p_is ∙ number-at cells store 2 refl (omega (arith, f.end, long)) in
       let e = 3 + n + m in
+      let name = slice_range cells 3 (3 + n) in
+      let body = slice_range cells (3 + n) e in
       let rest = slice_range cells e (length cells) in
+      let end : e ≤ length cells = omega (arith, long, stored-end forms store name body 0 0 n m p listed.whole within refl name_at body_at pointer_at) in
       let here : forms ≡ form ∷ drop 1 forms = drop_more forms 0 (record { name = []; body = []; pointer = 0 }) within in
-      let name : text_of_cells (slice_range cells 3 (3 + n)) ≡ form.name =
-      sym (bytes-seen (slice_range cells 3 (3 + n))) ∙ ap (λ k. text_of_cells (map seen (slice_range cells 3 (3 + k)))) name_len ∙ ap text_of_cells b.name_part ∙ character_of-Byte form.name in
-      let body : map item_of (slice_range cells (3 + n) (3 + n + m)) ≡ form.body =
-      sym (item_of-seen (slice_range cells (3 + n) (3 + n + m))) ∙ ap (λ k. map item_of (map seen (slice_range cells (3 + k) (3 + k + m)))) name_len
-      ∙ ap (λ k. map item_of (map seen (slice_range cells (3 + length form.name) (3 + length form.name + k)))) body_len
-      ∙ ap (map item_of) (part-seen cells (3 + length form.name) (3 + length form.name + length form.body) ∙ f.body_part) ∙ item_of-cell form.body in
-      let is_form : form_of (slice_range cells 3 (3 + n)) (slice_range cells (3 + n) (3 + n + m)) p ≡ form = λ i. record { name = name i; body = body i; pointer = pointer i } in
+      let is_form = stored-form forms store name body 0 0 n m p listed.whole within refl name_at body_at pointer_at (part-seen cells 3 (3 + n)) (part-seen cells (3 + n) e) in
       let whole_length : length cells - e ≡ length (drop e store) = omega (arith, length-drop e store, long) in
-      let same_end : e ≡ 0 + (3 + length form.name + length form.body) = omega (arith, name_len, body_len) in
+      let same_end : e ≡ 0 + (3 + length form.name + length form.body) = omega (arith, name_at, body_at, f.name_len, f.body_len) in
       let others : map seen rest ≡ flat_forms (drop 1 forms) =
       part-seen cells e (length cells) ∙ ap (λ k. take k (drop e store)) whole_length ∙ take-length (drop e store)
       ∙ ap (λ k. drop k store) same_end ∙ f.behind in
       let later : forms_in (map seen rest) ≡ drop 1 forms = ap forms_in others ∙ forms_in-flat (drop 1 forms) in
-      let name_long = length-between cells 3 (3 + n) (omega (arith, name_len, end)) in
-      let body_long = length-between cells (3 + n) (3 + n + m) (omega (arith, name_len, body_len, end)) in
       let rest_long = length-between cells e (length cells) (omega arith) in
       let bounded = listed.bounded in
       let behind : IsStore (form ∷ drop 1 forms) = subst IsStore here listed.store in
       record {
-        forms = here ∙ ap (λ (f : Form). f ∷ drop 1 forms) (sym is_form) ∙ ap (λ fs. form_of (slice_range cells 3 (3 + n)) (slice_range cells (3 + n) (3 + n + m)) p ∷ fs) (sym later);
-        form = record {
-          name_bounded = omega (arith, name_long, name_len, end, bounded);
-          body_bounded = omega (arith, body_long, body_len, end, bounded);
-          pointer_within = omega (arith, body_long, body_len, pointer, pointer-within forms 0 listed.store);
-        };
-        end = omega (arith, name_len, body_len, end);
+        forms = here ∙ ap (λ (f : Form). f ∷ drop 1 forms) (sym is_form) ∙ ap (λ fs. form_of name body p ∷ fs) (sym later);
+        form = stored-is_form forms store name body 0 0 n m p listed.whole within refl name_at body_at pointer_at (part-seen cells 3 (3 + n)) (part-seen cells (3 + n) e) (omega (arith, long, bounded)) listed.store;
+        end = end;
         rest = record {
           whole = ap flat_forms later ∙ sym others;
           count_is = omega (arith, listed.count_is, ap length here, ap length later);

@@ -1,11 +1,13 @@
 //! The forms of a `Work`, to be looked at one after the other. Nothing here changes a cell.
-ghost use Rattle.std.specs.Prelude.{◌≡◌, ◌≤◌, List, length, slice_get, Some};
+ghost use Rattle.std.specs.Prelude.{◌≡◌, ◌≤◌, ◌<◌, List, length, slice_get, Some};
 ghost use Rattle.std.specs.Iterator.{YieldsFirst, item_count};
 ghost use Rattle.trac_language.specs.Form.{Form};
 ghost use Rattle.trac_space.specs.Texts.{text_of_cells};
+ghost use Rattle.trac_forms.specs.Contents.{form_at, form_place};
 ghost use Rattle.trac_forms.specs.Stored.{item_of};
 
-use crate::store::number_in_head;
+use crate::item::FormId;
+use crate::store::{heads, number_in_head, place_of};
 use crate::work::Work;
 use std::marker::Model;
 use trac_language::Item;
@@ -39,13 +41,16 @@ impl<'a> StoredForm<'a> {
     }
 
     /// How many items the body has.
+    #[inline]
     pub fn body_len(&self) -> u32
-        ensures { result ≡ length self.now.body }
+        ensures value { result ≡ length self.now.body }
+        ensures bounded { result ≤ 16777216 }
     {
         self.body.len() as u32
     }
 
     /// The item at place `i` of the body, from 0. None where it has no such place.
+    #[inline]
     pub fn item(&self, i: u32) -> Option<Item>
         ensures { result ≡ slice_get self.now.body i }
     {
@@ -57,6 +62,7 @@ impl<'a> StoredForm<'a> {
 
     /// The pointer: the place in the body, from 0 to its length, from which a partial call goes on
     /// (Mooers 1966).
+    #[inline]
     pub fn pointer(&self) -> u32
         ensures value { result ≡ self.now.pointer }
         ensures within { result ≤ length self.now.body }
@@ -128,6 +134,21 @@ impl<'a> Work<'a> {
         Forms {
             cells: self.space.store_part(0, self.space.store_len()),
             count: self.count,
+        }
+    }
+
+    /// A form, to be looked at.
+    pub fn stored(&self, form: FormId) -> StoredForm<'_>
+        requires { form_place form < length self.now.forms }
+        ensures { result ≡ form_at self.now.forms (form_place form) }
+    {
+        let start = place_of(&self.space, self.last, self.start, form.0);
+        let (name, body, pointer) = heads(&self.space, start);
+        let from = start + 3 + name;
+        StoredForm {
+            name: self.space.store_part(start + 3, from),
+            body: self.space.store_part(from, from + body),
+            pointer,
         }
     }
 }

@@ -1,9 +1,9 @@
 //! How many bytes the next step of a machine prints.
-ghost use Rattle.std.specs.Prelude.{◌≡◌, ◌<◌, ◌≤◌, ℕ, [], ◌∷◌, length};
+ghost use Rattle.std.specs.Prelude.{◌≡◌, ℕ, length};
 ghost use Rattle.trac_language.specs.State.{Input};
-ghost use Rattle.trac_language.specs.Meaning.{meaning, show, show_form};
+ghost use Rattle.trac_language.specs.Meaning.{meaning};
 ghost use Rattle.trac_space.specs.Calls.{IsLastCall};
-ghost use Rattle.trac_forms.specs.Contents.{form_at, IsTextPart, IsSound};
+ghost use Rattle.trac_forms.specs.Contents.{IsTextPart, IsSound};
 ghost use Rattle.trac_functions.specs.Flat.{memory_of, arguments_at};
 ghost use Rattle.trac_functions.specs.Calls.{world};
 ghost use Rattle.trac_core.specs.Attempts.{function_at};
@@ -12,9 +12,9 @@ ghost use Rattle.trac_core.specs.Session.{next_printed, step_prints, printed_in}
 
 use super::Machine;
 use super::closing::{closed_call, named_at};
-use itoa::Buffer;
-use trac_forms::{FormId, Work};
-use trac_language::{Function, Item};
+use crate::display::display_len;
+use trac_forms::Work;
+use trac_language::Function;
 
 impl<'a> Machine<'a> {
     /// How many bytes the next step prints: by `ps` or `pf`, whatever the input. 0 where it prints
@@ -76,34 +76,7 @@ fn named_len(work: &mut Work, name: (u32, u32)) -> u32
     ensures same { work.new ≡ work.old }
 {
     match work.find(name.0, name.1) {
-        Some(form) => display_len(work, form),
+        Some(form) => display_len(&work.stored(form)),
         None => 0,
-    }
-}
-
-/// How many bytes the display of a form has.
-fn display_len(work: &Work, form: FormId) -> u32
-    requires known { form.0 < length work.now.forms }
-    requires sound { IsSound work.now }
-    ensures { result ≡ length (show_form (form_at work.now.forms form.0)) }
-{
-    let mut len = 3;
-    for place in 0..work.body_len(form) {
-        len += item_len(work.item(form, place));
-    }
-    len
-}
-
-/// How many bytes the display of an item has.
-fn item_len(item: Item) -> u32
-    ensures length { result ≡ length (show (item ∷ [])) }
-    ensures short { result ≤ 12 }
-{
-    match item {
-        Item::Byte(_) => 1,
-        Item::Gap(ordinal) => {
-            let mut buffer = Buffer::new();
-            2 + buffer.format(ordinal).len() as u32
-        }
     }
 }

@@ -4,7 +4,10 @@ ghost use Rattle.std.specs.Prelude.{◌≡◌, ◌≤◌, ℕ, List, [], length,
 ghost use Rattle.trac_core.specs.Machine.{Reports};
 
 use std::process::Abort;
-use trac_core::{Awaits, Cell, Fate, Item, Machine, Report, Sink, SliceSink, SliceSource, Source};
+use trac_core::{
+    Awaits, Cell, Fate, Item, Machine, Report, Sink, SliceSink, SliceSource, Source, display_len,
+    show_form,
+};
 
 const DEFINES: &[u8] = b"#(ds,F,a-b)#(ss,F,-)#(cm,;)'";
 
@@ -136,6 +139,27 @@ fn forms_are_listed(rt: HostRuntime) {
     assert!(rt; matches!(form.item(2), Some(Item::Gap(2))));
     assert!(rt; matches!(form.item(3), Some(Item::Gap(1))));
     assert!(rt; forms.next().is_none());
+}
+
+#[test]
+fn a_form_is_shown(rt: HostRuntime) {
+    let mut block = [Cell::Byte(0); 60];
+    let mut machine = Machine::over(&mut block, 1000);
+    let script = b"#(ds,A,p-q)#(ss,A,-,q)#(cc,A)#(pf,A)'";
+    let _ = resumed(&rt, &mut machine, script, b"p<^><1><2>p");
+    let mut forms = machine.forms();
+    let Some(form) = forms.next() else {
+        panic!(rt; "no form");
+    };
+    assert_eq!(rt; display_len(&form), 10);
+    let mut room = [0; 12];
+    let mut sink = SliceSink::new(&mut room, None);
+    assert!(rt; show_form(&form, &mut sink).is_ok());
+    assert!(rt; sink.written() == b"p<^><1><2>".as_slice());
+    let mut little = [0; 6];
+    let mut full = SliceSink::new(&mut little, None);
+    assert!(rt; show_form(&form, &mut full).is_err());
+    assert!(rt; full.written() == b"p<^><1".as_slice());
 }
 
 /// What a run came to, and how many bytes it printed.

@@ -1,17 +1,17 @@
 use Rattle.std.proofs.Common.{◌∙◌, ap, arith}
+use Rattle.std.proofs.lemmas.Option.{slice_get-get_or}
 use Rattle.trac_language.specs.declared.item.Item.TheVariants.{Byte}
 use Rattle.trac_c.specs.Shown.{item_code, code_of}
 use Rattle.trac_c.proofs.Laying.{laid-mapped}
-use Rattle.trac_c.proofs.Showing.{code_get}
 use Rattle.trac_c.proofs.forms.lay_items.Goals as goal
 
 pub loop-i-preserved : goal.loop-i-preserved
 loop-i-preserved c =
     let i = c.loop-i.invariant in
     let less = c.loop-i-test.true in
-    let long = c.body_len-len.ensures in
+    let long = c.body_len-len.ensures.value in
     let body = c.args.form.now.body in
-    let code = c.item_code.ensures ∙ ap code_of c.item.ensures ∙ code_get body c.loop-i.i (omega (arith, less, long)) in
+    let code = c.item_code.ensures ∙ ap code_of (c.item.ensures ∙ slice_get-get_or body c.loop-i.i (Byte 0) (omega (arith, less, long))) in
     record {
       laid = laid-mapped item_code body c.loop-i.i (Byte 0) _ c.args.room.now c.loop-i.room c.put.new.room (omega (arith, less, long)) code i.laid c.put.ensures;
       within = omega (arith, less, long);

@@ -1,14 +1,13 @@
-use Rattle.std.proofs.Common.{◌++◌, ◌∙◌, slice_range, length, refl}
+use Rattle.std.proofs.Common.{◌++◌, slice_range, length, refl}
 use Rattle.std.specs.Prelude.{codes}
 use Rattle.trac_language.specs.Meaning.{show}
-use Rattle.trac_forms.specs.Contents.{form_at}
 use Rattle.trac_devices.proofs.PutCells.{prints-err}
-use Rattle.trac_core.proofs.Displaying.{breaks-off, breaks-then, prints-then, prints-nothing, display-parts}
+use Rattle.trac_core.proofs.Displaying.{breaks-off, breaks-then, prints-then, display-parts}
 use Rattle.trac_core.proofs.display.show_form.Goals as goal
 
 pub returns-in_err-show_items-clause-prints : goal.returns-in_err-show_items-clause-prints
 returns-in_err-show_items-clause-prints g c = λ told.
-    let form = form_at c.args.work.now.forms c.args.form.0 in
+    let form = c.args.form.now in
     let end = length form.body in
     rw (display-parts form c.pointer-pointer.result end c.pointer-pointer.ensures.value refl)
     (prints-err c.from_residual.result _ _ _ c.from_residual.ensures.0
@@ -16,7 +15,7 @@ returns-in_err-show_items-clause-prints g c = λ told.
 
 pub returns-in_err-print_bytes-clause-prints : goal.returns-in_err-print_bytes-clause-prints
 returns-in_err-print_bytes-clause-prints g c = λ told.
-    let form = form_at c.args.work.now.forms c.args.form.0 in
+    let form = c.args.form.now in
     let end = length form.body in
     let told_one = c.in_ok-show_items.ensures.told told in
     rw (display-parts form c.pointer-pointer.result end c.pointer-pointer.ensures.value refl)
@@ -24,24 +23,12 @@ returns-in_err-print_bytes-clause-prints g c = λ told.
     (breaks-then _ _ _ _ _ (c.in_ok-show_items.ensures.prints told)
     (breaks-off _ _ (codes "<^>") (show (slice_range form.body c.pointer-pointer.result end)) (c.in_err-print_bytes.ensures.prints told_one))))
 
-pub returns-in_err-show_items-2-clause-prints : goal.returns-in_err-show_items-2-clause-prints
-returns-in_err-show_items-2-clause-prints g c = λ told.
-    let form = form_at c.args.work.now.forms c.args.form.0 in
-    let told_one = c.in_ok-show_items.ensures.told told in
-    let told_two = c.in_ok-print_bytes.ensures.told told_one in
-    rw (display-parts form c.pointer-pointer.result c.body_len.result c.pointer-pointer.ensures.value c.body_len.ensures.value)
-    (prints-err c.from_residual-in_err-show_items-2.result _ _ _ c.from_residual-in_err-show_items-2.ensures.0
-    (breaks-then _ _ _ _ _ (c.in_ok-show_items.ensures.prints told)
-    (breaks-then _ _ _ (codes "<^>") _ (c.in_ok-print_bytes.ensures.prints told_one) (c.in_err-show_items-2.ensures.prints told_two))))
-
 pub returns-clause-prints : goal.returns-clause-prints
 returns-clause-prints g c = λ told.
-    let form = form_at c.args.work.now.forms c.args.form.0 in
+    let form = c.args.form.now in
     let told_one = c.in_ok-show_items.ensures.told told in
     let told_two = c.in_ok-print_bytes.ensures.told told_one in
-    let told_all = c.in_ok-show_items-2.ensures.told told_two in
     let rest = show (slice_range form.body c.pointer-pointer.result c.body_len.result) in
     rw (display-parts form c.pointer-pointer.result c.body_len.result c.pointer-pointer.ensures.value c.body_len.ensures.value)
-    (prints-then c.flush.result _ _ _ _ (codes "<^>" ++ rest) (c.in_ok-show_items.ensures.prints told)
-    (prints-then c.flush.result _ _ _ (codes "<^>") rest (c.in_ok-print_bytes.ensures.prints told_one)
-    (prints-nothing c.flush.result _ _ rest (c.flush.ensures.keeps told_all ∙ c.in_ok-show_items-2.ensures.prints told_two))))
+    (prints-then c.show_items-2.result _ _ _ _ (codes "<^>" ++ rest) (c.in_ok-show_items.ensures.prints told)
+    (prints-then c.show_items-2.result _ _ _ (codes "<^>") rest (c.in_ok-print_bytes.ensures.prints told_one) (c.show_items-2.ensures.prints told_two)))

@@ -1,6 +1,5 @@
 use Rattle.std.proofs.Common.{◌≡◌, ◌≤◌, ◌++◌, slice_range}
 use Rattle.trac_language.specs.Meaning.{show}
-use Rattle.trac_forms.specs.Contents.{body_at}
 use Rattle.trac_core.proofs.display.show_items.Given as goal
 
 -- the items up to a place were displayed
@@ -12,5 +11,5 @@ invariant-loop-place g l =
       counts : g.O.Sink.failure_count l.sink ≡ g.O.Sink.failure_count l.initial.sink;
       kept : g.O.Sink.lent l.sink ≡ g.O.Sink.lent l.initial.sink;
       told : g.O.Sink.tells l.initial.sink → g.O.Sink.tells l.sink;
-      writes : g.O.Sink.tells l.initial.sink → g.O.Sink.written l.sink ≡ g.O.Sink.written l.initial.sink ++ show (slice_range (body_at l.work.forms l.form.0) l.from l.place);
+      writes : g.O.Sink.tells l.initial.sink → g.O.Sink.written l.sink ≡ g.O.Sink.written l.initial.sink ++ show (slice_range l.form.body l.from l.place);
     }

@@ -13,16 +13,16 @@ returns-in-Some-clause-prints g c = λ told.
     let w = c.args.work.now in
     let name = part_text w.neutral c.args.name.0 c.args.name.1 in
     let k = c.in-Some.form.0 in
-    let shown = ap (λ (w : Contents). show_form (form_at w.forms k)) c.find.ensures.same ∙ sym (ap display (form_named-at name w.forms k c.requires.sound.forms c.in-Some.ensures.found)) in
-    let P : Text → Type 0 = λ t. Prints c.show_form.result (g.O.Sink.written c.args.sink.now) t (g.O.Sink.written c.show_form.new.sink) in
-    subst P shown (c.show_form.ensures.prints told)
+    let shown = ap show_form c.stored.ensures ∙ ap (λ (w : Contents). show_form (form_at w.forms k)) c.find.ensures.same ∙ sym (ap display (form_named-at name w.forms k c.requires.sound.forms c.in-Some.ensures.found)) in
+    let P : Text → Type 0 = λ t. Prints c.show_and_flush.result (g.O.Sink.written c.args.sink.now) t (g.O.Sink.written c.show_and_flush.new.sink) in
+    subst P shown (c.show_and_flush.ensures.prints told)
 
 pub returns-in-Some-clause-some : goal.returns-in-Some-clause-some
 returns-in-Some-clause-some g c =
     let w = c.args.work.now in
     let name = part_text w.neutral c.args.name.0 c.args.name.1 in
     let k = c.in-Some.form.0 in
-    on_err c.show_form.result _ (λ none. display-some (form_at w.forms k) (sym (ap display (form_named-at name w.forms k c.requires.sound.forms c.in-Some.ensures.found)) ∙ none))
+    on_err c.show_and_flush.result _ (λ none. display-some (form_at w.forms k) (sym (ap display (form_named-at name w.forms k c.requires.sound.forms c.in-Some.ensures.found)) ∙ none))
 
 pub returns-in-None-clause-prints : goal.returns-in-None-clause-prints
 returns-in-None-clause-prints g c = λ told.

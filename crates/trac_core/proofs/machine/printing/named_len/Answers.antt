@@ -10,7 +10,7 @@ returns-in-Some-clause-length c =
     let w = c.args.work.now in
     let name = part_text w.neutral c.args.name.0 c.args.name.1 in
     let k = c.in-Some.form.0 in
-    c.display_len.ensures
+    c.display_len.ensures ∙ ap (λ form. length (show_form form)) c.stored.ensures
     ∙ ap (λ (w : Contents). length (show_form (form_at w.forms k))) c.find.ensures.same
     ∙ sym (ap (λ o. length (display o)) (form_named-at name w.forms k c.requires.sound.forms c.in-Some.ensures.found))
 

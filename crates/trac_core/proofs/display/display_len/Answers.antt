@@ -1,15 +1,13 @@
 use Rattle.std.proofs.Common.{◌≡◌, ◌+◌, ◌∙◌, length, take, ap, sym, arith}
 use Rattle.std.proofs.Math.Seq.{take-length}
 use Rattle.trac_language.specs.Meaning.{show}
-use Rattle.trac_forms.specs.Contents.{form_at, body_at}
 use Rattle.trac_core.proofs.Printed.{length-show-more, length-display}
-use Rattle.trac_core.proofs.machine.printing.display_len.Goals as goal
+use Rattle.trac_core.proofs.display.display_len.Goals as goal
 
 pub loop-place-preserved : goal.loop-place-preserved
 loop-place-preserved c =
     let i = c.loop-place.invariant in
-    let body = body_at c.args.work.now.forms c.args.form.0 in
-    let more = length-show-more body c.loop-place.place c.item.result c.item_len-len.result (omega arith) c.item.ensures c.item_len-len.ensures.length in
+    let more = length-show-more c.args.form.now.body c.loop-place.place c.item.result c.item_len-len.result (omega arith) c.item.ensures c.item_len-len.ensures.length in
     record {
       counted = omega (arith, i.counted, more);
       few = omega (arith, i.few, c.item_len-len.ensures.short);
@@ -17,7 +15,6 @@ loop-place-preserved c =
 
 pub returns : goal.returns
 returns c =
-    let i = c.loop-place.invariant in
-    let form = form_at c.args.work.now.forms c.args.form.0 in
+    let form = c.args.form.now in
     let end : c.loop-place.place ≡ length form.body = omega arith in
-    i.counted ∙ ap (λ n. 3 + length (show (take n form.body))) end ∙ ap (λ items. 3 + length (show items)) (take-length form.body) ∙ sym (length-display form)
+    c.loop-place.invariant.counted ∙ ap (λ n. 3 + length (show (take n form.body))) end ∙ ap (λ items. 3 + length (show items)) (take-length form.body) ∙ sym (length-display form)
