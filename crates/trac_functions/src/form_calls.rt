@@ -19,6 +19,9 @@ ghost use Rattle.trac_functions.specs.Calls.{AreArguments, texts, Makes, Perform
 use crate::arguments::{Arguments, Made, put_part};
 use trac_forms::{FormId, Work};
 
+// So many names of `dd` go one by one: each costs the forms behind it, and a pass costs all forms.
+const FEW: u32 = 8;
+
 /// `da`: all forms are removed (Mooers 1966).
 pub fn delete_all(work: &mut Work) -> Made
     requires { IsSound work.old }
@@ -126,17 +129,16 @@ pub fn delete_definition(work: &mut Work, mut arguments: Arguments) -> Made
     ensures room { work.new.room ≡ work.old.room }
     ensures sound { IsSound work.new }
 {
-    if arguments.is_empty() {
-        return Made::Value;
+    for _name in 0..FEW {
+        if arguments.is_empty() {
+            return Made::Value;
+        }
+        if let Some(form) = next_form(work, &mut arguments) {
+            work.delete(form);
+        }
     }
-    let all = arguments;
-    let name = arguments.next(work);
     if !arguments.is_empty() {
-        work.delete_named(all.from, all.end);
-        return Made::Value;
-    }
-    if let Some(form) = work.find(name.0, name.1) {
-        work.delete(form);
+        work.delete_named(arguments.from, arguments.end);
     }
     Made::Value
 }

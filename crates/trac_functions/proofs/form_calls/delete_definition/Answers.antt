@@ -1,17 +1,19 @@
-use Rattle.std.proofs.Common.{◌≡◌, ℕ, ◌<◌, ◌≤◌, ◌∷◌, [], List, drop, refl, sym, ap, ◌∙◌, subst, arith, false}
+use Rattle.std.proofs.Common.{◌≡◌, ℕ, ◌<◌, ◌≤◌, ◌∷◌, [], List, drop, sym, ap, ◌∙◌, arith, false, refl}
 use Rattle.std.specs.List.{remove}
 use Rattle.trac_language.specs.declared.function.Function.TheVariants.{DeleteDefinition}
 use Rattle.trac_language.specs.Text.{Text}
-use Rattle.trac_language.specs.Store.{NoneNamed, without}
+use Rattle.trac_language.specs.Form.{Form}
+use Rattle.trac_language.specs.Store.{without}
 use Rattle.trac_language.specs.State.{Input, argument}
 use Rattle.trac_language.specs.Meaning.{meaning_of, silent}
-use Rattle.trac_forms.specs.Contents.{Contents, IsSound, IsNamedAt}
+use Rattle.trac_forms.specs.Contents.{Contents, IsSound}
 use Rattle.trac_forms.proofs.Stores.{without-at, without-none}
 use Rattle.trac_functions.specs.declared.arguments.Arguments.{Arguments}
-use Rattle.trac_functions.specs.Calls.{world, texts, IsValue}
+use Rattle.trac_functions.specs.Calls.{world, texts, texts_from, AreArguments, IsValue}
 use Rattle.trac_functions.proofs.ArgumentLemmas.{none-left}
-use Rattle.trac_functions.proofs.FormLemmas.{null-value, next-left, parted, parted-texts, unnamed, unnamed-none, unnamed-first}
+use Rattle.trac_functions.proofs.FormLemmas.{null-value, arguments-kept, next-left, only-forms, parted, parted-texts, unnamed, unnamed-none, unnamed-first}
 use Rattle.trac_functions.proofs.form_calls.delete_definition.Goals as goal
+use Rattle.trac_functions.proofs.form_calls.delete_definition.Goals.{in-Some, in_default}
 
 -- what a call means that leaves these forms
 left : (old new : Contents) (ts : List Text) → IsSound old → unnamed ts old.forms ≡ new.forms → new ≡ record old { forms = new.forms } → (name : Text) → (value : Text) × IsValue DeleteDefinition (name ∷ ts) old new false value
@@ -20,59 +22,69 @@ left old new ts sound all same name =
     let means = λ (meta : ℕ) (input : Input). ap (λ forms. silent (world forms meta input)) all in
     ([], null-value DeleteDefinition (name ∷ ts) old new sound means (λ _. refl) same)
 
--- one argument alone is left
-module _ (old : Contents) (a b : Arguments) (sound : IsSound old) (some : a.from ≤ a.end) (past : b.end < b.from) (rest : texts old b ≡ drop 1 (texts old a)) where
-  one : texts old a ≡ argument (texts old a) 0 ∷ []
-  one = next-left old a b some rest ∙ ap (λ ts. argument (texts old a) 0 ∷ ts) (none-left old b past)
+-- one name is taken, and the form that it names left
+leaves : (now new : Contents) (a b : Arguments) → AreArguments now a → a.from ≤ a.end → texts now b ≡ drop 1 (texts now a) → (forms : List Form) → new ≡ record now { forms = forms } → forms ≡ without (argument (texts now a) 0) now.forms → unnamed (texts new b) new.forms ≡ unnamed (texts now a) now.forms
+leaves now new a b are some rest forms is gone =
+    ap (λ cells. unnamed (texts_from cells b.from b.end) new.forms) (ap (λ (w : Contents). w.neutral) is)
+    ∙ ap (unnamed (texts now b)) (ap (λ (w : Contents). w.forms) is ∙ gone)
+    ∙ sym (unnamed-first (argument (texts now a) 0) (texts now b) now.forms are.sound.forms)
+    ∙ sym (ap (λ names. unnamed names now.forms) (next-left now a b some rest))
 
-  -- the forms without that of its name
-  leaves : unnamed (texts old a) old.forms ≡ without (argument (texts old a) 0) old.forms
-  leaves =
-      ap (λ ts. unnamed ts old.forms) one
-      ∙ unnamed-first (argument (texts old a) 0) [] old.forms sound.forms
-      ∙ unnamed-none (without (argument (texts old a) 0) old.forms)
+-- no name is left
+all-taken : (old now : Contents) (ts : List Text) (a : Arguments) → a.end < a.from → unnamed (texts now a) now.forms ≡ unnamed ts old.forms → unnamed ts old.forms ≡ now.forms
+all-taken old now ts a past taken =
+    sym taken ∙ ap (λ names. unnamed names now.forms) (none-left now a past) ∙ unnamed-none now.forms
+
+pub loop-name-preserved : goal.loop-name-preserved
+loop-name-preserved c =
+    let now = c.loop-name.work in
+    let i = c.loop-name.invariant in
+    let a = c.loop-name.arguments in
+    let b = c.next_form.new.arguments in
+    let some : a.from ≤ a.end = grind (arith, c.is_empty.ensures) in
+    elim c.match-next_form.branch [
+      | in-Some w ↦ (
+          let new = w.delete.new.self in
+          let is = w.delete.ensures.gone ∙ ap (λ (v : Contents). record v { forms = remove v.forms w.in-Some.form.0 }) c.next_form.ensures.same in
+          rw w.work-is (record {
+            left = arguments-kept now new b c.next_form.ensures.left w.delete.ensures.sound (ap (λ (v : Contents). v.neutral) is);
+            same = only-forms c.args.work.now now new _ i.same is;
+            leaves = leaves now new a b i.left some c.next_form.ensures.rest _ is (sym (without-at _ now.forms w.in-Some.form.0 i.left.sound.forms w.in-Some.ensures.found)) ∙ i.leaves;
+          }))
+      | in_default w ↦ (
+          let new = c.next_form.new.work in
+          let is = c.next_form.ensures.same in
+          rw w.work-is (record {
+            left = rw is c.next_form.ensures.left;
+            same = only-forms c.args.work.now now new now.forms i.same is;
+            leaves = leaves now new a b i.left some c.next_form.ensures.rest now.forms is (sym (without-none _ now.forms w.in_default.ensures.found)) ∙ i.leaves;
+          }))
+    ]
 
 pub returns-then-is_empty-clause-makes : goal.returns-then-is_empty-clause-makes
 returns-then-is_empty-clause-makes c =
-    let old = c.args.work.now in
-    let past : c.args.arguments.end < c.args.arguments.from = grind (arith, c.is_empty.ensures) in
-    left old old (texts old c.args.arguments) c.requires.sound (ap (λ ts. unnamed ts old.forms) (none-left old c.args.arguments past) ∙ unnamed-none old.forms) refl
+    let i = c.loop-name.invariant in
+    let past : c.loop-name.arguments.end < c.loop-name.arguments.from = grind (arith, c.is_empty.ensures) in
+    left c.args.work.now c.loop-name.work (texts c.args.work.now c.args.arguments) c.requires.sound (all-taken c.args.work.now c.loop-name.work (texts c.args.work.now c.args.arguments) c.loop-name.arguments past i.leaves) i.same
 
 pub delete_named-requires : goal.delete_named-requires
-delete_named-requires c = parted c.args.work.now c.args.arguments c.requires
+delete_named-requires c = parted c.loop-name.work c.loop-name.arguments c.loop-name.invariant.left
 
 pub returns-then-not-is_empty-clause-makes : goal.returns-then-not-is_empty-clause-makes
 returns-then-not-is_empty-clause-makes c =
     let old = c.args.work.now in
+    let now = c.loop-name.work in
     let new = c.delete_named.new.self in
+    let i = c.loop-name.invariant in
     let gone = c.delete_named.ensures.gone in
     let forms = ap (λ (w : Contents). w.forms) gone in
-    let names = parted-texts old c.args.arguments c.requires in
-    left old new (texts old c.args.arguments) c.requires.sound (ap (λ ts. unnamed ts old.forms) (sym names) ∙ sym forms) (gone ∙ ap (λ fs. record old { forms = fs }) (sym forms))
-
-pub returns-in-Some-clause-makes : goal.returns-in-Some-clause-makes
-returns-in-Some-clause-makes c =
-    let old = c.args.work.now in
-    let new = c.delete.new.self in
-    let k = c.in-Some.form.0 in
-    let some : c.args.arguments.from ≤ c.args.arguments.end = grind (arith, c.is_empty.ensures) in
-    let past : c.next-name.new.self.end < c.next-name.new.self.from = grind (arith, c.is_empty-2.ensures) in
-    let gone : new ≡ record old { forms = remove old.forms k } = c.delete.ensures.gone ∙ ap (λ (w : Contents). record w { forms = remove w.forms k }) c.find.ensures.same in
-    let forms = ap (λ (w : Contents). w.forms) gone in
-    let named : IsNamedAt old.forms (argument (texts old c.args.arguments) 0) k = subst (λ name. IsNamedAt old.forms name k) c.next-name.ensures.text c.in-Some.ensures.found in
+    let names = parted-texts now c.loop-name.arguments i.left in
     left old new (texts old c.args.arguments) c.requires.sound
-    (leaves old c.args.arguments c.next-name.new.self c.requires.sound some past c.next-name.ensures.rest ∙ without-at _ old.forms k c.requires.sound.forms named ∙ sym forms)
-    (gone ∙ ap (λ fs. record old { forms = fs }) (sym forms))
+    (sym i.leaves ∙ ap (λ ts. unnamed ts now.forms) (sym names) ∙ sym forms)
+    (only-forms old now new _ i.same gone)
 
-pub returns-in_default-clause-makes : goal.returns-in_default-clause-makes
-returns-in_default-clause-makes c =
-    let old = c.args.work.now in
-    let new = c.find.new.self in
-    let same = c.find.ensures.same in
-    let some : c.args.arguments.from ≤ c.args.arguments.end = grind (arith, c.is_empty.ensures) in
-    let past : c.next-name.new.self.end < c.next-name.new.self.from = grind (arith, c.is_empty-2.ensures) in
-    let forms = ap (λ (w : Contents). w.forms) same in
-    let none : NoneNamed (argument (texts old c.args.arguments) 0) old.forms = subst (λ name. NoneNamed name old.forms) c.next-name.ensures.text c.in_default.ensures.found in
-    left old new (texts old c.args.arguments) c.requires.sound
-    (leaves old c.args.arguments c.next-name.new.self c.requires.sound some past c.next-name.ensures.rest ∙ without-none _ old.forms none ∙ sym forms)
-    (same ∙ ap (λ fs. record old { forms = fs }) (sym forms))
+pub returns-else-not-is_empty-clause-makes : goal.returns-else-not-is_empty-clause-makes
+returns-else-not-is_empty-clause-makes c =
+    let i = c.loop-name.invariant in
+    let past : c.loop-name.arguments.end < c.loop-name.arguments.from = grind (arith, c.is_empty-2.ensures) in
+    left c.args.work.now c.loop-name.work (texts c.args.work.now c.args.arguments) c.requires.sound (all-taken c.args.work.now c.loop-name.work (texts c.args.work.now c.args.arguments) c.loop-name.arguments past i.leaves) i.same
