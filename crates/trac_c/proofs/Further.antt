@@ -142,13 +142,13 @@ all-with-more (suc n) old new more ended going goes =
 
 -- ---- what a turn tells
 
-module _ (ended : Bool) (most : ℕ) (input buffer : Text) (old new : MachineState) (told : TracReport) (last : Turn) (earlier : ℕ) (left : Stream) where
+module _ (ended : Bool) (most : ℕ) (input buffer : Text) (old new : MachineState) (told : TracReport) (last : Turn) (left : Stream) where
   start : Moment
-  start = moment old (record { bytes = input; ended = false }) (earlier ∷ [])
+  start = moment old (record { bytes = input; ended = false }) []
 
   pub tells :
       old.fate ≡ None →
-      SomeTurned ended most (moment old (record { bytes = input; ended = false }) (earlier ∷ [])) last (moment new left (earlier ∷ take told.written buffer)) →
+      SomeTurned ended most (moment old (record { bytes = input; ended = false }) []) last (moment new left (take told.written buffer)) →
       told.fate ≡ turn_number last →
       told.steps ≡ new.steps →
       told.peak ≡ new.peak →
@@ -156,7 +156,7 @@ module _ (ended : Bool) (most : ℕ) (input buffer : Text) (old new : MachineSta
       told.consumed ≡ length input - length left.bytes →
       ((input : Input) → told.wanted ≡ wanted_by last (length (next_printed new input))) →
       (last ≡ Full → length buffer < told.written + told.wanted) →
-      TellsTurn ended most input buffer old new told last earlier left
+      TellsTurn ended most input buffer old new told last left
   unfolding start
   tells going turned fate steps peak written consumed wanted full =
       record {

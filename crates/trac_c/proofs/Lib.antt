@@ -5,6 +5,5 @@ mod KeptLooks
 mod Laying
 mod Limits
 mod Listing
-mod Loans
 mod Rooms
-mod SameLoan
+mod Telling

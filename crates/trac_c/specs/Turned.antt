@@ -1,5 +1,5 @@
 -- What C is told of a machine that it keeps.
-use Rattle.std.specs.Prelude.{◌≡◌, ℕ, zero, suc, ◌+◌, ◌-◌, ◌<◌, ◌≤◌, [], ◌∷◌, ◌++◌, length, take}
+use Rattle.std.specs.Prelude.{◌≡◌, ℕ, zero, suc, ◌+◌, ◌-◌, ◌<◌, ◌≤◌, [], ◌++◌, length, take}
 use Rattle.std.specs.Prelude.{Bool, true, false, not, ◌&&◌, nat_le, nat_eq, Some, None}
 use Rattle.trac_language.specs.declared.fate.Fate.{Fate}
 use Rattle.trac_language.specs.Text.{Text}
@@ -12,7 +12,7 @@ use Rattle.trac_core.specs.declared.machine.session.Awaits.TheVariants.{Text as 
 use Rattle.trac_core.specs.Machine.{MachineState, Moment, moment, GoesOn, Answers}
 use Rattle.trac_core.specs.Session.{awaited, next_function, next_printed}
 use Rattle.trac_c.specs.Told.{number}
-use Rattle.trac_c.specs.declared.lent_sink.LentSink.{LentSink}
+use Rattle.trac_c.specs.declared.filling.FillingSink.{FillingSink}
 use Rattle.trac_c.specs.declared.report.TracReport.{TracReport}
 use Rattle.trac_c.specs.declared.turn.Turn.{Turn}
 use Rattle.trac_c.specs.declared.turn.Turn.TheVariants.{Went, Waits, Full, Over}
@@ -76,16 +76,14 @@ abbrev pub SomeTurned : Bool → ℕ → Moment → Turn → Moment → Type 0
 SomeTurned ended most old last new =
     (done : ℕ) × ((before : Moment) × Turned ended most old last new done before)
 
--- the moment at which a machine stands between a source and a sink over a lent buffer: what was
--- written before it counts as one number, that of the loan
-abbrev pub stands : MachineState → SliceInput → LentSink → Moment
-stands m source sink =
-    moment m (stream_in source) (sink.buffer.ghost_name ∷ take sink.len sink.buffer.now)
+-- the moment at which a machine stands between a source and a sink over a buffer
+abbrev pub stands : MachineState → SliceInput → FillingSink → Moment
+stands m source sink = moment m (stream_in source) (take sink.len sink.room.now)
 
 -- the next step prints more, whatever the input, than there is room for in the sink
-abbrev pub LacksRoom : MachineState → LentSink → Type 0
+abbrev pub LacksRoom : MachineState → FillingSink → Type 0
 LacksRoom m sink =
-    (input : Input) → length sink.buffer.now < sink.len + length (next_printed m input)
+    (input : Input) → length sink.room.now < sink.len + length (next_printed m input)
 
 -- the number of what a turn ended with
 abbrev pub turn_number : Turn → ℕ
@@ -101,20 +99,18 @@ wanted_by Went printed = 0
 wanted_by Waits printed = 0
 wanted_by (Over fate) printed = 0
 
--- in numbers, a turn over this input, whose output stands at the front of a buffer. What was
--- written before the turn is any list of one number: no step looks at it. Where the input goes on
--- behind these bytes, the steps that were done are those over all of it
+-- in numbers, a turn over this input, whose output stands at the front of a buffer. Where the input
+-- goes on behind these bytes, the steps that were done are those over all of it
 pub record TellsTurn (ended : Bool) (most : ℕ) (input buffer : Text) (old new : MachineState)
-    (told : TracReport) (last : Turn) (earlier : ℕ) (left : Stream) : Type 0 where
+    (told : TracReport) (last : Turn) (left : Stream) : Type 0 where
   pub turned :
       SomeTurned ended most
-      (moment old (record { bytes = input; ended = false }) (earlier ∷ []))
+      (moment old (record { bytes = input; ended = false }) [])
       last
-      (moment new left (earlier ∷ take told.written buffer))
+      (moment new left (take told.written buffer))
   pub whole :
       ended ≡ false →
-      GoesWithMore turned.0 (moment old (record { bytes = input; ended = false }) (earlier ∷ []))
-      turned.1.0
+      GoesWithMore turned.0 (moment old (record { bytes = input; ended = false }) []) turned.1.0
   pub fate : told.fate ≡ turn_number last
   pub steps : told.steps ≡ new.steps
   pub peak : told.peak ≡ new.peak
@@ -126,8 +122,7 @@ pub record TellsTurn (ended : Bool) (most : ℕ) (input buffer : Text) (old new 
 abbrev pub TurnOf :
     Bool → (most : ℕ) → (input buffer : Text) → (old new : MachineState) → TracReport → Type 0
 TurnOf ended most input buffer old new told =
-    (last : Turn) × ((earlier : ℕ) × ((left : Stream) ×
-    TellsTurn ended most input buffer old new told last earlier left))
+    (last : Turn) × ((left : Stream) × TellsTurn ended most input buffer old new told last left)
 
 -- whether C says that the input ends
 abbrev pub is_ended : ℕ → Bool

@@ -37,6 +37,21 @@ impl<'a> FillingSink<'a> {
             failures: 0,
         }
     }
+
+    /// How many bytes were written.
+    pub(crate) fn len(&self) -> usize
+        ensures len { result ≡ self.now.len }
+        ensures fits { result ≤ length self.now.room.now }
+    {
+        self.len
+    }
+
+    /// How many bytes there is room for.
+    pub(crate) fn free(&self) -> usize
+        ensures { result + self.now.len ≡ length self.now.room.now }
+    {
+        self.room.len() - self.len
+    }
 }
 
 impl Sink for FillingSink<'_> {

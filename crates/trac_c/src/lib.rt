@@ -6,7 +6,6 @@
 mod filling;
 mod forms;
 mod kept;
-mod lent_sink;
 mod report;
 mod run;
 mod strings;

@@ -8,7 +8,7 @@ ghost use denote.Array.{Array};
 ghost use denote.RawPtr.{lies_at, room_at};
 ghost use types.Logic.{sem};
 
-use crate::lent_sink::LentSink;
+use crate::filling::FillingSink;
 use crate::report::{TracReport, number, refused};
 use trac_core::{Cell, Machine, SliceSource};
 
@@ -58,7 +58,7 @@ fn run_over(block: &mut [Cell], steps: u64, script: &[u8], output: &mut [u8]) ->
     ensures { Ran (length block.old) steps script.now output.new result }
 {
     let mut source = SliceSource::new(script, None);
-    let mut sink = LentSink::new(output);
+    let mut sink = FillingSink::new(output);
     let done = Machine::over(block, steps).run(&mut source, &mut sink);
     TracReport {
         fate: number(done.fate),

@@ -5,7 +5,7 @@ ghost use Rattle.trac_language.specs.State.{Input};
 ghost use Rattle.trac_c.specs.Turned.{TurnsTo, LacksRoom, is_short, is_ended, stands, SomeTurned};
 ghost use Rattle.trac_c.specs.Turned.{TurnedOrOver, turn_number, last_over, wanted_by};
 
-use crate::lent_sink::LentSink;
+use crate::filling::FillingSink;
 use crate::report::{TracReport, number};
 use trac_core::{Awaits, Fate, Machine, SliceSource};
 
@@ -35,7 +35,7 @@ pub(crate) fn take_turn(
         machine.new }
 {
     let mut source = SliceSource::new(input, None);
-    let mut sink = LentSink::new(output);
+    let mut sink = FillingSink::new(output);
     let last = go_on(machine, &mut source, &mut sink, ended != 0, most);
     let wanted = wanted(machine, last);
     TracReport {
@@ -76,7 +76,7 @@ fn turn_number(last: Turn) -> u32
 fn go_on(
     machine: &mut Machine,
     source: &mut SliceSource,
-    sink: &mut LentSink,
+    sink: &mut FillingSink,
     ended: bool,
     most: u64,
 ) -> Turn
@@ -85,7 +85,7 @@ fn go_on(
     ensures turned { machine.old.fate ≡ None →
         SomeTurned ended most (stands machine.old source.old sink.old) result
         (stands machine.new source.new sink.new) }
-    ensures same_buffer { sink.new.buffer.ghost_name ≡ sink.old.buffer.ghost_name }
+    ensures same_room { sink.new.room.ghost_name ≡ sink.old.room.ghost_name }
     ensures full { result ≡ Turn.Full → LacksRoom machine.new sink.new }
     ensures over { (fate : Fate) → machine.old.fate ≡ Some fate →
         (result ≡ last_over most fate) × (machine.new ≡ machine.old)
@@ -106,7 +106,7 @@ fn go_on(
 fn step_on(
     machine: &mut Machine,
     source: &mut SliceSource,
-    sink: &mut LentSink,
+    sink: &mut FillingSink,
     ended: bool,
 ) -> Turn
     requires source_sound { source.old.failures ≡ 0 }
@@ -117,7 +117,7 @@ fn step_on(
     ensures over { (fate : Fate) → machine.old.fate ≡ Some fate →
         (result ≡ Turn.Over fate) × (machine.new ≡ machine.old)
         × (source.new ≡ source.old) × (sink.new.len ≡ sink.old.len) }
-    ensures same_buffer { sink.new.buffer.ghost_name ≡ sink.old.buffer.ghost_name }
+    ensures same_room { sink.new.room.ghost_name ≡ sink.old.room.ghost_name }
     ensures full { result ≡ Turn.Full → LacksRoom machine.new sink.new }
     ensures went { result ≡ Turn.Went →
         (machine.new.fate ≡ None) × (source.new.failures ≡ 0) × (sink.new.failures ≡ 0) }

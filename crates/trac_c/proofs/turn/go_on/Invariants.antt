@@ -16,7 +16,7 @@ invariant-loop-done l =
           (fate : Fate) → l.initial.machine.fate ≡ Some fate →
           (l.done ≡ 0) × (l.machine ≡ l.initial.machine)
           × (l.source ≡ l.initial.source) × (l.sink.len ≡ l.initial.sink.len);
-      same_buffer : l.sink.buffer.ghost_name ≡ l.initial.sink.buffer.ghost_name;
+      same_room : l.sink.room.ghost_name ≡ l.initial.sink.room.ghost_name;
       bound : l.done ≤ l.most;
       source : l.source.failures ≡ 0;
       sink : l.sink.failures ≡ 0;

@@ -1,9 +1,9 @@
-use Rattle.std.proofs.Common.{rules, refl, [], ap, ◌∙◌}
+use Rattle.std.proofs.Common.{rules, [], ap, ◌∙◌}
 use Rattle.trac_core.specs.Machine.{ending}
 use Rattle.trac_devices.specs.Slices.{stream_in}
 use Rattle.trac_c.proofs.Again.{told-again}
 use Rattle.trac_c.proofs.Further.{tells}
-use Rattle.trac_c.proofs.SameLoan.{told_turn, told_full}
+use Rattle.trac_c.proofs.Telling.{told_turn, told_full}
 use Rattle.trac_c.proofs.turn.take_turn.Goals as goal
 
 pub returns : goal.returns
@@ -13,20 +13,16 @@ returns c =
       turn = λ going. (
         c.go_on-last.result,
         (
-          c.new-sink.result.buffer.ghost_name,
-          (
-            stream_in c.go_on-last.new.source,
-            tells _ _ _ _ _ _ _ _ _ _ going
-                (told_turn _ _ _ _ _ c.new-source.result c.go_on-last.new.source
-                c.new-sink.result c.go_on-last.new.sink _ _ _ _ _ (ap stream_in c.new-source.ensures)
-                refl c.new-sink.ensures.empty
-                c.go_on-last.ensures.same_buffer (search rules) c.len.ensures.len same
-                (c.go_on-last.ensures.turned going))
-                c.turn_number.ensures c.steps.ensures c.peak.ensures
-                (search rules) (search rules) (search rules)
-                (told_full _ c.go_on-last.new.machine c.go_on-last.new.sink _ _ _ (search rules) c.len.ensures.len c.wanted-wanted.ensures.bytes
-                c.go_on-last.ensures.full),
-          ),
+          stream_in c.go_on-last.new.source,
+          tells _ _ _ _ _ _ _ _ _ going
+              (told_turn _ _ _ _ _ c.new-source.result c.go_on-last.new.source
+              c.new-sink.result c.go_on-last.new.sink _ _ _ _ (ap stream_in c.new-source.ensures)
+              c.new-sink.ensures.empty (search rules) c.len.ensures.len same
+              (c.go_on-last.ensures.turned going))
+              c.turn_number.ensures c.steps.ensures c.peak.ensures
+              (search rules) (search rules) (search rules)
+              (told_full _ c.go_on-last.new.machine c.go_on-last.new.sink _ _ _ (search rules) c.len.ensures.len c.wanted-wanted.ensures.bytes
+              c.go_on-last.ensures.full),
         ),
       );
       over = λ fate over.
