@@ -100,7 +100,7 @@ same_name p (form ∷ forms) zero (suc j) = refl
 same_name p (form ∷ forms) (suc k) zero = refl
 same_name p (form ∷ forms) (suc k) (suc j) = same_name p forms k j
 
-same_start : (p : ℕ) (forms : List Form) (k j : ℕ) → start_of (set forms k (record (form_at forms k) { pointer = p })) j ≡ start_of forms j
+pub same_start : (p : ℕ) (forms : List Form) (k j : ℕ) → start_of (set forms k (record (form_at forms k) { pointer = p })) j ≡ start_of forms j
 same_start p [] k j = refl
 same_start p (form ∷ forms) zero zero = refl
 same_start p (form ∷ forms) (suc k) zero = refl
