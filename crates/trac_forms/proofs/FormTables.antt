@@ -77,6 +77,14 @@ module _ (table : List Cell) (n k : ℕ) (name : ℕ → Text) (start : ℕ → 
       let home : home_in table k ≡ e.0 = ap number_of e.1.1.home in
       subst (λ s. IsIndexBut (set table s Comma) n k name start) (sym home) (index-bury table n k e.0 e.1.0 name start index within e.1.1)
 
+-- the table of the first forms without the last of them
+pub index-cut : (table : List Cell) (forms : List Form) (k : ℕ) → k < length forms → IsIndex table (take (k + 1) forms) → IsIndex (buried table k) (take k forms)
+index-cut table forms k within index =
+    let front = index-front table forms (k + 1) (omega (arith, within)) index in
+    let cut = index-buried table (k + 1) k (name_at forms) (start_of forms) front (omega arith) in
+    front-index (buried table k) forms k (omega (arith, within))
+    (index-as (buried table k) (k + 1) k k k (name_at forms) (name_at forms) (start_of forms) (start_of forms) (omega (arith, cut.roomy)) (λ j less there. (omega (arith, less), there, refl, refl)) (λ j less there. (omega (arith, less, there), there)) cut)
+
 -- where forms begin once one is removed
 start-cells : (forms : List Form) (j : ℕ) → start_of forms j ≡ cells (take j forms)
 start-cells forms j = length-flat (take j forms)

@@ -100,7 +100,7 @@ same_name new (form ∷ forms) zero (suc j) named = refl
 same_name new (form ∷ forms) (suc k) zero named = refl
 same_name new (form ∷ forms) (suc k) (suc j) named = same_name new forms k j named
 
-same_start : (new : Form) (forms : List Form) (k j : ℕ) → length (flat_form new) ≡ length (flat_form (form_at forms k)) → start_of (set forms k new) j ≡ start_of forms j
+pub same_start : (new : Form) (forms : List Form) (k j : ℕ) → length (flat_form new) ≡ length (flat_form (form_at forms k)) → start_of (set forms k new) j ≡ start_of forms j
 same_start new [] k j long = refl
 same_start new (form ∷ forms) zero zero long = refl
 same_start new (form ∷ forms) (suc k) zero long = refl

@@ -1,7 +1,7 @@
 -- Forms that are marked, and then removed.
-use Rattle.std.proofs.Common.{◌≡◌, ℕ, zero, suc, ◌+◌, ◌≤◌, Bool, true, false, List, [], ◌∷◌, length, map, set, slice_range, sym, ap, refl, ◌∙◌, subst, arith}
+use Rattle.std.proofs.Common.{◌≡◌, ◌<◌, ℕ, zero, suc, ◌+◌, ◌≤◌, Bool, true, false, List, [], ◌∷◌, length, map, set, slice_range, sym, ap, refl, ◌∙◌, subst, arith, take, ◌⊎◌, ⊎_elim}
 use Rattle.std.specs.Prelude.{if◌then◌else◌, filter, not, ◌||◌, ◌==◌}
-use Rattle.std.proofs.lemmas.List.{length-append, length-map, length-set}
+use Rattle.std.proofs.lemmas.List.{length-append, length-map, length-set, get_or-set_other, take_all}
 use Rattle.std.proofs.lemmas.List.Elements.{All-head, All-tail}
 use Rattle.trac_language.specs.Text.{Text}
 use Rattle.trac_language.specs.Form.{Form}
@@ -14,14 +14,14 @@ use Rattle.trac_forms.specs.FlatForms.{flat_form, flat_forms, flat_item}
 use Rattle.trac_forms.specs.Contents.{form_at, IsNamedAt, IsTextPart, part_text, part_texts}
 use Rattle.trac_forms.specs.Arguments.{before_comma, parts_between, texts_between, AreParted}
 use Rattle.trac_forms.specs.Index.{IsIndexed}
-use Rattle.trac_forms.specs.Stored.{forms_in, start_of, shown, IsStored}
-use Rattle.trac_forms.specs.Removal.{is_among, without_all, mark, is_marked, marked, marked_if, with_marks, unmarked, HaveOwnNames, IsFormed}
+use Rattle.trac_forms.specs.Stored.{IsPlace, forms_in, start_of, shown, IsStored}
+use Rattle.trac_forms.specs.Removal.{is_among, without_all, mark, is_marked, marked, marked_if, with_marks, unmarked, HaveOwnNames, IsFormed, IsMarkedFrom}
 use Rattle.trac_forms.proofs.FlatLemmas.{forms_in-flat, used-stored}
 use Rattle.trac_forms.proofs.Strings.{restored, shown-restored}
 use Rattle.trac_forms.proofs.Places.{stands, repointed, start_of-set}
 use Rattle.trac_forms.proofs.Parted.{parts-first, part-fits}
-use Rattle.trac_forms.proofs.Indexed.{index-pointer}
-use Rattle.trac_forms.proofs.Stores.{cells-set, same_name, other_name, earlier_differs, NoneNamed-set}
+use Rattle.trac_forms.proofs.Indexed.{index-pointer, same_start}
+use Rattle.trac_forms.proofs.Stores.{cells-set, same_name, other_name, earlier_differs, NoneNamed-set, pointer-within}
 
 -- ---- distinct names
 
@@ -98,14 +98,49 @@ marked-lists s t count last start k at name h named begins written =
       }),
     )
 
+-- a form whose pointer is a place of its body has no mark
+no-mark : (n : ℕ) → n ≤ 16777216 → (n == mark) ≡ false
+no-mark n small = grind arith
+
+-- where the first mark is or may be, once a form is marked
+pub marked-from : (forms : List Form) (k start : ℕ) (first now : ℕ × ℕ) → IsMarkedFrom forms first.0 first.1 → k < length forms → start ≡ start_of forms k → (now ≡ first) ⊎ (now ≡ (k, start)) → now.0 ≤ first.0 → now.0 ≤ k → IsMarkedFrom (set forms k (marked (form_at forms k))) now.0 now.1
+marked-from forms k start first now h within begins one before order =
+    let form = marked (form_at forms k) in
+    let place : IsPlace forms now.0 now.1 = ⊎_elim
+    (λ e. subst (λ (at : ℕ × ℕ). IsPlace forms at.0 at.1) (sym e) h.place)
+    (λ e. subst (λ (at : ℕ × ℕ). IsPlace forms at.0 at.1) (sym e) (record { within = omega (arith, within); start_is = begins }))
+    one in
+    record {
+      place = record {
+        within = omega (arith, place.within, length-set forms k form);
+        start_is = place.start_is ∙ sym (same_start (record (form_at forms k) { pointer = mark }) forms k now.0 refl);
+      };
+      plain = λ j less.
+          let other = get_or-set_other forms k j form (record { name = []; body = []; pointer = 0 }) (λ e. absurd (omega (arith, e, less, order))) in
+          ap is_marked other ∙ h.plain j (omega (arith, less, before));
+    }
+
+-- the forms of the store then
+pub marked-read : (s t : Lists) (k : ℕ) (name : Text) → HaveOwnNames (forms_in s.store) → IsNamedAt (forms_in s.store) name k → t ≡ record s { store = flat_forms (with_marks (name ∷ []) (forms_in s.store)) } → forms_in t.store ≡ set (forms_in s.store) k (marked (form_at (forms_in s.store) k))
+marked-read s t k name distinct named is =
+    ap (λ (w : Lists). forms_in w.store) is ∙ forms_in-flat (with_marks (name ∷ []) (forms_in s.store)) ∙ mark-at name (forms_in s.store) k distinct named
+
+-- forms of a `Work` have no mark
+pub none-marked : (s : Lists) (count last start : ℕ) → IsStored s count last start → IsMarkedFrom (forms_in s.store) (length (forms_in s.store)) (length s.store)
+none-marked s count last start h =
+    let forms = forms_in s.store in
+    let all : take (length forms) forms ≡ forms = take_all (length forms) forms (omega arith) in
+    record {
+      place = record { within = omega arith; start_is = sym (ap (λ fs. length (flat_forms fs)) all ∙ ap length h.whole) };
+      plain = λ j less.
+          let f = stands forms s.store j (start_of forms j) h.whole less refl in
+          no-mark (form_at forms j).pointer (omega (arith, f.end, h.bounded, pointer-within forms j h.sound.forms));
+    }
+
 -- ---- what stays
 
 length-cons : (form : Form) (forms : List Form) → length (flat_forms (form ∷ forms)) ≡ length (flat_form form) + length (flat_forms forms)
 length-cons form forms = length-append (flat_form form) (flat_forms forms)
-
--- a form whose pointer is a place of its body has no mark
-no-mark : (n : ℕ) → n ≤ 16777216 → (n == mark) ≡ false
-no-mark n small = grind arith
 
 pub unmarked-marks : (names : List Text) (forms : List Form) → IsStore forms → length (flat_forms forms) ≤ 16777216 → unmarked (with_marks names forms) ≡ without_all names forms
 unmarked-marks names [] h few = refl

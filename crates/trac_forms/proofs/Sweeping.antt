@@ -2,6 +2,7 @@
 use Rattle.std.proofs.Common.{◌≡◌, ℕ, zero, suc, ◌+◌, ◌-◌, ◌<◌, ◌≤◌, true, false, List, [], ◌∷◌, ◌++◌, length, take, drop, map, slice_range, slice_get, sym, ap, refl, ◌∙◌, arith}
 use Rattle.std.specs.Prelude.{not}
 use Rattle.std.proofs.lemmas.List.{append_assoc, append-nil, take-append-drop, length-append, length-map, length-drop, length-take-le, length_push, take_more, take_at, drop_at, drop-drop, flat_map_more}
+use Rattle.std.proofs.lemmas.List.Concat.{flat_map-append}
 use Rattle.std.proofs.lemmas.List.Edits.{length-between}
 use Rattle.std.proofs.lemmas.Option.{slice_get_past}
 use Rattle.std.proofs.lemmas.Slice.{drop-append-drop}
@@ -15,8 +16,8 @@ use Rattle.trac_space.specs.Texts.{flat_text}
 use Rattle.trac_space.proofs.Characters.{part-on}
 use Rattle.trac_forms.specs.FlatForms.{flat_item, flat_form, flat_forms}
 use Rattle.trac_forms.specs.Contents.{form_at}
-use Rattle.trac_forms.specs.Removal.{is_marked, unmarked}
-use Rattle.trac_forms.specs.Stored.{forms_in, start_of, head_number, head_at}
+use Rattle.trac_forms.specs.Removal.{IsMarkedFrom, is_marked, unmarked}
+use Rattle.trac_forms.specs.Stored.{forms_in, start_of, head_number, head_at, IsPlace}
 use Rattle.trac_forms.proofs.Places.{Stands, stands}
 
 -- of the first i forms, which end at `from`, those without a mark stand before the gap from a up to
@@ -144,6 +145,52 @@ module _ (old now : Lists) (i a b from kept : ℕ) (h : IsSweptTo old now i a b 
           few = omega (arith, h.few);
           count = h.count ∙ ap length (sym next);
         }
+
+-- forms without a mark all stay
+pub plain-taken : (forms : List Form) (k : ℕ) → ((j : ℕ) → j < k → is_marked (form_at forms j) ≡ false) → unmarked (take k forms) ≡ take k forms
+plain-taken [] zero plain = refl
+plain-taken [] (suc k) plain = refl
+plain-taken (form ∷ forms) zero plain = refl
+plain-taken (form ∷ forms) (suc k) plain =
+    let e = plain 0 (omega arith) in
+    rw e (ap (λ fs. form ∷ fs) (plain-taken forms k (λ j less. plain (suc j) (omega (arith, less)))))
+
+-- the first forms have none
+pub swept-first : (old : Lists) (k at : ℕ) → flat_forms (forms_in old.store) ≡ old.store → IsMarkedFrom (forms_in old.store) k at → IsSweptTo old old k at at at k
+swept-first old k at whole h =
+    let forms = forms_in old.store in
+    let none : at - at ≡ 0 = omega arith in
+    let stay = plain-taken forms k h.plain in
+    let parts = sym whole ∙ ap flat_forms (sym (take-append-drop k forms)) ∙ flat_map-append flat_form (take k forms) (drop k forms) in
+    let front : take at old.store ≡ flat_forms (take k forms) = ap (take at) parts ∙ take_at (flat_forms (take k forms)) (flat_forms (drop k forms)) at (sym h.place.start_is) in
+    record {
+      same = refl;
+      len = refl;
+      begins = h.place.start_is;
+      behind = refl;
+      gap = omega arith;
+      order = omega arith;
+      cells = ap (λ n. take at old.store ++ take n (drop at old.store)) none ∙ append-nil (take at old.store) ∙ front ∙ ap flat_forms (sym stay);
+      few = omega arith;
+      count = sym (ap length stay ∙ length-take-le k forms h.place.within);
+    }
+
+-- the first forms are those of the list that stays
+module _ (forms : List Form) (k at : ℕ) (h : IsMarkedFrom forms k at) where
+  stays : unmarked forms ≡ take k forms ++ unmarked (drop k forms)
+  stays =
+      ap unmarked (sym (take-append-drop k forms))
+      ∙ filter-append (λ form. not (is_marked form)) (take k forms) (drop k forms)
+      ∙ ap (λ fs. fs ++ unmarked (drop k forms)) (plain-taken forms k h.plain)
+
+  pub first-stay : take k (unmarked forms) ≡ take k forms
+  first-stay = ap (take k) stays ∙ take_at (take k forms) (unmarked (drop k forms)) k (length-take-le k forms h.place.within)
+
+  pub place-stays : IsPlace (unmarked forms) k at
+  place-stays = record {
+    within = omega (arith, ap length stays, length-append (take k forms) (unmarked (drop k forms)), length-take-le k forms h.place.within);
+    start_is = h.place.start_is ∙ ap (λ fs. length (flat_forms fs)) (sym first-stay);
+  }
 
 -- where there is no gap nothing moves
 pub unmoved : (s : Lists) (a b from : ℕ) → a ≡ b → b ≤ from → s ≡ record s { store = take a s.store ++ slice_range s.store b from ++ drop (a + (from - b)) s.store }

@@ -1,11 +1,12 @@
 -- Forms that are removed by their names.
-use Rattle.std.specs.Prelude.{◌≡◌, ℕ, ◌==◌, ◌≤◌, Bool, List, [], ◌∷◌, length, map, filter, not}
+use Rattle.std.specs.Prelude.{◌≡◌, ℕ, ◌==◌, ◌≤◌, ◌<◌, Bool, false, List, [], ◌∷◌, length, map, filter, not}
 use Rattle.std.specs.Prelude.{bytes_eq, if◌then◌else◌}
 use Rattle.std.specs.List.{list_any}
 use Rattle.trac_language.specs.Text.{Text}
 use Rattle.trac_language.specs.Form.{Form}
 use Rattle.trac_language.specs.Store.{NoneNamed}
 use Rattle.trac_space.specs.Lists.{Lists}
+use Rattle.trac_forms.specs.Contents.{form_at}
 use Rattle.trac_forms.specs.FlatForms.{flat_forms}
 use Rattle.trac_forms.specs.Index.{IsIndexed}
 use Rattle.trac_forms.specs.Stored.{forms_in, IsPlace}
@@ -55,3 +56,8 @@ pub record IsFormed (s : Lists) (count last start : ℕ) : Type 0 where
   pub place : IsPlace (forms_in s.store) last start
   pub distinct : HaveOwnNames (forms_in s.store)
   pub index : IsIndexed s.spare (forms_in s.store)
+
+-- the first form with a mark, if there is one, is that at place k or behind it, and that begins there
+pub record IsMarkedFrom (forms : List Form) (k start : ℕ) : Type 0 where
+  pub place : IsPlace forms k start
+  pub plain : (j : ℕ) → j < k → is_marked (form_at forms j) ≡ false

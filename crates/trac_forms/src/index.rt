@@ -13,7 +13,7 @@ ghost use Rattle.trac_space.specs.Lists as lists;
 ghost use Rattle.trac_space.specs.Texts.{text_of_cells, character_of, IsByte};
 ghost use Rattle.trac_forms.specs.FlatForms.{flat_forms};
 ghost use Rattle.trac_forms.specs.Contents.{IsSound, name_at};
-ghost use Rattle.trac_forms.specs.Stored.{forms_in, start_of, IsFoundAt};
+ghost use Rattle.trac_forms.specs.Stored.{forms_in, start_of, IsFoundAt, IsPlace};
 ghost use Rattle.trac_forms.specs.Index.{hash, quarter, slots, IsIndex, IsIndexBut, IsIndexed};
 ghost use Rattle.trac_forms.specs.Index.{IsOpenFor, is_open, with_entry, start_in, home_in, buried};
 ghost use Rattle.trac_forms.specs.Index.{forward, earlier, started, HasStartsFrom};
@@ -327,25 +327,44 @@ fn index_all(space: &mut Space, count: u32, cells: u32)
     ensures index { IsIndexed space.new.spare (forms_in space.old.store) }
 {
     space.take_spare(cells);
-    index_each(space, count);
+    index_from(space, (0, 0), count);
 }
 
-// Puts all forms into a table that has none, if there is a table.
-pub(crate) fn index_each(space: &mut Space, count: u32)
+// Puts the forms from one on into the table of those before it, if there is a table.
+pub(crate) fn index_from(space: &mut Space, first: (u32, u32), count: u32)
     requires whole { flat_forms (forms_in space.old.store) ≡ space.old.store }
     requires bounded { length space.old.store ≤ 16777216 }
     requires count_is { count ≡ length (forms_in space.old.store) }
-    requires none { IsIndexed space.old.spare [] }
+    requires place { IsPlace (forms_in space.old.store) first.0 first.1 }
+    requires index { IsIndexed space.old.spare (take first.0 (forms_in space.old.store)) }
     ensures same { space.new ≡ record space.old { spare = space.new.spare } }
     ensures index { IsIndexed space.new.spare (forms_in space.old.store) }
 {
     if space.spare_len() == 0 {
         return;
     }
-    let mut start = 0;
-    for k in 0..count {
+    let mut start = first.1;
+    for k in first.0..count {
         index_form(space, k, start);
         start += 3 + head(space, start) + head(space, start + 1);
+    }
+}
+
+// Takes the forms from form `k` on out of the table of `count` forms, if there is one.
+pub(crate) fn unindex_from(space: &mut Space, k: u32, count: u32)
+    requires order { k ≤ count }
+    requires count_is { count ≡ length (forms_in space.old.store) }
+    requires index { IsIndexed space.old.spare (forms_in space.old.store) }
+    ensures same { space.new ≡ record space.old { spare = space.new.spare } }
+    ensures index { IsIndexed space.new.spare (take k (forms_in space.old.store)) }
+{
+    if space.spare_len() == 0 {
+        return;
+    }
+    let mut left = count;
+    while left > k {
+        left -= 1;
+        bury(space, left);
     }
 }
 

@@ -1,6 +1,6 @@
 use Rattle.std.proofs.Common.{◌≡◌, ◌+◌, ◌-◌}
 use Rattle.trac_forms.specs.Arguments.{AreParted, texts_between}
-use Rattle.trac_forms.specs.Removal.{IsFormed, with_marks}
+use Rattle.trac_forms.specs.Removal.{IsFormed, IsMarkedFrom, with_marks}
 use Rattle.trac_forms.specs.Stored.{forms_in}
 use Rattle.trac_forms.proofs.removal.mark_all.Given as goal
 
@@ -8,7 +8,8 @@ use Rattle.trac_forms.proofs.removal.mark_all.Given as goal
 abbrev pub invariant-loop-from : goal.invariant-loop-from
 invariant-loop-from l = record {
   left : AreParted l.space.neutral l.from l.names.1;
-  formed : IsFormed l.space l.count l.last.0 l.last.1;
+  formed : IsFormed l.space l.count l.places.0.0 l.places.0.1;
+  first : IsMarkedFrom (forms_in l.space.store) l.places.1.0 l.places.1.1;
   same : l.space ≡ record l.fn.space { store = l.space.store; spare = l.space.spare };
   marks : with_marks (texts_between l.space.neutral l.from l.names.1) (forms_in l.space.store) ≡ with_marks (texts_between l.fn.space.neutral l.fn.names.0 l.fn.names.1) (forms_in l.fn.space.store);
 }

@@ -2,7 +2,7 @@ use Rattle.std.proofs.Common.{◌≡◌, ◌+◌, ◌<◌, length, true, false, 
 use Rattle.trac_forms.specs.Contents.{form_at}
 use Rattle.trac_forms.specs.Removal.{is_marked, mark}
 use Rattle.trac_forms.specs.Stored.{forms_in}
-use Rattle.trac_forms.proofs.Sweeping.{swept-name, swept-body, swept-pointer, swept-end, swept-more, swept-gone}
+use Rattle.trac_forms.proofs.Sweeping.{swept-name, swept-body, swept-pointer, swept-end, swept-more, swept-gone, swept-first}
 use Rattle.trac_forms.proofs.removal.remove_marked.Goals.{then-pointer, else-pointer}
 use Rattle.trac_forms.proofs.removal.remove_marked.Goals as goal
 
@@ -67,3 +67,6 @@ loop-form-preserved c =
           let plain : is_marked form ≡ false = grind (arith, pointer, w.if-pointer.false) in
           rw (w.space-is, w.kept-is, w.gap-is) (swept-more c.args.space.now c.loop-form.space c.loop-form._form c.loop-form.gap.0 c.loop-form.gap.1 c.loop-form.from c.loop-form.kept i c.requires.whole less end ends plain)
     ]
+
+pub loop-form-init : goal.loop-form-init
+loop-form-init c = swept-first c.args.space.now c.args.first.0 c.args.first.1 c.requires.whole c.requires.first

@@ -4,7 +4,7 @@ use Rattle.trac_forms.specs.Contents.{form_at}
 use Rattle.trac_forms.specs.Stored.{forms_in, head_at}
 use Rattle.trac_forms.specs.Index.{IsIndexed}
 use Rattle.trac_forms.proofs.Places.{stands}
-use Rattle.trac_forms.proofs.index.index_each.Goals as goal
+use Rattle.trac_forms.proofs.index.index_from.Goals as goal
 
 pub overflow_add-start : goal.overflow_add-start
 overflow_add-start c =
