@@ -1,5 +1,5 @@
 //! Buffers of a caller's, filled from the front as far as they reach.
-ghost use Rattle.std.specs.Prelude.{◌≡◌, ◌+◌, ◌^◌, ◌<◌, ◌≤◌, [], ◌∷◌, length, take};
+ghost use Rattle.std.specs.Prelude.{◌≡◌, ◌+◌, ◌<◌, ◌≤◌, [], ◌∷◌, length, take};
 ghost use Rattle.trac_c.specs.Laid.{laid_from};
 
 use trac_core::{Sink, SinkFailed};

@@ -1,5 +1,5 @@
 //! The display of a form, and the function that prints it: `pf`.
-ghost use Rattle.std.specs.Prelude.{◌≡◌, ◌≢◌, ◌+◌, ◌-◌, ◌<◌, ◌≤◌, ◌^◌, [], ◌∷◌};
+ghost use Rattle.std.specs.Prelude.{◌≡◌, ◌≢◌, ◌+◌, ◌-◌, ◌<◌, ◌≤◌, ◌^◌, []};
 ghost use Rattle.std.specs.Prelude.{◌++◌, ℕ, length, Some, slice_range, OnErr, OnOk, codes};
 ghost use Rattle.std.specs.Prelude.{decimal};
 ghost use Rattle.trac_language.specs.Meaning.{show, show_form};
