@@ -1,6 +1,6 @@
 -- Forms that are removed by their names.
-use Rattle.std.specs.Prelude.{◌≡◌, ℕ, ◌==◌, ◌≤◌, ◌<◌, Bool, false, List, [], ◌∷◌, length, map, filter, not}
-use Rattle.std.specs.Prelude.{bytes_eq, if◌then◌else◌}
+use Rattle.std.specs.Prelude.{◌≡◌, ℕ, ◌==◌, ◌≤◌, ◌<◌, Bool, false, List, [], ◌∷◌, length, map}
+use Rattle.std.specs.Prelude.{filter, not, bytes_eq, if◌then◌else◌}
 use Rattle.std.specs.List.{list_any}
 use Rattle.trac_language.specs.Text.{Text}
 use Rattle.trac_language.specs.Form.{Form}
@@ -57,7 +57,7 @@ pub record IsFormed (s : Lists) (count last start : ℕ) : Type 0 where
   pub distinct : HaveOwnNames (forms_in s.store)
   pub index : IsIndexed s.spare (forms_in s.store)
 
--- the first form with a mark, if there is one, is that at place k or behind it, and that begins there
+-- no form before place k has a mark, and the one at that place begins there
 pub record IsMarkedFrom (forms : List Form) (k start : ℕ) : Type 0 where
   pub place : IsPlace forms k start
   pub plain : (j : ℕ) → j < k → is_marked (form_at forms j) ≡ false

@@ -71,9 +71,9 @@ fn mark_all(
     places.1
 }
 
-// Marks the form whose name is the part of neutral, if there is one. Is told and gives two places of
-// the list, each with where that form begins: that of the form used last, and one before which no
-// form has a mark.
+// Marks the form whose name is the part of neutral, if there is one. Is told and gives two places
+// of the list, each with where that form begins: that of the form used last, and one before which
+// no form has a mark.
 fn mark_named(
     space: &mut Space,
     count: u32,
