@@ -55,7 +55,7 @@ def many_forms():
         calls.append(draw.choice([
             f'#(cl,{name})', f'#(cl,{name},{other})', f'#(cl,{name}x)', f'#(cs,{name})',
             f'#(ss,{name},-,r)', f'#(ds,{name},b-{other})', f'#(ds,{name},##(cl,{other}))',
-            f'#(dd,{name})', f'#(cr,{name})']))
+            f'#(dd,{name})', f'#(dd,x,x,{other},{name}x,{name})', f'#(cr,{name})']))
     long = 'a long text that fills the block ' * 9
     return "'".join(long if i % 60 == 59 else call for i, call in enumerate(calls)) + "'#(ln,/)'"
 

@@ -19,8 +19,9 @@ ghost use Rattle.trac_functions.specs.Calls.{AreArguments, texts, Makes, Perform
 use crate::arguments::{Arguments, Made, put_part};
 use trac_forms::{FormId, Work};
 
-// So many names of `dd` go one by one: each costs the forms behind it, and a pass costs all forms.
-const FEW: u32 = 8;
+// So many names of `dd` go one by one, since a form that stays is sooner brought forward twice in the
+// index than put into it again.
+const FEW: u32 = 2;
 
 /// `da`: all forms are removed (Mooers 1966).
 pub fn delete_all(work: &mut Work) -> Made
