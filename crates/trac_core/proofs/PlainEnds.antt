@@ -1,12 +1,14 @@
 -- The end of the neutral string in which no comma mark stands.
-use Rattle.std.proofs.Common.{◌≡◌, ℕ, ◌-◌, ◌+◌, false, List, ◌++◌, length, drop, All, refl, sym, subst, arith, ⊎_elim}
+use Rattle.std.proofs.Common.{◌≡◌, ℕ, ◌-◌, ◌+◌, true, false, List, [], ◌∷◌, ◌++◌, length, length-append, drop, get_or, All, refl, sym, subst, arith, ⊎_elim}
 use Rattle.std.proofs.lemmas.Bool.{cases_lt}
-use Rattle.std.proofs.lemmas.List.{drop-append-le}
+use Rattle.std.proofs.lemmas.List.{drop-append-le, get_or_push}
 use Rattle.std.proofs.lemmas.List.Elements.{All-append, All-drop}
 use Rattle.std.proofs.Math.Seq.{drop-append-add}
 use Rattle.trac_space.specs.declared.cell.Cell.{Cell}
 use Rattle.trac_space.specs.declared.cell.Cell.TheVariants.{Byte, Call, Comma, Gap, Head}
-use Rattle.trac_space.specs.Cells.{is_comma, NoComma}
+use Rattle.trac_language.specs.declared.mode.Mode.{Mode}
+use Rattle.trac_space.specs.Calls.{IsLastCall}
+use Rattle.trac_space.specs.Cells.{is_call, is_comma, NoCall, NoComma}
 use Rattle.trac_space.specs.Texts.{IsByte}
 use Rattle.trac_core.specs.StepsInRow.{IsPlainFrom}
 
@@ -33,3 +35,18 @@ plain-appended neutral more none place plain =
     subst (λ k. IsPlainFrom k (neutral ++ more)) e
     (subst NoComma (sym (drop-append-add neutral more n)) (All-drop (λ cell. is_comma cell ≡ false) n more none)))
     (cases_lt place (length neutral))
+
+-- nor is a call mark one
+pub mark-plain : (mode : Mode) → NoComma (Call mode 0 ∷ [])
+mark-plain mode = λ k d within.
+    let first : k ≡ 0 = omega (arith, within) in
+    subst (λ i. is_comma (get_or (Call mode 0 ∷ []) i d) ≡ false) (sym first) refl
+
+-- a call mark added at the end is that of the innermost call
+pub last-opened : (neutral : List Cell) (mode : Mode) → IsLastCall (neutral ++ Call mode 0 ∷ []) (length neutral)
+last-opened neutral mode =
+    let mark : Cell = Call mode 0 in
+    record {
+      mark = (omega (arith, length-append neutral (mark ∷ [])), subst (λ cell. is_call cell ≡ true) (sym (get_or_push neutral mark (Byte 0) (length neutral) refl)) refl);
+      after = subst NoCall (sym (drop-append-add neutral (mark ∷ []) 1)) (λ k d within. absurd (omega (arith, within)));
+    }

@@ -1,6 +1,6 @@
 -- Steps in a row: ordinary characters are added one by one, layout characters deleted, and the steps of any rule that
 -- performs no call follow one another.
-use Rattle.std.proofs.Common.{◌≡◌, ◌≢◌, ℕ, zero, suc, ◌<◌, ◌≤◌, ◌+◌, Bool, true, false, ◌||◌, List, [], ◌∷◌, ◌++◌, length, take, drop, All, Some, None, slice_get, refl, sym, ap, ◌∙◌, subst, arith, append_assoc, append-nil, length-append}
+use Rattle.std.proofs.Common.{◌≡◌, ◌≢◌, ℕ, zero, suc, ◌<◌, ◌≤◌, ◌+◌, ◌-◌, Bool, true, false, ◌||◌, List, [], ◌∷◌, ◌++◌, length, take, drop, All, Some, None, slice_get, refl, sym, ap, ◌∙◌, subst, arith, append_assoc, append-nil, length-append}
 use Rattle.std.specs.Prelude.{◌==◌}
 use Rattle.std.proofs.lemmas.List.{length-drop, take-take}
 use Rattle.std.proofs.lemmas.List.Elements.{All-head, All-tail, All-cons}
@@ -144,4 +144,19 @@ tried-passed old new n needed passes one sound needs meta source written = λ m 
       counts = record { steps = refl; peak = rw (here, need_is) refl };
       stays_ended = λ e. e;
       read_all = λ reads. absurd (let none = pass.reads input written in let some = sym (ap reads_to_end here) ∙ reads in cc);
+    }
+
+-- some steps that take a character each
+pub some-run : (old new : Contents) (n most : ℕ) → Advances n old new → n ≤ most → 0 < n → length new.active + n ≡ length old.active → SomeSteps n most old new
+some-run old new n most passes few some shorter =
+    record { passes = passes; some = some; few = few; shorter = omega arith }
+
+-- a step, and then some that take a character each
+pub step-run : (old middle new : Contents) (n most : ℕ) → Scans old middle (used old) → used middle ≤ used old → length middle.active < length old.active → 0 < most → Advances n middle new → n ≤ most - 1 → length new.active + n ≡ length middle.active → SomeSteps (1 + n) most old new
+step-run old middle new n most scans same shorter some passes few less =
+    record {
+      passes = λ meta. passes-then 1 n (memory_of meta old) (memory_of meta middle) (memory_of meta new) (passes-once _ _ (passes-scans meta old middle scans same)) (passes meta);
+      some = omega arith;
+      few = omega arith;
+      shorter = omega arith;
     }

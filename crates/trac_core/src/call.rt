@@ -148,9 +148,27 @@ fn answer<I: Source, O: Sink>(
     }
 }
 
-/// What the function makes of the arguments that follow its name; a null
-/// value of those that touch a device or the meta character, or end the run.
+/// What the function makes of the arguments that follow its name; a null value of those that touch
+/// a device or the meta character, or end the run. A call of a form is the most frequent one, and
+/// made where the scanner goes on.
+#[inline]
 fn value_of(work: &mut Work, function: Function, arguments: Arguments) -> Made
+    requires arguments { AreArguments work.old arguments }
+    ensures makes { is_plain function ≡ true →
+        Performs function work.old arguments result work.new }
+    ensures unmade { result ≡ Made.Full → work.new.forms ≡ work.old.forms }
+    ensures room { work.new.room ≡ work.old.room }
+    ensures sound { IsSound work.new }
+{
+    match function {
+        Function::CallForm => form_calls::call_form(work, arguments),
+        _ => other_value(work, function, arguments),
+    }
+}
+
+/// The same in a function of its own.
+#[inline(never)]
+fn other_value(work: &mut Work, function: Function, arguments: Arguments) -> Made
     requires arguments { AreArguments work.old arguments }
     ensures makes { is_plain function ≡ true →
         Performs function work.old arguments result work.new }

@@ -112,7 +112,7 @@ fn pass(work: &mut Work, most: u64, plain: &mut u32, long: &mut bool) -> Result<
         Some(b'(') => protect(work),
         Some(b')') => return end_call(work, *plain),
         Some(b',') => return Ok(begin_argument(work, most, plain, *long)),
-        Some(b'#') => number_sign(work),
+        Some(b'#') => return Ok(number_sign(work, most, plain, *long)),
         Some(_) => return Ok(add_characters(work, most, plain, long)),
     }
     Ok(1)
@@ -189,16 +189,18 @@ fn begin_argument(work: &mut Work, most: u64, plain: &mut u32, long: bool) -> u6
 }
 
 /// The steps of the ordinary characters and the commas at the front of the active string where a
-/// call is open, at most so many and at most `FEW`, all at once. Gives how many they were.
+/// call is open, at most so many and at most `FEW`, all at once; none where another character
+/// stands there. Gives how many they were.
 #[inline(never)]
 fn add_run(work: &mut Work, most: u64, plain: &mut u32) -> u64
-    requires some { 0 < most }
-    requires first { (c : ℕ) ×
-        ((slice_get (text_of_cells work.old.active) 0 ≡ Some c) × (kind_of c ≤ 1)) }
     requires opened { (place : ℕ) × IsLastCall work.old.neutral place }
     requires plain { IsPlainFrom plain.old work.old.neutral }
     requires sound { IsSound work.old }
-    ensures passes { SomeSteps result most work.old work.new }
+    ensures passes { Advances result work.old work.new }
+    ensures few { result ≤ most }
+    ensures some { (c : ℕ) → slice_get (text_of_cells work.old.active) 0 ≡ Some c →
+        kind_of c ≤ 1 → 0 < most → 0 < result }
+    ensures shorter { length work.new.active + result ≡ length work.old.active }
     ensures plain { IsPlainFrom plain.new work.new.neutral }
     ensures room { work.new.room ≡ work.old.room }
     ensures sound { IsSound work.new }
@@ -311,13 +313,33 @@ fn protect(work: &mut Work)
     }
 }
 
-/// A number sign opens a call with a left parenthesis after
-/// it, or after a second one; any other is added.
+/// A number sign opens a call with a left parenthesis after it, or after a second one, and what
+/// begins its name is added as by `add_run`, unless long runs are; any other is added. Gives how
+/// many steps they were.
 #[inline]
-fn number_sign(work: &mut Work)
+fn number_sign(work: &mut Work, most: u64, plain: &mut u32, long: bool) -> u64
+    requires some { 0 < most }
+    requires first { slice_get (text_of_cells work.old.active) 0 ≡ Some 35 }
+    requires plain { IsPlainFrom plain.old work.old.neutral }
+    requires sound { IsSound work.old }
+    ensures passes { SomeSteps result most work.old work.new }
+    ensures plain { IsPlainFrom plain.new work.new.neutral }
+    ensures room { work.new.room ≡ work.old.room }
+    ensures sound { IsSound work.new }
+{
+    if !opens_call(work) || long {
+        return 1;
+    }
+    1 + add_run(work, most - 1, plain)
+}
+
+/// A number sign opens a call or is added. Gives whether it opened one.
+#[inline]
+fn opens_call(work: &mut Work) -> bool
     requires sound { IsSound work.old }
     requires first { slice_get (text_of_cells work.old.active) 0 ≡ Some 35 }
     ensures scans { Scans work.old work.new (used work.old) }
+    ensures opened { IsTrue result → (place : ℕ) × IsLastCall work.new.neutral place }
     ensures plain { KeepsPlain work.old work.new }
     ensures no_larger { used work.new ≤ used work.old }
     ensures shorter { length work.new.active < length work.old.active }
@@ -330,7 +352,9 @@ fn number_sign(work: &mut Work)
         begin_call(work, 3, Mode::Neutral);
     } else {
         put_first(work, b'#');
+        return false;
     }
+    true
 }
 
 /// The characters that open a call leave the active string,

@@ -147,6 +147,7 @@ pub fn delete_definition(work: &mut Work, mut arguments: Arguments) -> Made
 /// `cl,N,X1,X2,..`: the form N from its pointer on, each gap of ordinal k replaced by Xk, or by
 /// nothing where that is missing (Mooers 1966). What stands before the pointer is left out, and the
 /// pointer stays (this processor's own choice).
+#[inline]
 pub fn call_form(work: &mut Work, mut arguments: Arguments) -> Made
     requires { AreArguments work.old arguments }
     ensures makes { Performs CallForm work.old arguments result work.new }
@@ -165,6 +166,7 @@ pub fn call_form(work: &mut Work, mut arguments: Arguments) -> Made
 }
 
 /// The form that the next argument names, None where no form has the name.
+#[inline(always)]
 fn next_form(work: &mut Work, arguments: &mut Arguments) -> Option<FormId>
     requires { AreArguments work.old arguments.old }
     ensures found { let name = argument (texts work.old arguments.old) 0 in

@@ -16,17 +16,23 @@ returns-clause-passes c =
     let n = c.run_to_neutral-count.result.0 in
     let run = c.run_to_neutral-count.ensures in
     let within : n ≤ length old.active = omega (arith, run.few, c.min.ensures, c.min-reach.ensures, c.from.ensures, c.active_len.ensures.value) in
-    let inside = some-active old.active c.requires.first.0 c.requires.first.1.0 in
-    let reach : 0 < c.min.result = omega (arith, inside, c.requires.some, c.min.ensures, c.min-reach.ensures, c.from.ensures, c.active_len.ensures.value) in
-    let some = run-some old.active n c.min.result c.requires.first.0 c.requires.first.1.0 c.requires.first.1.1 reach run.ends in
-    let less = length-drop n old.active in
-    rw (c.from-2.ensures, run.moved)
-    (record {
-      passes = λ meta. run-passes meta n c.requires.opened.0 old c.requires.opened.1 c.requires.sound.active within run.run;
-      some = some;
-      few = omega (arith, run.few, c.min.ensures, c.min-reach.ensures);
-      shorter = omega (arith, some, within, less);
-    })
+    rw (c.from-2.ensures, run.moved) (λ meta. run-passes meta n c.requires.opened.0 old c.requires.opened.1 c.requires.sound.active within run.run)
+
+pub returns-clause-some : goal.returns-clause-some
+returns-clause-some c = λ first is less allowed.
+    let old = c.args.work.now in
+    let n = c.run_to_neutral-count.result.0 in
+    let inside = some-active old.active first is in
+    let reach : 0 < c.min.result = omega (arith, inside, allowed, c.min.ensures, c.min-reach.ensures, c.from.ensures, c.active_len.ensures.value) in
+    rw c.from-2.ensures (run-some old.active n c.min.result first is less reach c.run_to_neutral-count.ensures.ends)
+
+pub returns-clause-shorter : goal.returns-clause-shorter
+returns-clause-shorter c =
+    let old = c.args.work.now in
+    let n = c.run_to_neutral-count.result.0 in
+    let run = c.run_to_neutral-count.ensures in
+    let within : n ≤ length old.active = omega (arith, run.few, c.min.ensures, c.min-reach.ensures, c.from.ensures, c.active_len.ensures.value) in
+    rw (c.from-2.ensures, run.moved) (omega (arith, within, length-drop n old.active))
 
 pub returns-clause-plain : goal.returns-clause-plain
 returns-clause-plain c =

@@ -3,7 +3,7 @@ use Rattle.std.specs.Prelude.{is_some}
 use Rattle.std.proofs.lemmas.List.{length-drop}
 use Rattle.trac_space.specs.declared.cell.Cell.TheVariants.{Comma}
 use Rattle.trac_core.proofs.Scanning.{scans-comma, scans-comma-none, last-some, last-none, some-active}
-use Rattle.trac_core.proofs.StepsInRow.{one-step}
+use Rattle.trac_core.proofs.StepsInRow.{one-step, some-run}
 use Rattle.trac_core.proofs.scan.begin_argument.Goals as goal
 
 pub returns-then-is_none-clause-passes : goal.returns-then-is_none-clause-passes
@@ -24,3 +24,8 @@ returns-then-long-clause-passes c =
     let less = length-drop 1 old.active in
     let pushed = length-append old.neutral (Comma ∷ []) in
     rw c.active_to_cell.ensures.turned (one-step old (record old { active = drop 1 old.active; neutral = old.neutral ++ Comma ∷ [] }) c.args.most (scans-comma old last.0 c.requires.first last.1) (omega (arith, less, pushed, some)) (omega (arith, less, some)) c.requires.some)
+
+pub returns-clause-passes : goal.returns-clause-passes
+returns-clause-passes c =
+    let run = c.add_run.ensures in
+    some-run _ _ _ c.args.most run.passes run.few (run.some 44 c.requires.first (omega arith) c.requires.some) run.shorter
