@@ -10,6 +10,7 @@ ghost use Rattle.trac_core.specs.Attempts.{scene, Tried, TriedCall, function_at,
 ghost use Rattle.trac_core.specs.Attempts.{TakesAtMost, AnswersCall, Stands, fate_after};
 ghost use Rattle.trac_core.specs.Attempts.{LeavesSource, LeavesSink};
 ghost use Rattle.trac_core.specs.StepsInRow.{AsksFor, IsPlainFrom};
+ghost use Rattle.trac_functions.specs.Calls.{KeepsRoom};
 
 use crate::delivery::settle;
 use crate::display::print_form;
@@ -50,8 +51,7 @@ pub(crate) fn carry_out<I: Source, O: Sink>(
     ensures takes { I.tells source.old → (taken : Text) ×
         TakesAtMost work.old (I.stream source.old) (I.stream source.new) taken }
     ensures fits { result.need ≤ work.old.room }
-    ensures room { work.new.room ≡ work.old.room }
-    ensures sound { IsSound work.new }
+    ensures keeps { KeepsRoom work.old work.new }
 {
     match front {
         Front::Empty => load_idling(work),
@@ -89,8 +89,7 @@ fn perform<I: Source, O: Sink>(
     ensures takes { I.tells source.old → (taken : Text) ×
         TakesFrom work.old (I.stream source.old) (I.stream source.new) taken }
     ensures fits { result.need ≤ work.old.room }
-    ensures room { work.new.room ≡ work.old.room }
-    ensures sound { IsSound work.new }
+    ensures keeps { KeepsRoom work.old work.new }
 {
     let before = work.used();
     let end = work.neutral_len();
@@ -125,8 +124,7 @@ fn answer<I: Source, O: Sink>(
         (work.new.forms ≡ work.old.forms) × (meta.new ≡ meta.old) }
     ensures takes { I.tells source.old → (taken : Text) ×
         TakesFrom work.old (I.stream source.old) (I.stream source.new) taken }
-    ensures room { work.new.room ≡ work.old.room }
-    ensures sound { IsSound work.new }
+    ensures keeps { KeepsRoom work.old work.new }
 {
     let mut arguments = Arguments {
         from: call.place + 1,
@@ -157,8 +155,7 @@ fn value_of(work: &mut Work, function: Function, arguments: Arguments) -> Made
     ensures makes { is_plain function ≡ true →
         Performs function work.old arguments result work.new }
     ensures unmade { result ≡ Made.Full → work.new.forms ≡ work.old.forms }
-    ensures room { work.new.room ≡ work.old.room }
-    ensures sound { IsSound work.new }
+    ensures keeps { KeepsRoom work.old work.new }
 {
     match function {
         Function::CallForm => form_calls::call_form(work, arguments),
@@ -173,8 +170,7 @@ fn other_value(work: &mut Work, function: Function, arguments: Arguments) -> Mad
     ensures makes { is_plain function ≡ true →
         Performs function work.old arguments result work.new }
     ensures unmade { result ≡ Made.Full → work.new.forms ≡ work.old.forms }
-    ensures room { work.new.room ≡ work.old.room }
-    ensures sound { IsSound work.new }
+    ensures keeps { KeepsRoom work.old work.new }
 {
     match function {
         Function::Equal => comparing::equal(work, arguments),

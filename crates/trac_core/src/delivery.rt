@@ -5,6 +5,7 @@ ghost use Rattle.trac_forms.specs.Contents.{IsSound};
 ghost use Rattle.trac_functions.specs.Flat.{mode_of, mode_at, is_active_mode};
 ghost use Rattle.trac_core.specs.Attempts.{value_delivered, settled, fate_after, need_after};
 ghost use Rattle.trac_core.specs.Attempts.{Stands};
+ghost use Rattle.trac_functions.specs.Calls.{KeepsRoom};
 
 use crate::scan::Attempt;
 use trac_forms::Work;
@@ -23,8 +24,7 @@ pub(crate) fn settle(work: &mut Work, places: (u32, u32), before: u32, made: Mad
     ensures fate { result.fate ≡ fate_after made }
     ensures need { result.need ≡ need_after made before places.1 work.old }
     ensures fits { result.need ≤ work.old.room }
-    ensures room { work.new.room ≡ work.old.room }
-    ensures sound { IsSound work.new }
+    ensures keeps { KeepsRoom work.old work.new }
 {
     let (place, from) = places;
     let (fate, need) = match made {

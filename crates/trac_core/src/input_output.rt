@@ -8,6 +8,7 @@ ghost use Rattle.trac_devices.specs.Devices.{Stream};
 ghost use Rattle.trac_functions.specs.Calls.{AreArguments};
 ghost use Rattle.trac_core.specs.Attempts.{scene, IsCall, HasArguments, AnswersCall, Stands};
 ghost use Rattle.trac_core.specs.Attempts.{TakesFrom, fate_after, LeavesSource, LeavesSink};
+ghost use Rattle.trac_functions.specs.Calls.{KeepsRoom};
 
 use crate::text_io::{ReadEnd, print_text, read_text};
 use trac_devices::{Next, Sink, Source};
@@ -33,8 +34,7 @@ pub(crate) fn read_string<I: Source>(work: &mut Work, meta: u8, source: &mut I) 
     ensures takes { I.tells source.old → (taken : Text) ×
         TakesFrom work.old (I.stream source.old) (I.stream source.new) taken }
     ensures forms { work.new.forms ≡ work.old.forms }
-    ensures room { work.new.room ≡ work.old.room }
-    ensures sound { IsSound work.new }
+    ensures keeps { KeepsRoom work.old work.new }
 {
     let from = work.neutral_len();
     match read_text(work, meta, source) {
@@ -62,8 +62,7 @@ pub(crate) fn read_character<I: Source>(work: &mut Work, source: &mut I) -> Made
     ensures takes { I.tells source.old → (taken : Text) ×
         TakesFrom work.old (I.stream source.old) (I.stream source.new) taken }
     ensures forms { work.new.forms ≡ work.old.forms }
-    ensures room { work.new.room ≡ work.old.room }
-    ensures sound { IsSound work.new }
+    ensures keeps { KeepsRoom work.old work.new }
 {
     match source.next() {
         Next::Byte(byte) => {

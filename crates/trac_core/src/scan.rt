@@ -7,6 +7,7 @@ ghost use Rattle.trac_core.specs.Attempts.{Scans, Scanned, NoneFailed};
 ghost use Rattle.trac_core.specs.StepsInRow.{IsOrdinary, IsLayout, Advances, SomeSteps};
 ghost use Rattle.trac_core.specs.StepsInRow.{ComesTo, StopsAt, IsPlainFrom, KeepsPlain, kind_of};
 ghost use Rattle.trac_space.specs.Calls.{IsLastCall};
+ghost use Rattle.trac_functions.specs.Calls.{KeepsRoom};
 
 use crate::runs::{KINDS, layout_characters, matching, ordinary_characters};
 use trac_forms::Work;
@@ -76,20 +77,19 @@ pub(crate) fn scan_on(work: &mut Work, most: u64) -> (u64, Option<Front>)
     ensures passes { Advances result.0 work.old work.new }
     ensures stops { StopsAt result.1 result.0 most work.new }
     ensures none { result.0 ≡ 0 → work.new ≡ work.old }
-    ensures room { work.new.room ≡ work.old.room }
-    ensures sound { IsSound work.new }
+    ensures keeps { KeepsRoom work.old work.new }
 {
-    let mut count = 0;
+    let mut left = most;
     let mut plain = work.neutral_len();
     // Whether the last run was long.
     let mut long = false;
-    while count < most {
-        match pass(work, most - count, &mut plain, &mut long) {
-            Ok(more) => count += more,
-            Err(front) => return (count, Some(front)),
+    while left > 0 {
+        match pass(work, left, &mut plain, &mut long) {
+            Ok(done) => left -= done,
+            Err(front) => return (most - left, Some(front)),
         }
     }
-    (count, None)
+    (most, None)
 }
 
 /// The table of the rules of scanning (Mooers 1966). Makes the steps of the rule that fits the
@@ -103,8 +103,7 @@ fn pass(work: &mut Work, most: u64, plain: &mut u32, long: &mut bool) -> Result<
     requires sound { IsSound work.old }
     ensures comes { ComesTo result most work.old work.new }
     ensures plain { IsPlainFrom plain.new work.new.neutral }
-    ensures room { work.new.room ≡ work.old.room }
-    ensures sound { IsSound work.new }
+    ensures keeps { KeepsRoom work.old work.new }
 {
     match character(work, 0) {
         None => return Err(Front::Empty),
@@ -127,8 +126,7 @@ fn end_call(work: &mut Work, plain: u32) -> Result<u64, Front>
     requires sound { IsSound work.old }
     ensures comes { ComesTo result 1 work.old work.new }
     ensures plain { KeepsPlain work.old work.new }
-    ensures room { work.new.room ≡ work.old.room }
-    ensures sound { IsSound work.new }
+    ensures keeps { KeepsRoom work.old work.new }
 {
     match work.last_call() {
         Some(place) => Err(Front::Closes(InnermostCall { place, plain })),
@@ -151,8 +149,7 @@ fn add_characters(work: &mut Work, most: u64, plain: &mut u32, long: &mut bool) 
     requires sound { IsSound work.old }
     ensures passes { SomeSteps result most work.old work.new }
     ensures plain { IsPlainFrom plain.new work.new.neutral }
-    ensures room { work.new.room ≡ work.old.room }
-    ensures sound { IsSound work.new }
+    ensures keeps { KeepsRoom work.old work.new }
 {
     let count = if *long || work.last_call().is_none() {
         add_long_run(work, most)
@@ -173,8 +170,7 @@ fn begin_argument(work: &mut Work, most: u64, plain: &mut u32, long: bool) -> u6
     requires sound { IsSound work.old }
     ensures passes { SomeSteps result most work.old work.new }
     ensures plain { IsPlainFrom plain.new work.new.neutral }
-    ensures room { work.new.room ≡ work.old.room }
-    ensures sound { IsSound work.new }
+    ensures keeps { KeepsRoom work.old work.new }
 {
     if work.last_call().is_none() {
         work.drop_active(1);
@@ -202,8 +198,7 @@ fn add_run(work: &mut Work, most: u64, plain: &mut u32) -> u64
         kind_of c ≤ 1 → 0 < most → 0 < result }
     ensures shorter { length work.new.active + result ≡ length work.old.active }
     ensures plain { IsPlainFrom plain.new work.new.neutral }
-    ensures room { work.new.room ≡ work.old.room }
-    ensures sound { IsSound work.new }
+    ensures keeps { KeepsRoom work.old work.new }
 {
     let before = work.neutral_len();
     let reach = most.min(u64::from(work.active_len()));
@@ -222,8 +217,7 @@ fn add_long_run(work: &mut Work, most: u64) -> u64
     requires sound { IsSound work.old }
     ensures passes { SomeSteps result most work.old work.new }
     ensures plain { KeepsPlain work.old work.new }
-    ensures room { work.new.room ≡ work.old.room }
-    ensures sound { IsSound work.new }
+    ensures keeps { KeepsRoom work.old work.new }
 {
     let count = 1 + ordinary_characters(after_first(work, most));
     work.active_to_neutral(count);
@@ -240,8 +234,7 @@ fn delete_layout(work: &mut Work, most: u64) -> u64
     requires sound { IsSound work.old }
     ensures passes { SomeSteps result most work.old work.new }
     ensures plain { KeepsPlain work.old work.new }
-    ensures room { work.new.room ≡ work.old.room }
-    ensures sound { IsSound work.new }
+    ensures keeps { KeepsRoom work.old work.new }
 {
     let count = 1 + layout_characters(after_first(work, most));
     work.drop_active(count);
@@ -273,8 +266,7 @@ pub(crate) fn load_idling(work: &mut Work) -> Attempt
     ensures fate { NoneFailed result.fate }
     ensures forms { work.new.forms ≡ work.old.forms }
     ensures fits { result.need ≤ work.old.room }
-    ensures room { work.new.room ≡ work.old.room }
-    ensures sound { IsSound work.new }
+    ensures keeps { KeepsRoom work.old work.new }
 {
     work.clear_neutral();
     if work.load_active(IDLING) {
@@ -299,8 +291,7 @@ fn protect(work: &mut Work)
     ensures plain { KeepsPlain work.old work.new }
     ensures no_larger { used work.new ≤ used work.old }
     ensures shorter { length work.new.active < length work.old.active }
-    ensures room { work.new.room ≡ work.old.room }
-    ensures sound { IsSound work.new }
+    ensures keeps { KeepsRoom work.old work.new }
 {
     prove!(work.used() <= work.room());
     match matching(work.active_part(1, work.active_len())) {
@@ -324,8 +315,7 @@ fn number_sign(work: &mut Work, most: u64, plain: &mut u32, long: bool) -> u64
     requires sound { IsSound work.old }
     ensures passes { SomeSteps result most work.old work.new }
     ensures plain { IsPlainFrom plain.new work.new.neutral }
-    ensures room { work.new.room ≡ work.old.room }
-    ensures sound { IsSound work.new }
+    ensures keeps { KeepsRoom work.old work.new }
 {
     if !opens_call(work) || long {
         return 1;
@@ -343,8 +333,7 @@ fn opens_call(work: &mut Work) -> bool
     ensures plain { KeepsPlain work.old work.new }
     ensures no_larger { used work.new ≤ used work.old }
     ensures shorter { length work.new.active < length work.old.active }
-    ensures room { work.new.room ≡ work.old.room }
-    ensures sound { IsSound work.new }
+    ensures keeps { KeepsRoom work.old work.new }
 {
     if is_at(work, 1, b'(') {
         begin_call(work, 2, Mode::Active);

@@ -31,6 +31,11 @@ pub record AreArguments (w : Contents) (arguments : Arguments) : Type 0 where
   pub no_call : NoCall (slice_range w.neutral arguments.from arguments.end)
   pub no_comma : NoComma (slice_range w.neutral arguments.plain arguments.end)
 
+-- the room is as it was, and what is in it is sound
+pub record KeepsRoom (old new : Contents) : Type 0 where
+  pub room : new.room ≡ old.room
+  pub sound : IsSound new
+
 -- the texts of the arguments that are left
 abbrev pub texts : Contents → Arguments → List Text
 texts w arguments = texts_from w.neutral arguments.from arguments.end

@@ -9,6 +9,7 @@ ghost use Rattle.trac_forms.specs.Arguments.{before_comma};
 ghost use Rattle.trac_forms.specs.Contents.{used, part_text, IsTextPart, IsSound};
 ghost use Rattle.trac_functions.specs.Calls.{MakesValue, AreArguments, texts};
 ghost use Rattle.trac_functions.specs.Taking.{TakesPart};
+ghost use Rattle.trac_functions.specs.Calls.{KeepsRoom};
 
 use trac_forms::{Cell, Work, before_comma};
 use trac_language::Fate;
@@ -116,8 +117,7 @@ pub fn give(work: &mut Work, part: (u32, u32), forced: bool) -> Made
     ensures takes { let text = part_text work.old.neutral part.0 part.1 in
         forced ≡ true → (k : ℕ) → TakesPart None text k work.old result work.new }
     ensures unmade { result ≡ Made.Full → work.new.forms ≡ work.old.forms }
-    ensures room { work.new.room ≡ work.old.room }
-    ensures sound { IsSound work.new }
+    ensures keeps { KeepsRoom work.old work.new }
 {
     if !put_part(work, part) {
         return Made::Full;

@@ -4,8 +4,9 @@ ghost use Rattle.std.specs.Fmt.{signed_decimal};
 ghost use Rattle.trac_language.specs.declared.function.Function.{Function};
 ghost use Rattle.trac_language.specs.declared.function.Function.TheVariants.{Arithmetic};
 ghost use Rattle.trac_language.specs.Text.{Text};
-ghost use Rattle.trac_forms.specs.Contents.{part_text, IsTextPart, IsSound};
+ghost use Rattle.trac_forms.specs.Contents.{part_text, IsTextPart};
 ghost use Rattle.trac_functions.specs.Calls.{AreArguments, texts, Valued, Makes};
+ghost use Rattle.trac_functions.specs.Calls.{KeepsRoom};
 
 use crate::arguments::{Arguments, Made, give, put_part, text};
 use crate::writing::put_bytes;
@@ -23,8 +24,7 @@ pub fn arithmetic(work: &mut Work, operation: Arith, mut arguments: Arguments) -
     ensures makes { (name : Text) →
         Makes (Arithmetic operation) (name ∷ texts work.old arguments) work.old result work.new }
     ensures unmade { result ≡ Made.Full → work.new.forms ≡ work.old.forms }
-    ensures room { work.new.room ≡ work.old.room }
-    ensures sound { IsSound work.new }
+    ensures keeps { KeepsRoom work.old work.new }
 {
     let first = arguments.next(work);
     let second = arguments.next(work);
@@ -46,8 +46,7 @@ fn give_number(work: &mut Work, prefix: (u32, u32), number: i128) -> Made
         Valued function args work.old.forms value false work.old.forms →
         Makes function args work.old result work.new }
     ensures unmade { result ≡ Made.Full → work.new.forms ≡ work.old.forms }
-    ensures room { work.new.room ≡ work.old.room }
-    ensures sound { IsSound work.new }
+    ensures keeps { KeepsRoom work.old work.new }
 {
     let mut buffer = Buffer::new();
     let digits = buffer.format(number).as_bytes();

@@ -11,6 +11,7 @@ ghost use Rattle.trac_values.specs.Digits.{bits_of_cells, IsOctal};
 ghost use Rattle.trac_forms.specs.Contents.{used, part_text, IsTextPart, IsSound};
 ghost use Rattle.trac_functions.specs.BitResults.{bits_at, AreDigits, AreFor, octal_made};
 ghost use Rattle.trac_functions.specs.Calls.{AreArguments, Valued, Makes, Performs};
+ghost use Rattle.trac_functions.specs.Calls.{KeepsRoom};
 
 use crate::arguments::{Arguments, Made, put_part, text};
 use trac_forms::{Cell, Work};
@@ -34,8 +35,7 @@ pub fn union(work: &mut Work, mut arguments: Arguments) -> Made
     requires { AreArguments work.old arguments }
     ensures makes { Performs Union work.old arguments result work.new }
     ensures unmade { result ≡ Made.Full → work.new.forms ≡ work.old.forms }
-    ensures room { work.new.room ≡ work.old.room }
-    ensures sound { IsSound work.new }
+    ensures keeps { KeepsRoom work.old work.new }
 {
     let first = arguments.next(work);
     let second = arguments.next(work);
@@ -51,8 +51,7 @@ pub fn intersection(work: &mut Work, mut arguments: Arguments) -> Made
     requires { AreArguments work.old arguments }
     ensures makes { Performs Intersection work.old arguments result work.new }
     ensures unmade { result ≡ Made.Full → work.new.forms ≡ work.old.forms }
-    ensures room { work.new.room ≡ work.old.room }
-    ensures sound { IsSound work.new }
+    ensures keeps { KeepsRoom work.old work.new }
 {
     let first = arguments.next(work);
     let second = arguments.next(work);
@@ -71,8 +70,7 @@ pub fn complement(work: &mut Work, mut arguments: Arguments) -> Made
     requires { AreArguments work.old arguments }
     ensures makes { Performs Complement work.old arguments result work.new }
     ensures unmade { result ≡ Made.Full → work.new.forms ≡ work.old.forms }
-    ensures room { work.new.room ≡ work.old.room }
-    ensures sound { IsSound work.new }
+    ensures keeps { KeepsRoom work.old work.new }
 {
     let first = arguments.next(work);
     let digits = digits_of(work, first);
@@ -87,8 +85,7 @@ pub fn shift(work: &mut Work, mut arguments: Arguments) -> Made
     requires { AreArguments work.old arguments }
     ensures makes { Performs Shift work.old arguments result work.new }
     ensures unmade { result ≡ Made.Full → work.new.forms ≡ work.old.forms }
-    ensures room { work.new.room ≡ work.old.room }
-    ensures sound { IsSound work.new }
+    ensures keeps { KeepsRoom work.old work.new }
 {
     let distance = arguments.next(work);
     let shifted = arguments.next(work);
@@ -105,8 +102,7 @@ pub fn rotate(work: &mut Work, mut arguments: Arguments) -> Made
     requires { AreArguments work.old arguments }
     ensures makes { Performs Rotate work.old arguments result work.new }
     ensures unmade { result ≡ Made.Full → work.new.forms ≡ work.old.forms }
-    ensures room { work.new.room ≡ work.old.room }
-    ensures sound { IsSound work.new }
+    ensures keeps { KeepsRoom work.old work.new }
 {
     let distance = arguments.next(work);
     let rotated = arguments.next(work);
@@ -205,8 +201,7 @@ fn give_bits(work: &mut Work, prefix: (u32, u32), bits: BitResult) -> Made
         Valued function args work.old.forms value false work.old.forms →
         Makes function args work.old result work.new }
     ensures unmade { result ≡ Made.Full → work.new.forms ≡ work.old.forms }
-    ensures room { work.new.room ≡ work.old.room }
-    ensures sound { IsSound work.new }
+    ensures keeps { KeepsRoom work.old work.new }
 {
     if work.free() < prefix.1 - prefix.0 + digits_made(work, bits) {
         return Made::Full;

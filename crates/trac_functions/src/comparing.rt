@@ -1,8 +1,8 @@
 //! The functions that compare: `eq` and `gr`.
 ghost use Rattle.std.specs.Prelude.{◌≡◌};
 ghost use Rattle.trac_language.specs.declared.function.Function.TheVariants.{Equal, Greater};
-ghost use Rattle.trac_forms.specs.Contents.{IsSound};
 ghost use Rattle.trac_functions.specs.Calls.{AreArguments, Performs};
+ghost use Rattle.trac_functions.specs.Calls.{KeepsRoom};
 
 use crate::arguments::{Arguments, Made, give, text};
 use trac_forms::Work;
@@ -12,8 +12,7 @@ pub fn equal(work: &mut Work, mut arguments: Arguments) -> Made
     requires { AreArguments work.old arguments }
     ensures makes { Performs Equal work.old arguments result work.new }
     ensures unmade { result ≡ Made.Full → work.new.forms ≡ work.old.forms }
-    ensures room { work.new.room ≡ work.old.room }
-    ensures sound { IsSound work.new }
+    ensures keeps { KeepsRoom work.old work.new }
 {
     let first = arguments.next(work);
     let second = arguments.next(work);
@@ -33,8 +32,7 @@ pub fn greater(work: &mut Work, mut arguments: Arguments) -> Made
     requires { AreArguments work.old arguments }
     ensures makes { Performs Greater work.old arguments result work.new }
     ensures unmade { result ≡ Made.Full → work.new.forms ≡ work.old.forms }
-    ensures room { work.new.room ≡ work.old.room }
-    ensures sound { IsSound work.new }
+    ensures keeps { KeepsRoom work.old work.new }
 {
     let first = arguments.next(work);
     let second = arguments.next(work);

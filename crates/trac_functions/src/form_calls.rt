@@ -15,6 +15,7 @@ ghost use Rattle.trac_space.specs.Texts.{flat_text};
 ghost use Rattle.trac_forms.specs.Contents.{used, name_at, part_text, IsTextPart, IsNamedAt};
 ghost use Rattle.trac_forms.specs.Contents.{IsSound, form_place};
 ghost use Rattle.trac_functions.specs.Calls.{AreArguments, texts, Makes, Performs};
+ghost use Rattle.trac_functions.specs.Calls.{KeepsRoom};
 
 use crate::arguments::{Arguments, Made, put_part};
 use trac_forms::{FormId, Work};
@@ -28,8 +29,7 @@ pub fn delete_all(work: &mut Work) -> Made
     requires { IsSound work.old }
     ensures makes { (args : List Text) → Makes DeleteAll args work.old result work.new }
     ensures unmade { result ≡ Made.Full → work.new.forms ≡ work.old.forms }
-    ensures room { work.new.room ≡ work.old.room }
-    ensures sound { IsSound work.new }
+    ensures keeps { KeepsRoom work.old work.new }
 {
     work.delete_all();
     Made::Value
@@ -42,8 +42,7 @@ pub fn define_string(work: &mut Work, mut arguments: Arguments) -> Made
     requires { AreArguments work.old arguments }
     ensures makes { Performs DefineString work.old arguments result work.new }
     ensures unmade { result ≡ Made.Full → work.new.forms ≡ work.old.forms }
-    ensures room { work.new.room ≡ work.old.room }
-    ensures sound { IsSound work.new }
+    ensures keeps { KeepsRoom work.old work.new }
 {
     let name = arguments.next(work);
     let text = arguments.next(work);
@@ -62,8 +61,7 @@ pub fn segment_string(work: &mut Work, mut arguments: Arguments) -> Made
     requires { AreArguments work.old arguments }
     ensures makes { Performs SegmentString work.old arguments result work.new }
     ensures unmade { result ≡ Made.Full → work.new.forms ≡ work.old.forms }
-    ensures room { work.new.room ≡ work.old.room }
-    ensures sound { IsSound work.new }
+    ensures keeps { KeepsRoom work.old work.new }
 {
     let Some(form) = next_form(work, &mut arguments) else {
         return Made::Value;
@@ -84,8 +82,7 @@ pub fn list_names(work: &mut Work, mut arguments: Arguments) -> Made
     requires { AreArguments work.old arguments }
     ensures makes { Performs ListNames work.old arguments result work.new }
     ensures unmade { result ≡ Made.Full → work.new.forms ≡ work.old.forms }
-    ensures room { work.new.room ≡ work.old.room }
-    ensures sound { IsSound work.new }
+    ensures keeps { KeepsRoom work.old work.new }
 {
     let before = arguments.next(work);
     for k in 0..work.forms() {
@@ -112,8 +109,7 @@ fn put_name(work: &mut Work, before: (u32, u32), form: FormId) -> bool
           neutral = work.old.neutral ++ flat_text text;
         }) }
     ensures forms { work.new.forms ≡ work.old.forms }
-    ensures room { work.new.room ≡ work.old.room }
-    ensures sound { IsSound work.new }
+    ensures keeps { KeepsRoom work.old work.new }
 {
     if !put_part(work, before) {
         return false;
@@ -127,8 +123,7 @@ pub fn delete_definition(work: &mut Work, mut arguments: Arguments) -> Made
     requires { AreArguments work.old arguments }
     ensures makes { Performs DeleteDefinition work.old arguments result work.new }
     ensures unmade { result ≡ Made.Full → work.new.forms ≡ work.old.forms }
-    ensures room { work.new.room ≡ work.old.room }
-    ensures sound { IsSound work.new }
+    ensures keeps { KeepsRoom work.old work.new }
 {
     for _name in 0..FEW {
         if arguments.is_empty() {
@@ -152,8 +147,7 @@ pub fn call_form(work: &mut Work, mut arguments: Arguments) -> Made
     requires { AreArguments work.old arguments }
     ensures makes { Performs CallForm work.old arguments result work.new }
     ensures unmade { result ≡ Made.Full → work.new.forms ≡ work.old.forms }
-    ensures room { work.new.room ≡ work.old.room }
-    ensures sound { IsSound work.new }
+    ensures keeps { KeepsRoom work.old work.new }
 {
     let Some(form) = next_form(work, &mut arguments) else {
         return Made::Value;

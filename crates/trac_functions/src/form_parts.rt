@@ -19,6 +19,7 @@ ghost use Rattle.trac_forms.specs.Search.{character_at, gap_at};
 ghost use Rattle.trac_functions.specs.Calls.{AreArguments, Performs};
 ghost use Rattle.trac_functions.specs.Taking.{TakesPart, IsFirstOr, TakesOrDefault};
 ghost use Rattle.trac_forms.specs.Contents.{form_place};
+ghost use Rattle.trac_functions.specs.Calls.{KeepsRoom};
 
 use crate::arguments::{Arguments, Made, give, put_part, text};
 use trac_forms::{FormId, Work};
@@ -33,8 +34,7 @@ pub fn call_segment(work: &mut Work, mut arguments: Arguments) -> Made
     requires { AreArguments work.old arguments }
     ensures makes { Performs CallSegment work.old arguments result work.new }
     ensures unmade { result ≡ Made.Full → work.new.forms ≡ work.old.forms }
-    ensures room { work.new.room ≡ work.old.room }
-    ensures sound { IsSound work.new }
+    ensures keeps { KeepsRoom work.old work.new }
 {
     let name = arguments.next(work);
     let default = arguments.next(work);
@@ -51,8 +51,7 @@ fn take_segment(work: &mut Work, form: FormId, default: (u32, u32)) -> Made
     requires sound { IsSound work.old }
     ensures takes { TakesOrDefault next_segment (form_place form) default work.old result work.new }
     ensures unmade { result ≡ Made.Full → work.new.forms ≡ work.old.forms }
-    ensures room { work.new.room ≡ work.old.room }
-    ensures sound { IsSound work.new }
+    ensures keeps { KeepsRoom work.old work.new }
 {
     let from = work.pointer(form);
     let end = work.body_len(form);
@@ -71,8 +70,7 @@ pub fn call_character(work: &mut Work, mut arguments: Arguments) -> Made
     requires { AreArguments work.old arguments }
     ensures makes { Performs CallCharacter work.old arguments result work.new }
     ensures unmade { result ≡ Made.Full → work.new.forms ≡ work.old.forms }
-    ensures room { work.new.room ≡ work.old.room }
-    ensures sound { IsSound work.new }
+    ensures keeps { KeepsRoom work.old work.new }
 {
     let name = arguments.next(work);
     let default = arguments.next(work);
@@ -90,8 +88,7 @@ fn take_character(work: &mut Work, form: FormId, default: (u32, u32)) -> Made
     ensures takes { TakesOrDefault (next_characters 1) (form_place form) default
         work.old result work.new }
     ensures unmade { result ≡ Made.Full → work.new.forms ≡ work.old.forms }
-    ensures room { work.new.room ≡ work.old.room }
-    ensures sound { IsSound work.new }
+    ensures keeps { KeepsRoom work.old work.new }
 {
     let from = work.pointer(form);
     match work.next_char(form, from) {
@@ -111,8 +108,7 @@ fn take_one(work: &mut Work, form: FormId, place: u32) -> Made
         let taken = part_between body (place, place + 1) (place + 1) in
         TakesPart (Some taken) z form.0 work.old result work.new }
     ensures unmade { result ≡ Made.Full → work.new.forms ≡ work.old.forms }
-    ensures room { work.new.room ≡ work.old.room }
-    ensures sound { IsSound work.new }
+    ensures keeps { KeepsRoom work.old work.new }
 {
     if !copy_character(work, form, place) {
         return Made::Full;
@@ -134,8 +130,7 @@ fn copy_character(work: &mut Work, form: FormId, place: u32) -> bool
         OnTrue result
         (work.new ≡ record work.old { neutral = work.old.neutral ++ flat_text text }) }
     ensures forms { work.new.forms ≡ work.old.forms }
-    ensures room { work.new.room ≡ work.old.room }
-    ensures sound { IsSound work.new }
+    ensures keeps { KeepsRoom work.old work.new }
 {
     prove!(place < work.body_len(form));
     work.copy_body(form, place, place + 1)
@@ -148,8 +143,7 @@ pub fn call_number(work: &mut Work, mut arguments: Arguments) -> Made
     requires { AreArguments work.old arguments }
     ensures makes { Performs CallNumber work.old arguments result work.new }
     ensures unmade { result ≡ Made.Full → work.new.forms ≡ work.old.forms }
-    ensures room { work.new.room ≡ work.old.room }
-    ensures sound { IsSound work.new }
+    ensures keeps { KeepsRoom work.old work.new }
 {
     let name = arguments.next(work);
     let number = arguments.next(work);
@@ -169,8 +163,7 @@ fn take_characters(work: &mut Work, form: FormId, count: Count, default: (u32, u
     ensures takes { let part = characters (signed count.negative count.size) in
         TakesOrDefault part (form_place form) default work.old result work.new }
     ensures unmade { result ≡ Made.Full → work.new.forms ≡ work.old.forms }
-    ensures room { work.new.room ≡ work.old.room }
-    ensures sound { IsSound work.new }
+    ensures keeps { KeepsRoom work.old work.new }
 {
     if count.size == 0 {
         let pointer = work.pointer(form);
@@ -191,8 +184,7 @@ fn take_forward(work: &mut Work, form: FormId, count: u32, default: (u32, u32)) 
     ensures takes { TakesOrDefault (next_characters count) (form_place form) default
         work.old result work.new }
     ensures unmade { result ≡ Made.Full → work.new.forms ≡ work.old.forms }
-    ensures room { work.new.room ≡ work.old.room }
-    ensures sound { IsSound work.new }
+    ensures keeps { KeepsRoom work.old work.new }
 {
     let from = work.pointer(form);
     let to = place_after(work, form, from, count);
@@ -211,8 +203,7 @@ fn take_backward(work: &mut Work, form: FormId, count: u32, default: (u32, u32))
     ensures takes { let part = previous_characters count in
         TakesOrDefault part (form_place form) default work.old result work.new }
     ensures unmade { result ≡ Made.Full → work.new.forms ≡ work.old.forms }
-    ensures room { work.new.room ≡ work.old.room }
-    ensures sound { IsSound work.new }
+    ensures keeps { KeepsRoom work.old work.new }
 {
     let to = work.pointer(form);
     let from = place_before(work, form, to, count);
@@ -272,8 +263,7 @@ fn take_part(work: &mut Work, form: FormId, part: (u32, u32), pointer: u32) -> M
         let taken = part_between (body_at work.old.forms form.0) part pointer in
         TakesPart (Some taken) z form.0 work.old result work.new }
     ensures unmade { result ≡ Made.Full → work.new.forms ≡ work.old.forms }
-    ensures room { work.new.room ≡ work.old.room }
-    ensures sound { IsSound work.new }
+    ensures keeps { KeepsRoom work.old work.new }
 {
     if !copy_characters(work, form, part.0, part.1) {
         return Made::Full;
@@ -297,8 +287,7 @@ pub fn copy_characters(work: &mut Work, form: FormId, from: u32, to: u32) -> boo
         OnTrue result
         (work.new ≡ record work.old { neutral = work.old.neutral ++ flat_text text }) }
     ensures forms { work.new.forms ≡ work.old.forms }
-    ensures room { work.new.room ≡ work.old.room }
-    ensures sound { IsSound work.new }
+    ensures keeps { KeepsRoom work.old work.new }
 {
     prove!(to <= work.body_len(form));
     let mut place = from;
@@ -349,8 +338,7 @@ pub fn initial_part(work: &mut Work, mut arguments: Arguments) -> Made
     requires { AreArguments work.old arguments }
     ensures makes { Performs InitialPart work.old arguments result work.new }
     ensures unmade { result ≡ Made.Full → work.new.forms ≡ work.old.forms }
-    ensures room { work.new.room ≡ work.old.room }
-    ensures sound { IsSound work.new }
+    ensures keeps { KeepsRoom work.old work.new }
 {
     let name = arguments.next(work);
     let sought = arguments.next(work);
@@ -370,8 +358,7 @@ fn take_initial(work: &mut Work, form: FormId, sought: (u32, u32), default: (u32
     ensures takes { let text = part_text work.old.neutral sought.0 sought.1 in
         TakesOrDefault (initial_part text) (form_place form) default work.old result work.new }
     ensures unmade { result ≡ Made.Full → work.new.forms ≡ work.old.forms }
-    ensures room { work.new.room ≡ work.old.room }
-    ensures sound { IsSound work.new }
+    ensures keeps { KeepsRoom work.old work.new }
 {
     let pointer = work.pointer(form);
     if sought.0 == sought.1 {
@@ -388,8 +375,7 @@ pub fn call_restore(work: &mut Work, mut arguments: Arguments) -> Made
     requires { AreArguments work.old arguments }
     ensures makes { Performs CallRestore work.old arguments result work.new }
     ensures unmade { result ≡ Made.Full → work.new.forms ≡ work.old.forms }
-    ensures room { work.new.room ≡ work.old.room }
-    ensures sound { IsSound work.new }
+    ensures keeps { KeepsRoom work.old work.new }
 {
     let name = arguments.next(work);
     if let Some(form) = work.find(name.0, name.1) {

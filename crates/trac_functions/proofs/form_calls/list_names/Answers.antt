@@ -44,7 +44,7 @@ loop-k-preserved c =
     elim c.match-form.branch [
       | in-Some+else-not-put_name w ↦
           let at = w.in-Some.ensures.at in
-          rw w.work-is (next old now a b k w.in-Some.form.0 put c.next-before.ensures.part (omega (arith, at.1, count, same)) at.0 w.put_name.new.work w.if-not-put_name.ensures.last w.put_name.ensures.sound)
+          rw w.work-is (next old now a b k w.in-Some.form.0 put c.next-before.ensures.part (omega (arith, at.1, count, same)) at.0 w.put_name.new.work w.if-not-put_name.ensures.last w.put_name.ensures.keeps.sound)
       | in_default w ↦
           let past = w.in_default.ensures.at in
           let test = c.loop-k-test.true in

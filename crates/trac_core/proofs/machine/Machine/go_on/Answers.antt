@@ -20,7 +20,7 @@ returns-in_default-clause-answers g c =
       passed n memory old,
       (
         (n, (memory, c.scan_on-count.ensures.passes i.meta, refl, omega (arith, c.self.invariant.0))),
-        λ told_source told_sink. rw (c.count.ensures.answer, c.count.ensures.after, c.scan_on-count.ensures.room, peak) (record {
+        λ told_source told_sink. rw (c.count.ensures.answer, c.count.ensures.after, c.scan_on-count.ensures.keeps.room, peak) (record {
           used_up = omega (arith, c.self.invariant.0);
           memory = refl;
           counts = record { steps = omega arith; peak = omega arith };
@@ -46,7 +46,7 @@ returns-clause-answers g c =
       m,
       (
         (n, (memory, c.scan_on-count.ensures.passes i.meta, refl, omega (arith, stops.0))),
-        λ told_source told_sink. rw (c.count-2.ensures.answer, c.count-2.ensures.after, c.carry_out-last.ensures.room, c.scan_on-count.ensures.room, peak)
-            (c.carry_out-last.ensures.tried told_source told_sink m (sym c.scan_on-count.ensures.room) refl allowed),
+        λ told_source told_sink. rw (c.count-2.ensures.answer, c.count-2.ensures.after, c.carry_out-last.ensures.keeps.room, c.scan_on-count.ensures.keeps.room, peak)
+            (c.carry_out-last.ensures.tried told_source told_sink m (sym c.scan_on-count.ensures.keeps.room) refl allowed),
       ),
     )

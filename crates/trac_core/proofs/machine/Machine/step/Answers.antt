@@ -28,7 +28,7 @@ returns-in_default-clause-answers g c = λ not_over told_source told_sink.
     let m : MachineState = record { memory = memory_of i.meta i.work; room = i.work.room; allowance = i.allowance; steps = i.steps; peak = i.peak; fate = i.fate } in
     let allowed : i.steps < i.allowance = omega (arith, c.self.invariant.0, c.if-self.false) in
     let one = subst (λ o. StopsAt o c.scan_on.result.0 1 c.scan_on.new.work) c.in_default.is c.scan_on.ensures.stops in
-    rw (← c.self.view_is, c.count-in_default.ensures.answer, c.count-in_default.ensures.after, c.scan_on.ensures.room)
+    rw (← c.self.view_is, c.count-in_default.ensures.answer, c.count-in_default.ensures.after, c.scan_on.ensures.keeps.room)
     (tried-passed i.work c.scan_on.new.work c.scan_on.result.0 c.used-need.result c.scan_on.ensures.passes one c.self.invariant.2 c.used-need.ensures.value i.meta _ _ m refl refl allowed)
 
 pub returns-in_default-clause-takes : goal.returns-in_default-clause-takes
@@ -43,8 +43,8 @@ returns-clause-answers g c = λ not_over told_source told_sink.
     let allowed : i.steps < i.allowance = omega (arith, c.self.invariant.0, c.if-self.false) in
     let stops = subst (λ o. StopsAt o c.scan_on.result.0 1 c.scan_on.new.work) c.in-Some.is c.scan_on.ensures.stops in
     let same = c.scan_on.ensures.none (omega (arith, stops.0)) in
-    rw (← c.self.view_is, c.count-2.ensures.answer, c.count-2.ensures.after, c.carry_out-attempt.ensures.room, c.scan_on.ensures.room)
-    (c.carry_out-attempt.ensures.tried told_source told_sink m (sym c.scan_on.ensures.room) (ap (memory_of i.meta) (sym same)) allowed)
+    rw (← c.self.view_is, c.count-2.ensures.answer, c.count-2.ensures.after, c.carry_out-attempt.ensures.keeps.room, c.scan_on.ensures.keeps.room)
+    (c.carry_out-attempt.ensures.tried told_source told_sink m (sym c.scan_on.ensures.keeps.room) (ap (memory_of i.meta) (sym same)) allowed)
 
 pub returns-clause-takes : goal.returns-clause-takes
 returns-clause-takes g c = λ told.
