@@ -1,5 +1,5 @@
 -- A list of borders before active.
-use Rattle.std.proofs.Common.{◌≡◌, ℕ, suc, ◌+◌, ◌-◌, ◌<◌, ◌≤◌, List, [], ◌∷◌, length, take, drop, map, slice_range, get_or, refl, sym, ap, subst, ◌∙◌, arith, All}
+use Rattle.std.proofs.Common.{◌≡◌, ℕ, suc, ◌+◌, ◌-◌, ◌<◌, ◌≤◌, List, ◌∷◌, length, take, drop, map, slice_range, get_or, refl, sym, ap, subst, ◌∙◌, arith, All}
 use Rattle.std.proofs.lemmas.List.{length-map, length-take-le, get_or-map}
 use Rattle.std.proofs.lemmas.List.Elements.{All-get_or}
 use Rattle.std.proofs.lemmas.Option.{slice_get-get_or, get_or_from_slice_get}
@@ -9,7 +9,7 @@ use Rattle.trac_space.specs.Cells.{seen}
 use Rattle.trac_space.specs.Lists.{Lists, used, HasWay}
 use Rattle.trac_space.specs.Texts.{character_of, IsByte}
 use Rattle.trac_forms.specs.Borders.{byte_at, IsLongestBorder, AreBorders}
-use Rattle.trac_forms.proofs.TextBorders.{longest-one, borders-none, borders-more, byte-in}
+use Rattle.trac_forms.proofs.TextBorders.{borders-more, byte-in}
 
 -- the first cells of a list
 pub front-part : (cells : List Cell) (n : ℕ) → slice_range cells 0 n ≡ take n cells
@@ -42,18 +42,6 @@ pub record BordersUpTo (old now : Lists) (text : List ℕ) (len count border : �
   pub borders : AreBorders text (take count now.active)
   pub longest : IsLongestBorder text count border
   pub way : HasWay (len - count) now
-
-pub borders-one : (old now : Lists) (text : List ℕ) (len : ℕ) → 0 < len → HasWay len old → now ≡ record old { active = Head 0 ∷ old.active } → BordersUpTo old now text len 1 0
-borders-one old now text len some room is =
-    record {
-      same = rw is refl;
-      some = omega arith;
-      within = omega (arith, ap (λ (s : Lists). length s.active) is);
-      behind = ap (λ (s : Lists). drop 1 s.active) is;
-      borders = subst (λ (s : Lists). AreBorders text (take 1 s.active)) (sym is) (borders-more text [] 0 (borders-none text) (longest-one text));
-      longest = longest-one text;
-      way = omega (arith, room, some, ap used is, ap (λ (s : Lists). length s.spare) is, ap (λ (s : Lists). s.room) is);
-    }
 
 pub borders-next : (old now new : Lists) (text : List ℕ) (len count border next : ℕ) → BordersUpTo old now text len count border → count < len → IsLongestBorder text (count + 1) next → new ≡ record now { active = Head next ∷ now.active } → BordersUpTo old new text len (count + 1) next
 borders-next old now new text len count border next h less long pushed =

@@ -82,10 +82,6 @@ kept-if false xs = inr refl
 pub way-kept : (n : ℕ) (s : Lists) → IsKept s.spare (with_way n s).spare
 way-kept n s = kept-if (nat_le (used s + n + length s.spare) s.room) s.spare
 
-pub kept-more : (first was now : List Cell) → IsKept first was → IsKept was now → IsKept first now
-kept-more first was now before kept =
-    ⊎_elim (λ e. subst (λ l. IsKept first l) (sym e) before) (λ e. inr e) kept
-
 -- forms of the same names and lengths
 pub index-same : (table : List Cell) (was now : List Form) → length now ≡ length was → ((k : ℕ) → name_at now k ≡ name_at was k) → ((k : ℕ) → start_of now k ≡ start_of was k) → IsIndexed table was → IsIndexed table now
 index-same table was now len names starts h some =
@@ -121,8 +117,3 @@ index-replaced forms k new table named long h =
 pub index-pointer : (forms : List Form) (k p : ℕ) (table : List Cell) → IsIndexed table forms → IsIndexed table (set forms k (record (form_at forms k) { pointer = p }))
 index-pointer forms k p table h =
     index-replaced forms k (record (form_at forms k) { pointer = p }) table refl refl h
-
--- the spare list makes way for what is put
-pub put-kept : (first : List Cell) (s m t : Lists) (n : ℕ) → IsKept first s.spare → m ≡ with_way n s → t.spare ≡ m.spare → IsKept first t.spare
-put-kept first s m t n before way put =
-    kept-more first s.spare t.spare before (subst (λ l. IsKept s.spare l) (sym (put ∙ ap (λ (w : Lists). w.spare) way)) (way-kept n s))

@@ -1,7 +1,7 @@
 -- What stands between comma marks, part by part, and a list of where the parts begin.
-use Rattle.std.proofs.Common.{◌≡◌, ℕ, zero, suc, ◌+◌, ◌-◌, ◌<◌, ◌≤◌, Bool, true, false, List, [], ◌∷◌, ◌++◌, length, take, drop, map, slice_range, get_or, refl, sym, ap, ◌∙◌, arith, cond, nat_le, ⊎_elim, subst, append_assoc}
+use Rattle.std.proofs.Common.{◌≡◌, ℕ, zero, suc, ◌+◌, ◌-◌, ◌<◌, ◌≤◌, Bool, true, false, List, [], ◌∷◌, ◌++◌, length, take, drop, map, slice_range, get_or, refl, sym, ap, ◌∙◌, arith, cond, nat_le, ⊎_elim, append_assoc}
 use Rattle.std.proofs.lemmas.Bool.{cases_lt}
-use Rattle.std.proofs.lemmas.List.{drop_more, length-append, length-map, length-take, drop-take, drop-drop, get_or_append_left}
+use Rattle.std.proofs.lemmas.List.{drop_more, length-append, drop-take, drop-drop, get_or_append_left}
 use Rattle.std.proofs.Math.Seq.{get_or-append_seam}
 use Rattle.std.proofs.lemmas.List.Edits.{length-between}
 use Rattle.trac_space.specs.declared.cell.Cell.{Cell}
@@ -64,9 +64,6 @@ before_comma-seen (cell ∷ cells) = rw (is_comma-seen cell, before_comma-seen c
 -- so many cells stand before the comma mark that ends the first part
 pub found-comma : (cells part : List Cell) (n : ℕ) → map seen cells ≡ part → n ≡ before_comma cells → n ≡ before_comma part
 found-comma cells part n e found = found ∙ sym (before_comma-seen cells) ∙ ap before_comma e
-
-pub shown-cells : (cells neutral : List Cell) (from end : ℕ) → map seen cells ≡ slice_range neutral from end → length cells ≤ end - from
-shown-cells cells neutral from end shown = omega (arith, length-map cells seen, ap length shown, length-take (end - from) (drop from neutral))
 
 -- the first part ends at the first comma mark, and the others come behind it
 parts_at-some : (from at : ℕ) (cells : List Cell) → before_comma cells < length cells → parts_at from at cells ≡ (from, at + before_comma cells) ∷ parts_at (at + before_comma cells + 1) (at + before_comma cells + 1) (drop (suc (before_comma cells)) cells)
@@ -132,10 +129,6 @@ heads-more : (n : ℕ) (cells : List Cell) (count : ℕ) → ((i : ℕ) → i �
 heads-more n cells count heads zero within = refl
 heads-more n cells count heads (suc i) within = heads i (omega (arith, within))
 
--- an empty list of where parts begin
-pub listed-none : (cells : List Cell) → 0 < length cells → IsHeadAt cells 0 → IsListed cells [] 0
-listed-none cells some first = record { heads = λ i within. (let none : 0 ≡ i = omega (arith, within) in subst (IsHeadAt cells) none first); all = refl; within = omega (arith, some); bounded = omega arith; begins = λ number some within. absurd (omega (arith, some, within)); ends = λ number some within. absurd (omega (arith, some, within)) }
-
 -- one part more is listed
 pub listed-more : (cells : List Cell) (parts : List (ℕ × ℕ)) (count from to : ℕ) → IsListed cells parts count → count ≤ 16777216 → head_at cells 0 ≡ from → IsListed (Head (to + 1) ∷ cells) (parts ++ (from, to) ∷ []) (count + 1)
 listed-more cells parts count from to listed few first =
@@ -184,20 +177,6 @@ pub record ListsUpTo (old now : Lists) (from at end count : ℕ) : Type 0 where
   pub few : count + from ≤ at
   pub behind : drop (count + 1) now.active ≡ old.active
   pub way : HasWay (end + 1 - at) now
-
-pub lists-none : (old now : Lists) (from end : ℕ) → from ≤ end + 1 → now ≡ record old { active = Head from ∷ old.active } → HasWay (end + 2 - from) old → ListsUpTo old now from from end 0
-lists-none old now from end order is room =
-    record {
-      parts = [];
-      same = rw is refl;
-      order = omega (arith, order);
-      split = refl;
-      listed = listed-none now.active (omega (arith, ap (λ (s : Lists). length s.active) is)) (subst (λ cells. IsHeadAt cells 0) (sym (ap (λ (s : Lists). s.active) is)) refl);
-      next = ap (λ (s : Lists). head_at s.active 0) is;
-      few = omega arith;
-      behind = ap (λ (s : Lists). drop 1 s.active) is;
-      way = omega (arith, room, order, ap used is, ap (λ (s : Lists). length s.spare) is, ap (λ (s : Lists). s.room) is);
-    }
 
 pub lists-more : (old now new : Lists) (from at end count n : ℕ) → ListsUpTo old now from at end count → at ≤ end → end ≤ length old.neutral → end ≤ 16777216 → n ≡ before_comma (slice_range now.neutral at end) → new ≡ record now { active = Head (at + n + 1) ∷ now.active } → ListsUpTo old new from (at + n + 1) end (count + 1)
 lists-more old now new from at end count n h le within bounded is pushed =

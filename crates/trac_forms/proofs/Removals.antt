@@ -221,9 +221,8 @@ module _ (neutral : List Cell) (from end n : ℕ) (h : AreParted neutral from en
 pub marked-first : (neutral : List Cell) (from end n : ℕ) (s t : Lists) → AreParted neutral from end → from ≤ end → n ≡ before_comma (slice_range neutral from end) → t ≡ record s { store = flat_forms (with_marks (part_text neutral from (from + n) ∷ []) (forms_in s.store)) } → with_marks (texts_between neutral (from + n + 1) end) (forms_in t.store) ≡ with_marks (texts_between neutral from end) (forms_in s.store)
 marked-first neutral from end n s t h le is marked =
     let name = part_text neutral from (from + n) in
-    let names = texts_between neutral (from + n + 1) end in
     let read : forms_in t.store ≡ with_marks (name ∷ []) (forms_in s.store) = ap (λ (w : Lists). forms_in w.store) marked ∙ forms_in-flat (with_marks (name ∷ []) (forms_in s.store)) in
-    ap (with_marks names) read ∙ sym (marks-first name names (forms_in s.store)) ∙ ap (λ ts. with_marks ts (forms_in s.store)) (sym (texts-split neutral from end n h le is))
+    ap (with_marks _) read ∙ sym (marks-first name _ (forms_in s.store)) ∙ ap (λ ts. with_marks ts (forms_in s.store)) (sym (texts-split neutral from end n h le is))
 
 -- marks change the store and the spare list alone
 pub marked-alone : (old s t u : Lists) (cells : List Cell) → s ≡ record old { store = s.store; spare = s.spare } → t ≡ record s { spare = t.spare } → u ≡ record t { store = cells } → u ≡ record old { store = u.store; spare = u.spare }

@@ -157,8 +157,7 @@ module _ (table : List Cell) (n g s n2 g2 : ℕ) (name name2 : ℕ → Text) (st
   pub index-put : IsIndexBut (with_entry table s g (start2 g)) n2 g2 name2 start2
   index-put =
       let g_fits : g < quarter table = omega (arith, g_in, fits) in
-      let now = with_entry table s g (start2 g) in
-      let same = quarter-same table now (long table s g (start2 g) s_in g_fits) (entry-full table s g (start2 g) s_in g_fits) in
+      let same = quarter-same table _ (long table s g (start2 g) s_in g_fits) (entry-full table s g (start2 g) s_in g_fits) in
       record { roomy = omega (arith, fits, same); all = new_all; only = new_only }
 
 -- the slot of a form is left to none

@@ -2,7 +2,6 @@
 use Rattle.std.proofs.Common.{◌≡◌, ℕ, zero, suc, ◌+◌, ◌-◌, ◌<◌, ◌≤◌, Bool, true, false, List, [], ◌∷◌, length, drop, map, get_or, Some, ⊎_elim, refl, sym, ap, subst, ◌∙◌, arith}
 use Rattle.std.proofs.lemmas.List.{length-map, length-drop, get_or-map, get_or-drop}
 use Rattle.std.proofs.lemmas.Bool.{cases_eq, cases_lt, false≢true, and_parts, and_from, eq-eqb, eqb-true}
-use Rattle.std.proofs.lemmas.Option.{get_or_from_slice_get}
 use Rattle.trac_space.specs.declared.cell.Cell.{Cell}
 use Rattle.trac_space.specs.declared.cell.Cell.TheVariants.{Byte, Call, Comma, Gap, Head}
 use Rattle.trac_space.specs.Cells.{seen}
@@ -13,14 +12,7 @@ use Rattle.trac_forms.specs.Gaps.{is_byte, begins_cells, text_cells_at}
 use Rattle.trac_forms.specs.Search.{NonePasses, IsFirst}
 use Rattle.trac_forms.specs.Stored.{head_number, head_at}
 use Rattle.trac_forms.proofs.Gaps.{begins-few}
-use Rattle.trac_forms.proofs.Heads.{is_head, seen-head, number-at}
-
--- a beginning is a border of itself
-border-self : (text : List ℕ) (n : ℕ) → IsBorder text n n
-border-self text n = record {
-  within = omega arith;
-  same = λ k below. let e : n - n + k ≡ k = omega arith in sym (ap (byte_at text) e);
-}
+use Rattle.trac_forms.proofs.Heads.{number-at}
 
 -- a border of a border is one
 border-of-border : (text : List ℕ) (n m b : ℕ) → IsBorder text n m → IsBorder text m b → IsBorder text n b
@@ -45,9 +37,6 @@ pub record GoesUpTo (text : List ℕ) (n : ℕ) (cell : Cell) (border : ℕ) : T
   pub border_is : IsBorder text n border
   pub most : (b : ℕ) → GoesOn text n cell b → b ≤ border
 
-pub up-to-self : (text : List ℕ) (n : ℕ) (cell : Cell) → GoesUpTo text n cell n
-up-to-self text n cell = record { border_is = border-self text n; most = λ b goes. goes.border.within }
-
 module _ (text : List ℕ) (n border : ℕ) (cell : Cell) (upto : GoesUpTo text n cell border) where
   other : is_byte (byte_at text border) cell ≡ false → (b : ℕ) → GoesOn text n cell b → b < border
   other differ b goes =
@@ -71,18 +60,7 @@ module _ (text : List ℕ) (n border : ℕ) (cell : Cell) (upto : GoesUpTo text 
     most = λ b goes. absurd (omega (arith, other differ b goes, zero_is));
   }
 
-  pub next-more : is_byte (byte_at text border) cell ≡ true → IsNextBorder text n cell (border + 1)
-  next-more goes = record {
-    some = λ some. let e : border ≡ border + 1 - 1 = omega arith in subst (GoesOn text n cell) e (record { border = upto.border_is; next = goes });
-    most = λ b other_goes. omega (arith, upto.most b other_goes);
-  }
-
 -- what the table has at a place
-pub table-head : (table : List Cell) (i : ℕ) → IsHeadAt (map seen table) i → i < length table → get_or table i (Byte 0) ≡ Head (head_number (Some (get_or table i (Byte 0))))
-table-head table i head within =
-    let there = sym (get_or-map seen table i (Byte 0) (Byte 0) within) ∙ get_or_from_slice_get (map seen table) i (Head (head_at (map seen table) i)) (Byte 0) head in
-    is_head (get_or table i (Byte 0)) (head_at (map seen table) i) (seen-head (get_or table i (Byte 0)) (head_at (map seen table) i) there)
-
 pub table-border : (text : List ℕ) (table : List Cell) (n number : ℕ) → AreBorders text (map seen table) → 0 < n → n ≤ length table → number ≡ head_number (Some (get_or table (length table - n) (Byte 0))) → IsLongestBorder text n number
 table-border text table n number borders some within is =
     let size = length-map table seen in
@@ -133,13 +111,6 @@ pub record Searched (text : List ℕ) (cells : List Cell) (from i matched : ℕ)
   pub order : from + matched ≤ i
   pub stands : StandsAt text cells (i - matched) matched
   pub none : (a : ℕ) → from ≤ a → a + matched < i → text_cells_at text cells a ≡ false
-
-pub searched-none : (text : List ℕ) (cells : List Cell) (from : ℕ) → Searched text cells from from 0
-searched-none text cells from = record {
-  order = omega arith;
-  stands = λ k below. absurd (omega (arith, below));
-  none = λ a above below. absurd (omega (arith, above, below));
-}
 
 module _ (text : List ℕ) (cells : List Cell) (from i matched next : ℕ) (few : matched < length text) (done : Searched text cells from i matched) (is : IsNextBorder text matched (get_or cells i Comma) next) where
   stands-next : (k : ℕ) → k < next → is_byte (byte_at text k) (get_or cells (i + 1 - next + k) Comma) ≡ true
@@ -258,20 +229,7 @@ module _ (text : List ℕ) (n border next : ℕ) (cell : Cell) (cell_is : cell �
     longest = longest-next;
   }
 
-pub longest-one : (text : List ℕ) → IsLongestBorder text 1 0
-longest-one text = record {
-  shorter = omega arith;
-  border = record { within = omega arith; same = λ k below. absurd (omega (arith, below)) };
-  longest = λ c less whole. omega (arith, less);
-}
-
 -- a table with one number more
-pub borders-none : (text : List ℕ) → AreBorders text []
-borders-none text = record {
-  heads = λ i within. absurd (omega (arith, within));
-  longest = λ n some within. absurd (omega (arith, some, within));
-}
-
 head-more : (table : List Cell) (number : ℕ) → ((i : ℕ) → i < length table → IsHeadAt table i) → (i : ℕ) → i < suc (length table) → IsHeadAt (Head number ∷ table) i
 head-more table number heads zero within = refl
 head-more table number heads (suc i) within = heads i (omega (arith, within))

@@ -35,10 +35,9 @@ digit_by f x y = octal_digit (f (get_or (bits_of_digit x) 0 false) (get_or (bits
 -- a digit told by its three bits
 pub digit_of_bits : (l : Bits) (k : ℕ) (a b c : Bool) → 3 * k + 2 < length l → get_or l (3 * k) false ≡ a → get_or l (3 * k + 1) false ≡ b → get_or l (3 * k + 2) false ≡ c → slice_get (octal l) k ≡ Some (octal_digit a b c)
 digit_of_bits l k a b c h ea eb ec =
-    let long = length-octal l in
-    slice_get-get_or (octal l) k 0 (omega arith)
+    slice_get-get_or (octal l) k 0 (omega (arith, length-octal))
     ∙ ap Some
-    (octal_at l k (omega arith)
+    (octal_at l k (omega (arith, length-octal))
     ∙ ap (λ x. octal_digit x (get_or l (3 * k + 1) false) (get_or l (3 * k + 2) false)) ea
     ∙ ap (λ x. octal_digit a x (get_or l (3 * k + 2) false)) eb
     ∙ ap (octal_digit a b) ec)
@@ -80,8 +79,7 @@ zero_digits (suc j) =
 
 padded_digits : (long : ℕ) (t : Text) → padded (3 * long) (flat_map bits_of_digit t) ≡ flat_map bits_of_digit (padded_text long t)
 padded_digits long t =
-    let lt = length-bits_of t in
-    let e : 3 * long - length (flat_map bits_of_digit t) ≡ 3 * (long - length t) = omega arith in
+    let e : 3 * long - length (flat_map bits_of_digit t) ≡ 3 * (long - length t) = omega (arith, length-bits_of) in
     ap (λ n. replicate n false ++ flat_map bits_of_digit t) e
     ∙ ap (λ l. l ++ flat_map bits_of_digit t) (zero_digits (long - length t))
     ∙ sym (flat_map-append bits_of_digit (replicate (long - length t) 48) t)
@@ -159,32 +157,23 @@ module _ (t u : Text) where
 
   pub union_at : (long k x y : ℕ) → long ≡ max (length t) (length u) → k < long → x ≡ get_or (padded_text long t) k 48 → y ≡ get_or (padded_text long u) k 48 → is_octal x ≡ true → is_octal y ≡ true → slice_get (octal (union (flat_map bits_of_digit t) (flat_map bits_of_digit u))) k ≡ Some (bit_or x y)
   union_at long k x y is h ex ey ox oy =
-      let lt = length-padded_text long t (omega arith) in
-      let lu = length-padded_text long u (omega arith) in
       ap (λ l. slice_get (octal l) k) (union_is long is)
-      ∙ bitwise_digit ◌||◌ (padded_text long t) (padded_text long u) k (omega arith) (omega arith)
+      ∙ bitwise_digit ◌||◌ (padded_text long t) (padded_text long u) k (omega (arith, length-padded_text)) (omega (arith, length-padded_text))
       ∙ ap Some (ap (λ x. digit_by ◌||◌ x (get_or (padded_text long u) k 48)) (sym ex) ∙ ap (digit_by ◌||◌ x) (sym ey) ∙ or_digit x y ox oy)
 
   pub union_past : (long k : ℕ) → long ≡ max (length t) (length u) → long ≤ k → slice_get (octal (union (flat_map bits_of_digit t) (flat_map bits_of_digit u))) k ≡ None
   union_past long k is h =
       let p = flat_map bits_of_digit (padded_text long t) in
       let q = flat_map bits_of_digit (padded_text long u) in
-      let lt = length-padded_text long t (omega arith) in
-      let lu = length-padded_text long u (omega arith) in
-      let lp = length-bits_of (padded_text long t) in
-      let lq = length-bits_of (padded_text long u) in
-      let lb = length-bitwise ◌||◌ p q (omega arith) in
-      ap (λ l. slice_get (octal l) k) (union_is long is) ∙ no_digit (bitwise ◌||◌ p q) k (omega arith)
+      ap (λ l. slice_get (octal l) k) (union_is long is) ∙ no_digit (bitwise ◌||◌ p q) k (omega (arith, length-padded_text, length-bits_of, length-bitwise))
 
   -- and the intersection
   intersection_is : (short : ℕ) → short ≡ min (length t) (length u) → intersection (flat_map bits_of_digit t) (flat_map bits_of_digit u) ≡ bitwise ◌&&◌ (flat_map bits_of_digit (drop (length t - short) t)) (flat_map bits_of_digit (drop (length u - short) u))
   intersection_is short is =
       let p = flat_map bits_of_digit t in
       let q = flat_map bits_of_digit u in
-      let lp = length-bits_of t in
-      let lq = length-bits_of u in
-      let et : length p - length q ≡ 3 * (length t - short) = omega arith in
-      let eu : length q - length p ≡ 3 * (length u - short) = omega arith in
+      let et : length p - length q ≡ 3 * (length t - short) = omega (arith, length-bits_of) in
+      let eu : length q - length p ≡ 3 * (length u - short) = omega (arith, length-bits_of) in
       let left : cut (length q) p ≡ flat_map bits_of_digit (drop (length t - short) t) = ap (λ n. drop n p) et ∙ drop_digits (length t - short) t in
       let right : cut (length p) q ≡ flat_map bits_of_digit (drop (length u - short) u) = ap (λ n. drop n q) eu ∙ drop_digits (length u - short) u in
       ap (λ l. bitwise ◌&&◌ l (cut (length p) q)) left ∙ ap (bitwise ◌&&◌ (flat_map bits_of_digit (drop (length t - short) t))) right

@@ -21,15 +21,12 @@ rest_more v c n = sym (mod-add-mod (v % n * 10) n c) ∙ ap (λ m. (m + c) % n) 
 -- a negative number modulo a divisor
 pub rest_of_negated : (v n r : ℕ) → 0 < n → r ≡ v % n → 0 < r → int_rem_euclid (neg_ℤ (pos v)) (pos n) ≡ pos (n - r)
 rest_of_negated v n r pos_n is above =
-    let e = div-add-mod' v n in
-    let lt = mod_below v n pos_n in
     let whole : neg_ℤ (pos v) +ℤ pos ((v / n + 1) * n) ≡ pos (n - r) = omega (arith, ints) in
-    int_rem_euclid_is (neg_ℤ (pos v)) (pos n) n (v / n + 1) (n - r) pos_n refl whole ∙ ap pos (mod-eq_of_lt (omega arith))
+    int_rem_euclid_is (neg_ℤ (pos v)) (pos n) n (v / n + 1) (n - r) pos_n refl whole ∙ ap pos (mod-eq_of_lt (omega (arith, div-add-mod', mod_below)))
 
 pub rest_of_multiple : (v n : ℕ) → 0 < n → v % n ≡ 0 → int_rem_euclid (neg_ℤ (pos v)) (pos n) ≡ pos 0
 rest_of_multiple v n pos_n is =
-    let e = div-add-mod' v n in
-    let whole : neg_ℤ (pos v) +ℤ pos (v / n * n) ≡ pos 0 = omega (arith, ints) in
+    let whole : neg_ℤ (pos v) +ℤ pos (v / n * n) ≡ pos 0 = omega (arith, div-add-mod', ints) in
     int_rem_euclid_is (neg_ℤ (pos v)) (pos n) n (v / n) 0 pos_n refl whole ∙ ap pos (mod-eq_of_lt pos_n)
 
 -- the number of a text modulo a divisor, told by its digits and by what stands before them

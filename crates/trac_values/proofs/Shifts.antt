@@ -69,10 +69,7 @@ rest_moved i n r (pos e) pos_n is =
     let same : e % n ≡ r = cc in
     ap pos (sym (add-mod-mod i e n)) ∙ ap (λ m. pos ((i + m) % n)) same
 rest_moved i n r (negsuc e) pos_n is =
-    let same : n - 1 - e % n ≡ r = cc in
-    let parts = div-add-mod' e n in
-    let lt = mod_below e n pos_n in
-    let whole : pos i +ℤ negsuc e +ℤ pos ((e / n + 1) * n) ≡ pos (i + r) = omega (arith, ints) in
+    let whole : pos i +ℤ negsuc e +ℤ pos ((e / n + 1) * n) ≡ pos (i + r) = omega (arith, div-add-mod', mod_below, ints) in
     int_rem_euclid_is (pos i +ℤ negsuc e) (pos n) n (e / n + 1) (i + r) pos_n refl whole
 
 pub rotation_same : (d : ℤ) (r : ℕ) (l : Bits) → int_rem_euclid d (pos (length l)) ≡ pos r → rotated (pos r) l ≡ rotated d l

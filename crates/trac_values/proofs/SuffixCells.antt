@@ -19,11 +19,9 @@ module _ (p : ℕ → Bool) where
   suffix_passes t k h =
       let n = suffix_len p t in
       let m = n - 1 - k in
-      let le = suffix_len-le-length p t in
-      let long = length-suffix t in
-      let at : length t - 1 - m ≡ length t - n + k = omega arith in
-      let here : p (get_or (reverse t) m 0) ≡ true = prefix_len_passes p (reverse t) m 0 (omega arith) in
-      ap p (get_or-drop (length t - n) t k 0 ∙ ap (λ i. get_or t i 0) (sym at) ∙ sym (get_or-reverse t m 0 (omega arith))) ∙ here
+      let at : length t - 1 - m ≡ length t - n + k = omega (arith, suffix_len-le-length, length-suffix) in
+      let here : p (get_or (reverse t) m 0) ≡ true = prefix_len_passes p (reverse t) m 0 (omega (arith, suffix_len-le-length, length-suffix)) in
+      ap p (get_or-drop (length t - n) t k 0 ∙ ap (λ i. get_or t i 0) (sym at) ∙ sym (get_or-reverse t m 0 (omega (arith, suffix_len-le-length, length-suffix)))) ∙ here
 
   module _ (cells : List Cell) (s : ℕ) (is : s ≡ length (take (length (text_of_cells cells) - suffix_len p (text_of_cells cells)) (text_of_cells cells))) where
     -- the cells from s on are the suffix

@@ -20,11 +20,9 @@ pub digits_pass : (t : Text) (k : ℕ) → k < length (digits t) → is_ascii_di
 digits_pass t k h =
     let n = suffix_len is_ascii_digit t in
     let m = n - 1 - k in
-    let le = suffix_len-le-length is_ascii_digit t in
-    let long = length-digits t in
-    let at : length t - 1 - m ≡ length t - n + k = omega arith in
-    let here : is_ascii_digit (get_or (reverse t) m 0) ≡ true = prefix_len_passes is_ascii_digit (reverse t) m 0 (omega arith) in
-    ap is_ascii_digit (get_or-drop (length t - n) t k 0 ∙ ap (λ i. get_or t i 0) (sym at) ∙ sym (get_or-reverse t m 0 (omega arith))) ∙ here
+    let at : length t - 1 - m ≡ length t - n + k = omega (arith, suffix_len-le-length, length-digits) in
+    let here : is_ascii_digit (get_or (reverse t) m 0) ≡ true = prefix_len_passes is_ascii_digit (reverse t) m 0 (omega (arith, suffix_len-le-length, length-digits)) in
+    ap is_ascii_digit (get_or-drop (length t - n) t k 0 ∙ ap (λ i. get_or t i 0) (sym at) ∙ sym (get_or-reverse t m 0 (omega (arith, suffix_len-le-length, length-digits)))) ∙ here
 
 module _ (cells : List Cell) (s : ℕ) (is : s ≡ length (before_digits (text_of_cells cells))) where
   pub place : s ≡ length (text_of_cells cells) - suffix_len is_ascii_digit (text_of_cells cells)

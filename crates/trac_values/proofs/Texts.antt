@@ -1,6 +1,6 @@
 -- The texts of cells, character by character.
 use Rattle.std.proofs.Common.{◌≡◌, ℕ, ◌+◌, ◌-◌, ◌<◌, ◌≤◌, List, length, take, replicate, get_or, Bool, true, sym, ap, ◌∙◌, arith}
-use Rattle.std.proofs.lemmas.List.{length-map, length-replicate, get_or-replicate, get_or_append_left, get_or-append_right, get_or-map, take_all, take_more_same}
+use Rattle.std.proofs.lemmas.List.{length-map, length-replicate, get_or-append_right, get_or-map, take_more_same}
 use Rattle.trac_language.specs.Text.{Text}
 use Rattle.trac_space.specs.declared.cell.Cell.{Cell}
 use Rattle.trac_space.specs.Texts.{character_of, text_of_cells}
@@ -17,16 +17,7 @@ module _ (a b : List Cell) (i : ℕ) where
   -- one more character is the same
   pub same_more : i < length a → length a ≡ length b → take i (text_of_cells a) ≡ take i (text_of_cells b) → get_or (text_of_cells a) i 0 ≡ get_or (text_of_cells b) i 0 → take (i + 1) (text_of_cells a) ≡ take (i + 1) (text_of_cells b)
   same_more lt long so_far here =
-      let la = length-text a in
-      let lb = length-text b in
-      take_more_same (text_of_cells a) (text_of_cells b) i 0 (omega arith) (omega arith) so_far here
-
-  -- all are
-  pub same_all : length a ≤ i → length a ≡ length b → take i (text_of_cells a) ≡ take i (text_of_cells b) → text_of_cells a ≡ text_of_cells b
-  same_all le long so_far =
-      let la = length-text a in
-      let lb = length-text b in
-      sym (take_all i (text_of_cells a) (omega arith)) ∙ so_far ∙ take_all i (text_of_cells b) (omega arith)
+      take_more_same (text_of_cells a) (text_of_cells b) i 0 (omega (arith, length-text)) (omega (arith, length-text)) so_far here
 
 -- a character that was read is that of the text, at any default
 pub read_at : (cells : List Cell) (i c d : ℕ) → i < length cells → c ≡ character_of (get_or cells i (Cell.Byte 0)) → c ≡ get_or (text_of_cells cells) i d
@@ -35,15 +26,9 @@ read_at cells i c d lt is = is ∙ sym (get_or-map character_of cells i (Cell.By
 -- it passes a test that each character passes
 pub read_passes : (p : ℕ → Bool) (cells : List Cell) (i c : ℕ) → EachIs p (text_of_cells cells) → i < length cells → c ≡ character_of (get_or cells i (Cell.Byte 0)) → p c ≡ true
 read_passes p cells i c each lt is =
-    let long = length-text cells in
-    ap p (read_at cells i c 0 lt is) ∙ each i (omega arith)
+    ap p (read_at cells i c 0 lt is) ∙ each i (omega (arith, length-text))
 
 -- a place in a text that is filled up at the left
-pub padded_before : (long place d : ℕ) (t : Text) → place + length t < long → get_or (padded_text long t) place d ≡ 48
-padded_before long place d t h =
-    get_or_append_left (replicate (long - length t) 48) t d place (omega (arith, length-replicate {A = ℕ} (long - length t) 48))
-    ∙ get_or-replicate (long - length t) place 48 d (omega arith)
-
 pub padded_within : (long place d : ℕ) (t : Text) → length t ≤ long → long ≤ place + length t → get_or (padded_text long t) place d ≡ get_or t (place + length t - long) d
 padded_within long place d t le h =
     let e : place - (long - length t) ≡ place + length t - long = omega arith in

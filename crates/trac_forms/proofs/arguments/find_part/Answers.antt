@@ -1,13 +1,8 @@
-use Rattle.std.proofs.Common.{◌≡◌, ℕ, suc, ◌+◌, ◌-◌, ◌<◌, List, [], ◌∷◌, length, drop, get_or, ap, sym, ◌∙◌, arith}
-use Rattle.std.proofs.lemmas.List.{drop-drop, length-drop, get_or-drop, get_or_past}
+use Rattle.std.proofs.Common.{◌≡◌, ℕ, suc, ◌+◌, ◌-◌, ◌<◌, List, ◌∷◌, drop, get_or, ap, sym, ◌∙◌, arith}
+use Rattle.std.proofs.lemmas.List.{drop-drop, get_or-drop}
 use Rattle.trac_forms.specs.Arguments.{parts_between, numbered_part}
-use Rattle.trac_forms.proofs.Parted.{found-comma, part-fits, parts-first, parts-none, shown-cells}
+use Rattle.trac_forms.proofs.Parted.{found-comma, part-fits, parts-first}
 use Rattle.trac_forms.proofs.arguments.find_part.Goals as goal
-
--- a number behind the last
-none-there : (parts : List (ℕ × ℕ)) (before number : ℕ) → drop before parts ≡ [] → before < number → numbered_part parts number ≡ (0, 0)
-none-there parts before number none less =
-    get_or_past ((0, 0) ∷ parts) number (0, 0) (omega (arith, less, sym (length-drop before parts) ∙ ap length none))
 
 -- the first behind so many
 first-there : (parts rest : List (ℕ × ℕ)) (number from to : ℕ) → 0 < number → drop (number - 1) parts ≡ (from, to) ∷ rest → numbered_part parts number ≡ (from, to)
@@ -15,15 +10,6 @@ first-there parts rest number from to some is =
     let e : number ≡ (number - 1 + 0) + 1 = omega (arith, some) in
     let s : number - 1 + 0 + 1 ≡ suc (number - 1 + 0) = omega arith in
     ap (numbered_part parts) (e ∙ s) ∙ sym (get_or-drop (number - 1) parts 0 (0, 0)) ∙ ap (λ ps. get_or ps 0 (0, 0)) is
-
-pub before_comma-requires : goal.before_comma-requires
-before_comma-requires c = omega (arith, shown-cells c.neutral_part.result.now c.args.space.now.neutral c.loop-before.from c.args.end c.neutral_part.ensures, c.requires.bounded)
-
-pub returns-then-end-from : goal.returns-then-end-from
-returns-then-end-from c =
-    let parts = parts_between c.args.space.now.neutral c.args.from c.args.end in
-    let none = sym c.loop-before.invariant ∙ parts-none c.args.space.now.neutral c.loop-before.from c.args.end (omega (arith, c.if-end-from.true)) in
-    sym (none-there parts (c.loop-before._before - 1) c.args.number none (omega (arith, c.loop-before-test.true)))
 
 pub overflow_add-from : goal.overflow_add-from
 overflow_add-from c =
@@ -54,12 +40,6 @@ loop-before-preserved c =
     ap (λ k. parts_between neutral k c.args.end) e
     ∙ sym (ap (drop 1) first) ∙ ap (drop 1) c.loop-before.invariant
     ∙ drop-drop 1 (c.loop-before._before - 1) parts ∙ ap (λ k. drop k parts) s
-
-pub returns-then-end-from-2 : goal.returns-then-end-from-2
-returns-then-end-from-2 c =
-    let parts = parts_between c.args.space.now.neutral c.args.from c.args.end in
-    let none = sym c.loop-before.invariant ∙ parts-none c.args.space.now.neutral c.loop-before.from c.args.end (omega (arith, c.if-end-from-2.true)) in
-    sym (none-there parts (c.loop-before._before - 1) c.args.number none (omega (arith, c.requires.some, c.loop-before.auto._before-end c.requires.some, c.loop-before.auto._before)))
 
 pub overflow_add-result : goal.overflow_add-result
 overflow_add-result c =

@@ -1,12 +1,7 @@
-use Rattle.std.proofs.Common.{◌≡◌, ◌+◌, ◌≤◌, ◌++◌, length, ap, ◌∙◌, arith}
-use Rattle.std.proofs.lemmas.List.{append-nil}
+use Rattle.std.proofs.Common.{◌≡◌, ◌+◌, ◌≤◌, length, ap, arith}
 use Rattle.trac_space.specs.Lists.{Lists}
-use Rattle.trac_forms.specs.Arguments.{parts_between}
-use Rattle.trac_forms.proofs.Parted.{lists-none, lists-more, found-comma, part-fits, parts-none, shown-cells}
+use Rattle.trac_forms.proofs.Parted.{lists-more, found-comma, part-fits}
 use Rattle.trac_forms.proofs.arguments.list_parts.Goals as goal
-
-pub before_near_comma-requires : goal.before_near_comma-requires
-before_near_comma-requires c = omega (arith, shown-cells c.neutral_part.result.now c.loop-from.space.neutral c.loop-from.from c.args.end c.neutral_part.ensures, c.requires.bounded)
 
 pub overflow_add-from : goal.overflow_add-from
 overflow_add-from c =
@@ -28,21 +23,8 @@ overflow_add-from-in-loop-from c =
     let fits = part-fits now.neutral c.loop-from.from c.args.end c.before_near_comma.result c.loop-from-test.true within is in
     omega (arith, fits, c.requires.bounded)
 
-pub overflow_add-count : goal.overflow_add-count
-overflow_add-count c = omega (arith, c.loop-from.invariant.few, c.loop-from-test.true, c.requires.bounded)
-
-pub loop-from-init : goal.loop-from-init
-loop-from-init c = lists-none c.args.space.now c.push_active.new.self c.args.from c.args.end c.requires.order c.push_active.ensures c.requires.room
-
 pub loop-from-preserved : goal.loop-from-preserved
 loop-from-preserved c =
     let is = found-comma _ _ _ c.neutral_part.ensures c.before_near_comma.ensures in
     let e : c.loop-from.from + (c.before_near_comma.result + 1) ≡ c.loop-from.from + c.before_near_comma.result + 1 = omega arith in
     rw e (lists-more c.args.space.now c.loop-from.space c.push_active-in-loop-from.new.self c.args.from c.loop-from.from c.args.end c.loop-from.count c.before_near_comma.result c.loop-from.invariant c.loop-from-test.true c.requires.within c.requires.bounded is (rw e at c.push_active-in-loop-from.ensures))
-
-pub returns-clause-listed : goal.returns-clause-listed
-returns-clause-listed c =
-    let i = c.loop-from.invariant in
-    let none = parts-none c.args.space.now.neutral c.loop-from.from c.args.end (omega (arith, c.loop-from-test.false)) in
-    let all : parts_between c.args.space.now.neutral c.args.from c.args.end ≡ i.parts = i.split ∙ ap (λ parts. i.parts ++ parts) none ∙ append-nil i.parts in
-    rw all i.listed

@@ -4,9 +4,6 @@ use Rattle.trac_forms.specs.Stored.{head_at}
 use Rattle.trac_forms.proofs.Heads.{number-in-part, head-in-part}
 use Rattle.trac_forms.proofs.arguments.listed_pair.Goals as goal
 
-pub number_in_head-requires : goal.number_in_head-requires
-number_in_head-requires c = head-in-part c.args.space.now.active c.active_part-cells.result.now c.args.place (c.args.place + 2) 1 c.requires.within c.active_part-cells.ensures (omega arith) c.requires.from_head
-
 pub number_in_head-requires-2 : goal.number_in_head-requires-2
 number_in_head-requires-2 c =
     let here : c.args.place + 0 ≡ c.args.place = omega arith in
@@ -14,7 +11,6 @@ number_in_head-requires-2 c =
 
 pub returns-clause-next : goal.returns-clause-next
 returns-clause-next c =
-    let active = c.args.space.now.active in
     let place = c.args.place in
     let here : place + 0 ≡ place = omega arith in
-    c.number_in_head-2.ensures ∙ number-in-part active c.active_part-cells.result.now place (place + 2) 0 c.requires.within c.active_part-cells.ensures (omega arith) ∙ ap (head_at active) here
+    c.number_in_head-2.ensures ∙ number-in-part _ c.active_part-cells.result.now place (place + 2) 0 c.requires.within c.active_part-cells.ensures (omega arith) ∙ ap (head_at _) here

@@ -4,25 +4,8 @@ use Rattle.trac_space.specs.declared.cell.Cell.TheVariants.{Byte, Comma}
 use Rattle.trac_space.specs.Texts.{character_of}
 use Rattle.trac_forms.specs.Borders.{IsNextBorder}
 use Rattle.trac_forms.proofs.BorderLists.{any-default}
-use Rattle.trac_forms.proofs.TextBorders.{searched-none, searched-next, searched-found, searched-all, next-within}
+use Rattle.trac_forms.proofs.TextBorders.{searched-next, searched-found, searched-all, next-within}
 use Rattle.trac_forms.proofs.borders.first_by_borders.Goals as goal
-
-pub loop-i-init : goal.loop-i-init
-loop-i-init c = record {
-  few = c.requires.some;
-  done = searched-none (map character_of c.args.text.now) c.args.cells.now c.args.from;
-}
-
-pub next_border-before-requires-clause-within : goal.next_border-before-requires-clause-within
-next_border-before-requires-clause-within c = c.loop-i.invariant.few
-
-pub next_border-before-requires-clause-listed : goal.next_border-before-requires-clause-listed
-next_border-before-requires-clause-listed c = omega (arith, c.loop-i.invariant.few, c.requires.listed)
-
-pub overflow_sub-result : goal.overflow_sub-result
-overflow_sub-result c =
-    let within = next-within (map character_of c.args.text.now) c.loop-i.before _ c.next_border-before.result c.next_border-before.ensures in
-    omega (arith, within, c.loop-i.invariant.done.order)
 
 pub returns-then-before-text : goal.returns-then-before-text
 returns-then-before-text c =

@@ -59,13 +59,12 @@ pub returns-then-has_character-clause-put : goal.returns-then-has_character-clau
 returns-then-has_character-clause-put c =
     let k = (goal.at.returns-then-has_character-clause-put c).After-put_characters-count in
     let gap = c.loop-arguments.at + c.put_characters-count.result in
-    let end = c.loop-arguments.at + c.min.result in
     let ran = c.put_characters-count.ensures in
     let there = sym c.has_character.ensures ∙ c.if-has_character.true in
     let none : c.loop-arguments.way ≤ c.put_characters-count.result = ⊎_elim
     (λ less. absurd (false≢true (sym (ran.stop less) ∙ ap (λ (s : Lists). byte_cell_at s.store gap) (sym ran.put) ∙ there)))
     (λ past. omega (arith, past, few k, c.min.ensures, c.if-gap-stop.false))
-    (cases_lt gap end) in
+    (cases_lt gap _) in
     let past = character-full c.args.space.now c.put_characters-count.new.self _ gap c.args.stop _ (run k) (omega (arith, few k, c.if-gap-stop.false)) c.requires.within there (omega (arith, left k, none)) in
     (λ e. absurd (false≢true e), λ fits. absurd (omega (arith, past, fits)))
 

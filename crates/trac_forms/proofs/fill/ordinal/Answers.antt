@@ -25,7 +25,6 @@ number-in-part list cells at end i within shown inside =
 
 pub returns : goal.returns
 returns c =
-    let store = c.args.space.now.store in
     let i = c.args.i in
     let here : i + 0 ≡ i = omega arith in
-    c.ordinal_in.ensures ∙ number-in-part store c.store_part.result.now i (i + 1) 0 (omega (arith, c.requires.within)) c.store_part.ensures (omega arith) ∙ ap (gap_ordinal store) here
+    c.ordinal_in.ensures ∙ number-in-part _ c.store_part.result.now i (i + 1) 0 (omega (arith, c.requires.within)) c.store_part.ensures (omega arith) ∙ ap (gap_ordinal _) here

@@ -1,17 +1,10 @@
-use Rattle.std.proofs.Common.{◌+◌, length, slice_range, sym, ap, ◌∙◌, arith}
-use Rattle.std.proofs.lemmas.Bool.{false≢true}
+use Rattle.std.proofs.Common.{◌+◌, slice_range, sym, ap, ◌∙◌, arith}
 use Rattle.std.proofs.lemmas.List.{length-map}
 use Rattle.trac_space.specs.Cells.{seen}
 use Rattle.trac_space.specs.Texts.{text_of_cells, flat_text}
 use Rattle.trac_forms.proofs.Finding.{bytes-of-seen, seen-text, part-length}
 use Rattle.trac_forms.proofs.Gaps.{bytes-seen}
 use Rattle.trac_forms.proofs.index.is_name.Goals as goal
-
-pub returns-then-len-text : goal.returns-then-len-text
-returns-then-len-text c = (
-  λ e. absurd (false≢true e),
-  λ e. absurd (omega (arith, c.if-len-text.true, ap length e, length-map (slice_range c.args.cells.now c.args.from (c.args.from + c.args.len)) seen, part-length c.args.cells.now c.args.from c.args.len c.requires.within, length-map c.args.text.now seen)),
-)
 
 pub is_text-requires : goal.is_text-requires
 is_text-requires c =

@@ -22,16 +22,12 @@ looked table name first i is some =
 
 pub returns-in-Byte : goal.returns-in-Byte
 returns-in-Byte c =
-    let table = c.args.table.now in
-    let forms = forms_in (map seen c.args.store.now) in
-    let cell = looked table c.args.name.now c.hash-first.result c.loop-i.i c.hash-first.ensures.value c.loop-i-test.true in
-    none-at_blank (map seen table) forms (text_of_cells (map seen c.args.name.now)) c.requires.index c.loop-i.i c.loop-i.invariant (ap is_blank (cell ∙ ap seen c.in-Byte.is))
+    let cell = looked _ c.args.name.now c.hash-first.result c.loop-i.i c.hash-first.ensures.value c.loop-i-test.true in
+    none-at_blank (map seen _) _ (text_of_cells (map seen c.args.name.now)) c.requires.index c.loop-i.i c.loop-i.invariant (ap is_blank (cell ∙ ap seen c.in-Byte.is))
 
 pub returns : goal.returns
 returns c =
-    let table = c.args.table.now in
-    let forms = forms_in (map seen c.args.store.now) in
-    none-at_end (map seen table) forms (text_of_cells (map seen c.args.name.now)) c.requires.index c.loop-i.i c.loop-i.invariant (rw (slots_len table) c.loop-i-test.false)
+    none-at_end (map seen _) _ (text_of_cells (map seen c.args.name.now)) c.requires.index c.loop-i.i c.loop-i.invariant (rw (slots_len _) c.loop-i-test.false)
 
 pub start_if_named-requires-clause-within : goal.start_if_named-requires-clause-within
 start_if_named-requires-clause-within c =

@@ -13,12 +13,6 @@ loop-next-init c = record {
   index = λ name start index. index-started c.args.k c.args.count c.args.cells name start c.args.space.now.spare index;
 }
 
-pub start_earlier-requires-clause-place : goal.start_earlier-requires-clause-place
-start_earlier-requires-clause-place c =
-    let h = c.requires (omega (arith, c.spare_len.ensures.value, c.if-spare_len-eq0.false)) in
-    let index = c.loop-next.invariant.index h.0 h.1.0 h.1.1.index in
-    omega (arith, index.roomy, c.loop-next-test.true)
-
 pub start_earlier-requires-clause-cells : goal.start_earlier-requires-clause-cells
 start_earlier-requires-clause-cells c =
     let h = c.requires (omega (arith, c.spare_len.ensures.value, c.if-spare_len-eq0.false)) in

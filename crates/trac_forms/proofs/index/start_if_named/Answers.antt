@@ -14,6 +14,7 @@ use Rattle.trac_forms.proofs.Heads.{is_head, number-seen}
 use Rattle.trac_forms.proofs.FlatLemmas.{Byte-character_of, character_of-Byte}
 use Rattle.trac_forms.proofs.Indexed.{slots_len}
 use Rattle.trac_forms.proofs.index.start_if_named.Goals as goal
+use Rattle.trac_forms.proofs.index.start_if_named.Goals.{After-number-start}
 
 -- what the table and the store say of form k
 record Begins (store table : List Cell) (k start : ℕ) : Type 0 where
@@ -43,56 +44,43 @@ begins-here store table k start whole index within is =
       part = b.name_part;
     }
 
-pub bounds-store-at : goal.bounds-store-at
-bounds-store-at c =
-    let b = begins-here c.args.store.now c.args.table.now c.args.k c.number-start.result c.requires.whole c.requires.index c.requires.within c.number-start.ensures in
-    omega (arith, b.end)
-
-pub number_in_head-len-requires : goal.number_in_head-len-requires
-number_in_head-len-requires c =
-    let b = begins-here c.args.store.now c.args.table.now c.args.k c.number-start.result c.requires.whole c.requires.index c.requires.within c.number-start.ensures in
-    is_head (get_or c.args.store.now (c.number-start.result + 3 - 3) (Byte 0)) (length (name_at (forms_in (map seen c.args.store.now)) c.args.k)) b.head
+here : (c : After-number-start) → Begins c.args.store.now c.args.table.now c.args.k c.number-start.result
+here c = begins-here c.args.store.now c.args.table.now c.args.k c.number-start.result c.requires.whole c.requires.index c.requires.within c.number-start.ensures
 
 -- how long the name is
-len-is : (store : List Cell) (start n len : ℕ) → get_or store (start + 3 - 3) (Byte 0) ≡ Head n → len ≡ head_number (Some (get_or store (start + 3 - 3) (Byte 0))) → len ≡ n
-len-is store start n len head is = is ∙ number_is (get_or store (start + 3 - 3) (Byte 0)) n head
+len : (c : After-number-start) (n : ℕ) → n ≡ head_number (Some (get_or c.args.store.now (c.number-start.result + 3 - 3) (Byte 0))) → n ≡ length (name_at (forms_in (map seen c.args.store.now)) c.args.k)
+len c n is = is ∙ number_is _ _ (here c).head
+
+part : (c : After-number-start) (n : ℕ) → n ≡ head_number (Some (get_or c.args.store.now (c.number-start.result + 3 - 3) (Byte 0))) → map seen (slice_range c.args.store.now (c.number-start.result + 3) (c.number-start.result + 3 + n)) ≡ flat_text (name_at (forms_in (map seen c.args.store.now)) c.args.k)
+part c n is = ap (λ n. map seen (slice_range c.args.store.now (c.number-start.result + 3) (c.number-start.result + 3 + n))) (len c n is) ∙ (here c).part
+
+pub bounds-store-at : goal.bounds-store-at
+bounds-store-at c = omega (arith, (here (goal.at.bounds-store-at c).After-number-start).end)
+
+pub number_in_head-len-requires : goal.number_in_head-len-requires
+number_in_head-len-requires c = is_head _ _ (here (goal.at.number_in_head-len-requires c).After-number-start).head
 
 pub is_name-requires-clause-within : goal.is_name-requires-clause-within
 is_name-requires-clause-within c =
-    let b = begins-here c.args.store.now c.args.table.now c.args.k c.number-start.result c.requires.whole c.requires.index c.requires.within c.number-start.ensures in
-    let len = len-is c.args.store.now c.number-start.result _ c.number_in_head-len.result b.head c.number_in_head-len.ensures in
-    omega (arith, b.end, len)
+    let k = (goal.at.is_name-requires-clause-within c).After-number-start in
+    omega (arith, (here k).end, len k _ c.number_in_head-len.ensures)
 
 pub is_name-requires-clause-part_bytes : goal.is_name-requires-clause-part_bytes
 is_name-requires-clause-part_bytes c =
-    let store = c.args.store.now in
-    let start = c.number-start.result in
-    let b = begins-here store c.args.table.now c.args.k start c.requires.whole c.requires.index c.requires.within c.number-start.ensures in
-    let name = name_at (forms_in (map seen store)) c.args.k in
-    let len = len-is store start (length name) c.number_in_head-len.result b.head c.number_in_head-len.ensures in
-    let part = ap (λ n. map seen (slice_range store (start + 3) (start + 3 + n))) len ∙ b.part in
-    subst (All IsByte) (sym part) (bytes-flat name)
+    let k = (goal.at.is_name-requires-clause-part_bytes c).After-number-start in
+    subst (All IsByte) (sym (part k _ c.number_in_head-len.ensures)) (bytes-flat _)
 
 pub returns-then-is_name : goal.returns-then-is_name
 returns-then-is_name c =
-    let store = c.args.store.now in
-    let start = c.number-start.result in
-    let b = begins-here store c.args.table.now c.args.k start c.requires.whole c.requires.index c.requires.within c.number-start.ensures in
-    let name = name_at (forms_in (map seen store)) c.args.k in
-    let len = len-is store start (length name) c.number_in_head-len.result b.head c.number_in_head-len.ensures in
-    let part = ap (λ n. map seen (slice_range store (start + 3) (start + 3 + n))) len ∙ b.part in
-    let same : flat_text name ≡ map seen c.args.name.now = sym part ∙ c.is_name.ensures.0 c.if-is_name.true in
+    let k = (goal.at.returns-then-is_name c).After-number-start in
+    let name = name_at (forms_in (map seen c.args.store.now)) c.args.k in
+    let same : flat_text name ≡ map seen c.args.name.now = sym (part k _ c.number_in_head-len.ensures) ∙ c.is_name.ensures.0 c.if-is_name.true in
     record {
       named = record { within = c.requires.within; named = sym (character_of-Byte name) ∙ ap text_of_cells same };
-      start_is = b.begins;
+      start_is = (here k).begins;
     }
 
 pub returns-else-is_name : goal.returns-else-is_name
 returns-else-is_name c = λ named.
-    let store = c.args.store.now in
-    let start = c.number-start.result in
-    let b = begins-here store c.args.table.now c.args.k start c.requires.whole c.requires.index c.requires.within c.number-start.ensures in
-    let name = name_at (forms_in (map seen store)) c.args.k in
-    let len = len-is store start (length name) c.number_in_head-len.result b.head c.number_in_head-len.ensures in
-    let part = ap (λ n. map seen (slice_range store (start + 3) (start + 3 + n))) len ∙ b.part in
-    both_ways c.is_name.result c.if-is_name.false (c.is_name.ensures.1 (part ∙ ap flat_text named ∙ Byte-character_of (map seen c.args.name.now) c.requires.bytes))
+    let k = (goal.at.returns-else-is_name c).After-number-start in
+    both_ways c.is_name.result c.if-is_name.false (c.is_name.ensures.1 (part k _ c.number_in_head-len.ensures ∙ ap flat_text named ∙ Byte-character_of (map seen c.args.name.now) c.requires.bytes))

@@ -28,11 +28,6 @@ overflow_add-cells-2 c =
     let f = stands (forms_in s.store) s.store c.args.k c.args.start c.requires.whole within c.requires.begins in
     omega (arith, f.end, f.name_len, f.body_len, c.head.ensures, c.head-2.ensures, c.requires.bounded)
 
-pub bury-requires-clause-place : goal.bury-requires-clause-place
-bury-requires-clause-place c =
-    let index = c.requires.index (omega (arith, c.spare_len.ensures.value, c.if-spare_len-eq0.false)) in
-    omega (arith, index.roomy, c.requires.within, c.requires.count_is)
-
 pub bury-requires-clause-home : goal.bury-requires-clause-home
 bury-requires-clause-home c =
     let s = c.args.space.now in
@@ -55,10 +50,6 @@ loop-next-init c =
       same = c.bury.ensures ∙ ap (λ t. record s { spare = t }) (sym is);
       index = subst (λ g. IsIndexBut spare (length forms) g (names_now forms k g) (starts_now forms k g)) (sym e) (subst (λ t. IsIndexBut t (length forms) k (names_now forms k k) (starts_now forms k k)) (sym is) gap);
     }
-
-pub bring_forward-requires-clause-place : goal.bring_forward-requires-clause-place
-bring_forward-requires-clause-place c =
-    omega (arith, c.loop-next.invariant.index.roomy, c.loop-next-test.true, c.requires.count_is)
 
 pub bring_forward-requires-clause-home : goal.bring_forward-requires-clause-home
 bring_forward-requires-clause-home c =

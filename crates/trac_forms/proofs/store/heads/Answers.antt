@@ -5,10 +5,9 @@ use Rattle.trac_forms.proofs.store.heads.Goals as goal
 
 pub returns-clause-name : goal.returns-clause-name
 returns-clause-name c =
-    let store = c.args.space.now.store in
     let start = c.args.start in
     let here : start + 0 ≡ start = omega arith in
-    c.number.ensures ∙ number-in-part store c.store_part-cells.result.now start (start + 3) 0 c.requires.within c.store_part-cells.ensures (omega arith) ∙ ap (head_at store) here
+    c.number.ensures ∙ number-in-part _ c.store_part-cells.result.now start (start + 3) 0 c.requires.within c.store_part-cells.ensures (omega arith) ∙ ap (head_at _) here
 
 pub returns-clause-body : goal.returns-clause-body
 returns-clause-body c =

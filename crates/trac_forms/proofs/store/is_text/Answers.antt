@@ -1,6 +1,6 @@
-use Rattle.std.proofs.Common.{◌≡◌, ℕ, ◌<◌, List, length, get_or, sym, ap, refl, ◌∙◌, arith}
+use Rattle.std.proofs.Common.{◌≡◌, ℕ, ◌<◌, List, length, get_or, sym, ap, ◌∙◌, arith}
 use Rattle.std.proofs.lemmas.Bool.{false≢true}
-use Rattle.std.proofs.lemmas.List.{length-map, get_or-map, take_all, take_more_same}
+use Rattle.std.proofs.lemmas.List.{length-map, get_or-map, take_more_same}
 use Rattle.trac_space.specs.declared.cell.Cell.{Cell}
 use Rattle.trac_space.specs.declared.cell.Cell.TheVariants.{Byte}
 use Rattle.trac_space.specs.Texts.{character_of, text_of_cells}
@@ -9,12 +9,6 @@ use Rattle.trac_forms.proofs.store.is_text.Goals as goal
 -- the character at a place
 read : (cells : List Cell) (i c : ℕ) → i < length cells → c ≡ character_of (get_or cells i (Byte 0)) → get_or (text_of_cells cells) i 0 ≡ c
 read cells i c within is = get_or-map character_of cells i (Byte 0) 0 within ∙ sym is
-
-pub byte_in-requires : goal.byte_in-requires
-byte_in-requires c = c.requires.cell_bytes c.loop-i.i (Byte 0) (omega (arith, c.requires.same))
-
-pub byte_in-requires-in-loop-i : goal.byte_in-requires-in-loop-i
-byte_in-requires-in-loop-i c = c.requires.bytes c.loop-i.i (Byte 0) (omega arith)
 
 pub returns-then-byte_in : goal.returns-then-byte_in
 returns-then-byte_in c =
@@ -33,12 +27,3 @@ loop-i-preserved c =
     let la = length-map a character_of in
     let lb = length-map b character_of in
     take_more_same (text_of_cells a) (text_of_cells b) i 0 (omega (arith, la, c.requires.same)) (omega (arith, lb)) c.loop-i.invariant (ra ∙ c.if-byte_in.false ∙ sym rb)
-
-pub returns : goal.returns
-returns c =
-    let i = c.loop-i.i in
-    let a = c.args.cells.now in
-    let b = c.args.text.now in
-    let la = length-map a character_of in
-    let lb = length-map b character_of in
-    ((λ t. sym (take_all i (text_of_cells a) (omega (arith, la, c.requires.same))) ∙ c.loop-i.invariant ∙ take_all i (text_of_cells b) (omega (arith, lb))), (λ same. refl))

@@ -1,13 +1,8 @@
 use Rattle.std.proofs.Common.{◌≡◌, ◌+◌, ◌-◌, length, get_or, sym, ap, ◌∙◌, arith}
 use Rattle.trac_language.specs.BitString.{is_octal}
 use Rattle.trac_space.specs.Texts.{text_of_cells}
-use Rattle.trac_values.proofs.Texts.{length-text, read_at, read_passes, padded_before, padded_within}
+use Rattle.trac_values.proofs.Texts.{length-text, read_at, read_passes, padded_within}
 use Rattle.trac_values.proofs.bit_string.aligned_digit.Goals as goal
-
-pub returns-then-place-digits-clause-digit : goal.returns-then-place-digits-clause-digit
-returns-then-place-digits-clause-digit c =
-    let long = length-text c.args.digits.now in
-    sym (padded_before c.args.long c.args.place 48 (text_of_cells c.args.digits.now) (omega arith))
 
 pub returns-else-place-digits-clause-octal : goal.returns-else-place-digits-clause-octal
 returns-else-place-digits-clause-octal c =

@@ -14,9 +14,7 @@ pub returns : goal.returns
 returns c =
     let d = number (text_of_cells c.args.d.now) in
     let digits = c.octal_digits-digits.result.now in
-    let long = length-text digits in
-    let bits = length-bits_of (text_of_cells digits) in
-    let whole : length (bits_of_cells digits) ≡ 3 * length digits = omega arith in
+    let whole : length (bits_of_cells digits) ≡ 3 * length digits = omega (arith, length-text, length-bits_of) in
     c.rotated_digit.ensures
     ∙ ap (λ l. slice_get (octal l) c.args.k)
     (rotation_same d c.rotation_of.result (bits_of_cells digits) (ap (λ n. int_rem_euclid d (pos n)) whole ∙ c.rotation_of.ensures)

@@ -13,9 +13,7 @@ pub returns : goal.returns
 returns c =
     let d = number (text_of_cells c.args.d.now) in
     let digits = c.octal_digits.result.now in
-    let long = length-text digits in
-    let bits = length-bits_of (text_of_cells digits) in
     c.shifted_digit.ensures
     ∙ ap (λ l. slice_get (octal l) c.args.k)
-    (shift_same d c.shift_of.result.negative c.shift_of.result.size 50331648 (bits_of_cells digits) (omega arith) c.shift_of.ensures.negative c.shift_of.ensures.size
+    (shift_same d c.shift_of.result.negative c.shift_of.result.size 50331648 (bits_of_cells digits) (omega (arith, length-text, length-bits_of)) c.shift_of.ensures.negative c.shift_of.ensures.size
     ∙ ap (λ t. shifted d (flat_map bits_of_digit t)) c.octal_digits.ensures.digits)

@@ -7,8 +7,7 @@ use Rattle.trac_values.proofs.bit_string.complement_digit.Goals as goal
 
 pub returns-then-place-digits : goal.returns-then-place-digits
 returns-then-place-digits c =
-    let long = length-text c.args.digits.now in
-    sym (complement_past (text_of_cells c.args.digits.now) c.args.k (omega arith))
+    sym (complement_past (text_of_cells c.args.digits.now) c.args.k (omega (arith, length-text)))
 
 pub returns : goal.returns
 returns c =

@@ -9,9 +9,7 @@ pub returns-then-place-short : goal.returns-then-place-short
 returns-then-place-short c =
     let t = text_of_cells c.args.a.now in
     let u = text_of_cells c.args.b.now in
-    let lt = length-text c.args.a.now in
-    let lu = length-text c.args.b.now in
-    sym (intersection_past t u c.min-short.result c.args.k (omega arith) (omega arith))
+    sym (intersection_past t u c.min-short.result c.args.k (omega (arith, length-text)) (omega (arith, length-text)))
 
 pub returns : goal.returns
 returns c =

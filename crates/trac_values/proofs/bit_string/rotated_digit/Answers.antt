@@ -2,7 +2,6 @@ use Rattle.std.proofs.Common.{◌≡◌, ◌*◌, ◌+◌, ◌%◌, ℕ, length,
 use Rattle.std.specs.Prelude.{◌+ℤ◌}
 use Rattle.std.specs.Int.{int_rem_euclid}
 use Rattle.trac_language.specs.BitString.{bit_at}
-use Rattle.trac_space.specs.Texts.{text_of_cells}
 use Rattle.trac_values.specs.Digits.{bits_of_cells}
 use Rattle.trac_values.proofs.Texts.{length-text}
 use Rattle.trac_values.proofs.OctalDigits.{length-bits_of}
@@ -12,21 +11,17 @@ use Rattle.trac_values.proofs.bit_string.rotated_digit.Goals as goal
 pub returns-then-place-digits : goal.returns-then-place-digits
 returns-then-place-digits c =
     let l = bits_of_cells c.args.digits.now in
-    let long = length-text c.args.digits.now in
-    let bits = length-bits_of (text_of_cells c.args.digits.now) in
-    sym (by_past (λ i. bit_at l (int_rem_euclid (pos i +ℤ pos c.args.by) (pos (length l)))) (length l) c.args.k (omega arith))
+    sym (by_past (λ i. bit_at l (int_rem_euclid (pos i +ℤ pos c.args.by) (pos (length l)))) (length l) c.args.k (omega (arith, length-text, length-bits_of)))
 
 pub returns : goal.returns
 returns c =
     let l = bits_of_cells c.args.digits.now in
     let by = c.args.by in
-    let long = length-text c.args.digits.now in
-    let bits = length-bits_of (text_of_cells c.args.digits.now) in
-    let whole : 3 * length c.args.digits.now ≡ length l = omega arith in
+    let whole : 3 * length c.args.digits.now ≡ length l = omega (arith, length-text, length-bits_of) in
     let at : (i : ℕ) → get_or l ((i + by) % (3 * length c.args.digits.now)) false ≡ get_or l ((i + by) % length l) false =
     λ i. ap (λ n. get_or l ((i + by) % n) false) whole in
     ap Some c.octal_digit.ensures
-    ∙ sym (by_digit (λ i. bit_at l (int_rem_euclid (pos i +ℤ pos by) (pos (length l)))) (length l) c.args.k c.rotated_bit-first.result c.rotated_bit-second.result c.rotated_bit-third.result (omega arith)
+    ∙ sym (by_digit (λ i. bit_at l (int_rem_euclid (pos i +ℤ pos by) (pos (length l)))) (length l) c.args.k c.rotated_bit-first.result c.rotated_bit-second.result c.rotated_bit-third.result (omega (arith, length-text, length-bits_of))
     (c.rotated_bit-first.ensures ∙ at (3 * c.args.k))
     (c.rotated_bit-second.ensures ∙ at (3 * c.args.k + 1))
     (c.rotated_bit-third.ensures ∙ at (3 * c.args.k + 2)))

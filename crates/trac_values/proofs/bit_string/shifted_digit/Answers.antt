@@ -1,7 +1,6 @@
 use Rattle.std.proofs.Common.{length, pos, sym, ap, ◌∙◌, Some, arith}
 use Rattle.std.specs.Prelude.{◌+ℤ◌}
 use Rattle.trac_language.specs.BitString.{bit_at}
-use Rattle.trac_space.specs.Texts.{text_of_cells}
 use Rattle.trac_values.specs.Digits.{bits_of_cells, signed}
 use Rattle.trac_values.proofs.Texts.{length-text}
 use Rattle.trac_values.proofs.OctalDigits.{length-bits_of}
@@ -12,15 +11,11 @@ pub returns-then-place-digits : goal.returns-then-place-digits
 returns-then-place-digits c =
     let l = bits_of_cells c.args.digits.now in
     let d = signed c.args.by.negative c.args.by.size in
-    let long = length-text c.args.digits.now in
-    let bits = length-bits_of (text_of_cells c.args.digits.now) in
-    sym (by_past (λ i. bit_at l (pos i +ℤ d)) (length l) c.args.k (omega arith))
+    sym (by_past (λ i. bit_at l (pos i +ℤ d)) (length l) c.args.k (omega (arith, length-text, length-bits_of)))
 
 pub returns : goal.returns
 returns c =
     let l = bits_of_cells c.args.digits.now in
     let d = signed c.args.by.negative c.args.by.size in
-    let long = length-text c.args.digits.now in
-    let bits = length-bits_of (text_of_cells c.args.digits.now) in
     ap Some c.octal_digit.ensures
-    ∙ sym (by_digit (λ i. bit_at l (pos i +ℤ d)) (length l) c.args.k c.shifted_bit-first.result c.shifted_bit-second.result c.shifted_bit-third.result (omega arith) c.shifted_bit-first.ensures c.shifted_bit-second.ensures c.shifted_bit-third.ensures)
+    ∙ sym (by_digit (λ i. bit_at l (pos i +ℤ d)) (length l) c.args.k c.shifted_bit-first.result c.shifted_bit-second.result c.shifted_bit-third.result (omega (arith, length-text, length-bits_of)) c.shifted_bit-first.ensures c.shifted_bit-second.ensures c.shifted_bit-third.ensures)

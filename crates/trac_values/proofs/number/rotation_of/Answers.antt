@@ -11,10 +11,8 @@ returns-then-ends_with c =
 
 pub returns-else-rest-gt0 : goal.returns-else-rest-gt0
 returns-else-rest-gt0 c =
-    let t = text_of_cells c.args.cells.now in
     let front = text_of_cells c.split_digits.result.0.now in
-    let back = text_of_cells c.split_digits.result.1.now in
     elim c.else-rest-gt0.branch [
-      | else-rest-gt0-via-then-rest-gt0+else-ends_with w ↦ rotation_plain t front back c.args.bits c.remainder_of-rest.result c.requires.0 c.split_digits.ensures.front c.split_digits.ensures.digits c.remainder_of-rest.ensures (sym w.ends_with.ensures ∙ w.if-ends_with.false)
-      | else-rest-gt0-via-else-rest-gt0 w ↦ rotation_none t front back c.args.bits c.remainder_of-rest.result c.requires.0 c.split_digits.ensures.front c.split_digits.ensures.digits c.remainder_of-rest.ensures (omega arith)
+      | else-rest-gt0-via-then-rest-gt0+else-ends_with w ↦ rotation_plain _ front _ c.args.bits c.remainder_of-rest.result c.requires.0 c.split_digits.ensures.front c.split_digits.ensures.digits c.remainder_of-rest.ensures (sym w.ends_with.ensures ∙ w.if-ends_with.false)
+      | else-rest-gt0-via-else-rest-gt0 w ↦ rotation_none _ front _ c.args.bits c.remainder_of-rest.result c.requires.0 c.split_digits.ensures.front c.split_digits.ensures.digits c.remainder_of-rest.ensures (omega arith)
     ]

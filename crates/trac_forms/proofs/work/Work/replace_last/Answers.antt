@@ -1,18 +1,10 @@
-use Rattle.std.proofs.Common.{◌≡◌, ◌+◌, ◌-◌, ◌<◌, ◌≤◌, length, ap, ◌∙◌, arith}
+use Rattle.std.proofs.Common.{◌+◌, ◌≤◌, length, ap, ◌∙◌, arith}
 use Rattle.trac_forms.specs.Contents.{IsSound, part_text}
-use Rattle.trac_forms.specs.Stored.{forms_in, IsFoundAt}
-use Rattle.trac_forms.proofs.FlatLemmas.{count-le, used-stored}
+use Rattle.trac_forms.specs.Stored.{forms_in}
+use Rattle.trac_forms.proofs.FlatLemmas.{used-stored}
 use Rattle.trac_forms.proofs.Places.{stands}
 use Rattle.trac_forms.proofs.Stores.{defined-last}
 use Rattle.trac_forms.proofs.work.Work.replace_last.Goals as goal
-
-pub overflow_add-k : goal.overflow_add-k
-overflow_add-k c =
-    let s = c.self.inside.space in
-    let h = c.self.invariant in
-    let found = rw c.in-Some.is at c.requires.found in
-    let within = rw (← c.self.view_is) at found.named.within in
-    omega (arith, within, count-le (forms_in s.store), ap length h.whole, h.bounded)
 
 pub write_body-requires-clause-same : goal.write_body-requires-clause-same
 write_body-requires-clause-same c =

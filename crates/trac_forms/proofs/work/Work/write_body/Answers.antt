@@ -1,11 +1,9 @@
-use Rattle.std.proofs.Common.{◌≡◌, ◌+◌, ◌-◌, ◌<◌, length, ap, arith}
-use Rattle.std.proofs.lemmas.List.{length-append, length-set, length-take-le, length-drop}
-use Rattle.std.proofs.lemmas.List.Edits.{length-between}
+use Rattle.std.proofs.Common.{◌+◌, ◌-◌, length, ap, arith}
+use Rattle.std.proofs.lemmas.List.{length-set}
 use Rattle.trac_space.specs.declared.cell.Cell.TheVariants.{Head}
 use Rattle.trac_space.specs.Lists.{Lists}
-use Rattle.trac_forms.specs.Contents.{IsTextPart}
 use Rattle.trac_forms.specs.Stored.{forms_in}
-use Rattle.trac_forms.proofs.Places.{stands, Stands}
+use Rattle.trac_forms.proofs.Places.{stands}
 use Rattle.trac_forms.proofs.Strings.{shown-restored}
 use Rattle.trac_forms.proofs.StoreChanges.{rewritten-stored, written-long}
 use Rattle.trac_forms.proofs.work.Work.write_body.Goals as goal
@@ -56,9 +54,7 @@ write_store-requires-2-clause-within c =
 
 pub invariant_of-self : goal.invariant_of-self
 invariant_of-self c =
-    let s = c.self.inside.space in
-    let f = stands (forms_in s.store) s.store c.args.k c.args.start c.self.invariant.whole (rw (← c.self.view_is) at c.requires.known) (rw (← c.self.view_is) at c.requires.begins) in
-    (rewritten-stored s c.write_part.new.self c.write_store.new.self c.write_store-2.new.self c.self.inside.count c.self.inside.last c.self.inside.start c.args.k c.args.start (c.args.start + 3 + c.head-name.result) c.args.text.0 c.args.text.1 c.self.invariant (rw (← c.self.view_is) at c.requires.known) (rw (← c.self.view_is) at c.requires.begins) (ap (λ n. c.args.start + 3 + n) c.head-name.ensures) (rw (← c.self.view_is) at c.requires.text_part) (rw (← c.self.view_is) at c.requires.same) c.write_part.ensures c.write_store.ensures c.write_store-2.ensures).1
+    (rewritten-stored _ c.write_part.new.self c.write_store.new.self c.write_store-2.new.self c.self.inside.count c.self.inside.last c.self.inside.start c.args.k c.args.start (c.args.start + 3 + c.head-name.result) c.args.text.0 c.args.text.1 c.self.invariant (rw (← c.self.view_is) at c.requires.known) (rw (← c.self.view_is) at c.requires.begins) (ap (λ n. c.args.start + 3 + n) c.head-name.ensures) (rw (← c.self.view_is) at c.requires.text_part) (rw (← c.self.view_is) at c.requires.same) c.write_part.ensures c.write_store.ensures c.write_store-2.ensures).1
 
 pub returns-clause-written : goal.returns-clause-written
 returns-clause-written c =
@@ -68,5 +64,4 @@ returns-clause-written c =
 
 pub returns-clause-sound : goal.returns-clause-sound
 returns-clause-sound c =
-    let s = c.self.inside.space in
-    (rewritten-stored s c.write_part.new.self c.write_store.new.self c.write_store-2.new.self c.self.inside.count c.self.inside.last c.self.inside.start c.args.k c.args.start (c.args.start + 3 + c.head-name.result) c.args.text.0 c.args.text.1 c.self.invariant (rw (← c.self.view_is) at c.requires.known) (rw (← c.self.view_is) at c.requires.begins) (ap (λ n. c.args.start + 3 + n) c.head-name.ensures) (rw (← c.self.view_is) at c.requires.text_part) (rw (← c.self.view_is) at c.requires.same) c.write_part.ensures c.write_store.ensures c.write_store-2.ensures).1.sound
+    (rewritten-stored _ c.write_part.new.self c.write_store.new.self c.write_store-2.new.self c.self.inside.count c.self.inside.last c.self.inside.start c.args.k c.args.start (c.args.start + 3 + c.head-name.result) c.args.text.0 c.args.text.1 c.self.invariant (rw (← c.self.view_is) at c.requires.known) (rw (← c.self.view_is) at c.requires.begins) (ap (λ n. c.args.start + 3 + n) c.head-name.ensures) (rw (← c.self.view_is) at c.requires.text_part) (rw (← c.self.view_is) at c.requires.same) c.write_part.ensures c.write_store.ensures c.write_store-2.ensures).1.sound
