@@ -1,5 +1,6 @@
 //! Calls: one is performed when its right parenthesis is scanned.
-ghost use Rattle.std.specs.Prelude.{◌≡◌, ◌≢◌, ◌-◌, ◌<◌, ◌≤◌, ◌^◌, length, None, Some, true};
+ghost use Rattle.std.specs.Prelude.{◌≡◌, ◌≢◌, ◌-◌, ◌<◌, ◌≤◌, ◌^◌};
+ghost use Rattle.std.specs.Prelude.{length, None, Some, true};
 ghost use Rattle.trac_language.specs.Text.{Text};
 ghost use Rattle.trac_space.specs.Calls.{IsLastCall};
 ghost use Rattle.trac_forms.specs.Contents.{IsSound, used};

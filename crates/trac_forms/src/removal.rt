@@ -2,7 +2,8 @@
 //!
 //! A form that is to go gets a pointer that no form has, and is still found by its name. Then what
 //! stays moves over what goes.
-ghost use Rattle.std.specs.Prelude.{◌≡◌, ◌∷◌, [], ◌++◌, ◌+◌, ◌-◌, ◌≤◌, length, take, drop};
+ghost use Rattle.std.specs.Prelude.{◌≡◌, ◌∷◌, [], ◌++◌, ◌+◌, ◌-◌, ◌≤◌};
+ghost use Rattle.std.specs.Prelude.{length, take, drop};
 ghost use Rattle.std.specs.Prelude.{slice_range, ◌⊎◌};
 ghost use Rattle.trac_space.specs.Lists.{Lists};
 ghost use Rattle.trac_forms.specs.Arguments.{AreParted, texts_between};

@@ -1,5 +1,6 @@
 //! Moves of cells within a block.
-ghost use Rattle.std.specs.Prelude.{◌≡◌, ◌+◌, ◌-◌, ◌≤◌, ◌<◌, ◌⊎◌, ◌++◌, All, drop, false};
+ghost use Rattle.std.specs.Prelude.{◌≡◌, ◌+◌, ◌-◌, ◌≤◌, ◌<◌, ◌⊎◌, ◌++◌};
+ghost use Rattle.std.specs.Prelude.{All, drop, false};
 ghost use Rattle.std.specs.Prelude.{length, take, ◌==◌, if◌then◌else◌, slice_index_or};
 ghost use Rattle.std.specs.List.{copy_within};
 ghost use Rattle.trac_space.specs.declared.cell.Cell.TheVariants.{Byte};

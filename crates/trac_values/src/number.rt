@@ -1,5 +1,6 @@
 //! Numbers at the end of texts.
-ghost use Rattle.std.specs.Prelude.{All, ◌≡◌, ◌↔◌, ◌+◌, ◌*◌, ◌%◌, ◌<◌, ◌≤◌, ◌^◌, ℕ};
+ghost use Rattle.std.specs.Prelude.{◌≡◌, ◌↔◌, ◌+◌, ◌*◌, ◌%◌, ◌<◌, ◌≤◌, ◌^◌};
+ghost use Rattle.std.specs.Prelude.{All, ℕ};
 ghost use Rattle.std.specs.Prelude.{ℤ, min, IfSome, IsSome, IsTrue, length, int_lt, neg_ℤ, pos};
 ghost use Rattle.std.specs.Prelude.{unsigned_abs, ◌<ℤ◌};
 ghost use Rattle.std.specs.Int.{int_rem_euclid};
