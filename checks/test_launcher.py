@@ -19,7 +19,8 @@ AS_NOBODY = {'user': NOBODY, 'group': NOBODY} if os.getuid() == 0 else {}
 FIRST = 'trac: building the program, and proving it: about twelve minutes on four idle cores ..\n'
 AGAIN = 'trac: building the program again, and proving what changed ..\n'
 RT = """#!/bin/sh
-echo called >>'{calls}'
+echo "$1 ${{PWD##*/}}" >>'{calls}'
+[ "$1" = run ] || exit 0
 sleep {seconds}
 mkdir -p out
 printf '#!/bin/sh\\necho "ran $*"; exit 3\\n' >out/trac_cli.$$
@@ -64,11 +65,15 @@ class Launcher(unittest.TestCase):
         output, lines = started.communicate(timeout=60)
         self.assertEqual((output, lines, started.returncode), ('ran --cells 18\n', said, 3))
 
-    def builds(self):
+    def called(self):
+        """What rt was called for, and in which crates."""
         if not os.path.exists(self.calls):
-            return 0
+            return []
         with open(self.calls, encoding='utf-8') as file:
-            return len(file.readlines())
+            return file.read().splitlines()
+
+    def builds(self):
+        return self.called().count('run trac_cli')
 
     def write(self, name, text=''):
         place = os.path.join(self.top, name)
@@ -90,6 +95,16 @@ class Launcher(unittest.TestCase):
         self.run_once()
         self.run_once()
         self.assertEqual(self.builds(), 1)
+
+    def test_a_first_build_goes_from_below(self):
+        self.run_once(FIRST)
+        called = self.called()
+        called.remove('lib trac_words')  # beside the others
+        below = [crate for crate in CRATES[:-1] if crate != 'trac_words']
+        self.assertEqual(called, [f'lib {crate}' for crate in below] + ['run trac_cli'])
+        os.remove(os.path.join(self.top, BUILT))
+        self.run_once(AGAIN)
+        self.assertEqual(self.called()[len(CRATES):], ['run trac_cli'])
 
     def test_an_edit_is_built(self):
         self.run_once(FIRST)
@@ -186,11 +201,15 @@ class Launcher(unittest.TestCase):
         self.assertEqual(self.builds(), 1)
 
     def test_a_build_that_fails(self):
-        self.answer('#!/bin/sh\necho "this is why"\nexit 1\n')
-        started = self.start()
-        output, lines = started.communicate(timeout=60)
-        self.assertEqual((output, started.returncode), ('', 70))
-        self.assertEqual(lines, FIRST + 'this is why\ntrac: the program could not be built\n')
+        for crate in ('trac_space', 'trac_words', 'trac_cli'):
+            with self.subTest(crate):
+                self.answer(f'#!/bin/sh\n[ "${{PWD##*/}}" = {crate} ] || exit 0\n'
+                            'echo "this is why"\nexit 1\n')
+                started = self.start()
+                output, lines = started.communicate(timeout=60)
+                self.assertEqual((output, started.returncode), ('', 70))
+                self.assertEqual(
+                    lines, FIRST + 'this is why\ntrac: the program could not be built\n')
 
 
 if __name__ == '__main__':
