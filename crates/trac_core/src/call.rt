@@ -19,8 +19,7 @@ use crate::input_output::{change_meta, print_string, read_character, read_string
 use crate::scan::{Attempt, Front, InnermostCall, load_idling};
 use trac_devices::{Sink, Source};
 use trac_forms::Work;
-use trac_functions::arguments::{Arguments, Made, text};
-use trac_functions::function::function_named;
+use trac_functions::arguments::{Arguments, Made};
 use trac_functions::{arithmetic, bit_strings, comparing, form_calls, form_parts};
 use trac_language::{Fate, Function};
 
@@ -132,8 +131,7 @@ fn answer<I: Source, O: Sink>(
         end: work.neutral_len(),
         plain: call.plain,
     };
-    let name = arguments.next(work);
-    let Some(function) = function_named(text(work, name)) else {
+    let Some(function) = arguments.function(work) else {
         return Made::Defined(0);
     };
     match function {

@@ -1,7 +1,7 @@
 -- Parts of the neutral string as texts, and arguments cut at comma marks.
 use Rattle.std.proofs.Common.{◌≡◌, ℕ, suc, ◌+◌, ◌-◌, ◌<◌, ◌≤◌, Bool, true, false, List, [], ◌∷◌, length, take, drop, slice_range, All, map, refl, sym, ap, ◌∙◌, subst, ⊎_elim, arith, get_or, cond, nat_le}
 use Rattle.std.proofs.lemmas.Bool.{cases_lt}
-use Rattle.std.proofs.lemmas.List.{length-map, length-take, length-drop, get_or-drop, take-take, drop-take, drop-drop}
+use Rattle.std.proofs.lemmas.List.{length-map, length-take, length-drop, get_or-drop, take-take, take-map, drop-take, drop-drop}
 use Rattle.std.proofs.lemmas.List.Elements.{All-cons, All-take, All-drop, All-map}
 use Rattle.trac_language.specs.Text.{Text}
 use Rattle.trac_language.specs.State.{argument}
@@ -11,7 +11,7 @@ use Rattle.trac_space.specs.Cells.{seen, is_call, is_comma, NoCall, NoComma}
 use Rattle.trac_space.specs.Texts.{flat_text, text_of_cells, character_of, IsByte}
 use Rattle.trac_forms.specs.Contents.{Contents, IsStringCell, IsSound, IsTextPart, part_text}
 use Rattle.trac_forms.specs.Arguments.{before_comma}
-use Rattle.trac_forms.proofs.Parted.{before_comma-within}
+use Rattle.trac_forms.proofs.Parted.{before_comma-within, found-comma}
 use Rattle.trac_functions.specs.declared.arguments.Arguments.{Arguments}
 use Rattle.trac_functions.specs.Flat.{in_first, texts_of}
 use Rattle.trac_functions.specs.Calls.{texts_from, texts, AreArguments}
@@ -293,3 +293,20 @@ next-fits w a n are le e =
 -- a part has as many characters as cells
 pub part-long : (neutral : List Cell) (a b : ℕ) → IsTextPart neutral a b → length (part_text neutral a b) ≡ b - a
 part-long neutral a b part = length-map (slice_range neutral a b) character_of ∙ length-range neutral a b part.within
+
+-- ---- the first argument, as its cells are read
+
+module _ (w : Contents) (a : Arguments) (le : a.from ≤ a.end) (read : List Cell) (e : map seen read ≡ slice_range w.neutral a.from a.end) where
+  pub first-read : text_of_cells (take (before_comma read) read) ≡ argument (texts w a) 0
+  first-read =
+      let n = before_comma read in
+      sym (ap (λ t. argument t 0) (texts_from-some w.neutral a.from a.end le)
+      ∙ texts_of-first (slice_range w.neutral a.from a.end)
+      ∙ ap (λ l. text_of_cells (take (before_comma l) l)) (sym e)
+      ∙ ap (λ n. text_of_cells (take n (map seen read))) (sym (found-comma read (map seen read) n refl refl))
+      ∙ ap text_of_cells (take-map seen n read)
+      ∙ text_of_cells-seen (take n read))
+
+  -- the place behind it and its comma mark
+  pub behind-first : (n : ℕ) → before_comma read ≡ n → a.from + (n + 1) ≡ a.from + before_comma (slice_range w.neutral a.from a.end) + 1
+  behind-first n long = omega (arith, found-comma read _ n e (sym long))

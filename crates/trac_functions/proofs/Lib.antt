@@ -11,3 +11,4 @@ pub mod DigitParts
 pub mod PutParts
 pub mod Ranges
 pub mod TakenItems
+pub mod Names

@@ -1,7 +1,8 @@
 //! The arguments of a call, taken one after the other, and the value that is put behind them.
 ghost use Rattle.std.specs.Prelude.{◌≡◌, ◌↔◌, ◌+◌, ◌≤◌, ◌++◌, ℕ, true, false, length, drop};
-ghost use Rattle.std.specs.Prelude.{IsTrue, slice_range};
+ghost use Rattle.std.specs.Prelude.{IsTrue, IsSome, slice_range};
 ghost use Rattle.std.specs.Bool.{OnTrue, OnFalse};
+ghost use Rattle.trac_language.specs.Function.{function_named};
 ghost use Rattle.trac_language.specs.State.{argument};
 ghost use Rattle.trac_space.specs.Texts.{flat_text, text_of_cells};
 ghost use Rattle.trac_values.specs.Cells.{IsText};
@@ -11,8 +12,9 @@ ghost use Rattle.trac_functions.specs.Calls.{MakesValue, AreArguments, texts};
 ghost use Rattle.trac_functions.specs.Taking.{TakesPart};
 ghost use Rattle.trac_functions.specs.Calls.{KeepsRoom};
 
+use crate::function::function_before_comma;
 use trac_forms::{Cell, Work, before_comma};
-use trac_language::Fate;
+use trac_language::{Fate, Function};
 
 /// The arguments of a call that are left to take: those in the neutral string from a place up to
 /// another. None is left once the place is past that.
@@ -72,6 +74,22 @@ impl Arguments {
             return self.end;
         }
         self.from + before_comma(work.neutral_part(self.from, self.end))
+    }
+
+    /// The function that the next argument names, which is taken then.
+    #[inline]
+    pub fn function(&mut self, work: &Work) -> Option<Function>
+        requires arguments { AreArguments work.now self.old }
+        requires some { self.old.from ≤ self.old.end }
+        ensures named { result ≡ function_named (argument (texts work.now self.old) 0) }
+        ensures rest { IsSome result → texts work.now self.new ≡ drop 1 (texts work.now self.old) }
+        ensures left { AreArguments work.now self.new }
+    {
+        let Some(function) = function_before_comma(work.neutral_part(self.from, self.end)) else {
+            return None;
+        };
+        self.from += 3;
+        Some(function)
     }
 
     /// Whether no argument is left.

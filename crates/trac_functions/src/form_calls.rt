@@ -142,7 +142,7 @@ pub fn delete_definition(work: &mut Work, mut arguments: Arguments) -> Made
 /// `cl,N,X1,X2,..`: the form N from its pointer on, each gap of ordinal k replaced by Xk, or by
 /// nothing where that is missing (Mooers 1966). What stands before the pointer is left out, and the
 /// pointer stays (this processor's own choice).
-#[inline]
+#[inline(always)]
 pub fn call_form(work: &mut Work, mut arguments: Arguments) -> Made
     requires { AreArguments work.old arguments }
     ensures makes { Performs CallForm work.old arguments result work.new }

@@ -1,7 +1,8 @@
 //! The functions of the language.
-ghost use Rattle.std.specs.Prelude.{◌≡◌};
+ghost use Rattle.std.specs.Prelude.{◌≡◌, ◌↔◌, ◌∷◌, [], IsSome, IsTrue, take};
 ghost use Rattle.trac_language.specs.Function.{function_named};
 ghost use Rattle.trac_space.specs.Texts.{character_of, text_of_cells};
+ghost use Rattle.trac_forms.specs.Arguments.{before_comma};
 ghost use Rattle.std.specs.Char.{to_ascii_lowercase};
 
 use trac_language::{Arith, Function};
@@ -34,6 +35,39 @@ pub fn function_named(name: &[Cell]) -> Option<Function>
     let [first, second] = name else {
         return None;
     };
+    function_of(first, second)
+}
+
+/// The function that is named before the first comma mark, in letters of either case. No name is looked
+/// for further, since each has two characters.
+#[inline]
+pub fn function_before_comma(cells: &[Cell]) -> Option<Function>
+    ensures named { result ≡ function_named (text_of_cells (take (before_comma cells.now) cells.now)) }
+    ensures two { IsSome result → before_comma cells.now ≡ 2 }
+{
+    let [first, second, ..] = cells else {
+        return None;
+    };
+    if ends_name(&cells[2..]) {
+        function_of(first, second)
+    } else {
+        None
+    }
+}
+
+/// Whether a comma mark comes first, or nothing.
+#[inline]
+fn ends_name(cells: &[Cell]) -> bool
+    ensures { IsTrue result ↔ (before_comma cells.now ≡ 0) }
+{
+    matches!(cells.first(), Some(Cell::Comma) | None)
+}
+
+/// The function whose name has these two characters.
+#[inline]
+fn function_of(first: &Cell, second: &Cell) -> Option<Function>
+    ensures { result ≡ function_named (character_of first.now ∷ character_of second.now ∷ []) }
+{
     match (lower(first), lower(second)) {
         (b'r', b's') => Some(Function::ReadString),
         (b'r', b'c') => Some(Function::ReadCharacter),

@@ -12,17 +12,17 @@ returns-in_default-clause-answers g c = λ told_source told_sink.
     let w = c.args.work.now in
     let place = c.args.call.place in
     let all = ap (texts_from w.neutral (place + 1)) c.neutral_len.ensures.value ∙ texts-all w.neutral place c.requires.innermost.mark.0 in
-    let name = c.text.ensures.text ∙ c.next-name.ensures.text ∙ ap (λ l. argument l 0) all in
-    answers-nothing w place (sym (sym c.in_default.is ∙ c.function_named.ensures ∙ ap function_named name)) c.requires.sound c.args.meta.now _ _
+    let name = ap (λ l. argument l 0) all in
+    answers-nothing w place (sym (sym c.in_default.is ∙ c.function.ensures.named ∙ ap function_named name)) c.requires.sound c.args.meta.now _ _
 
 pub returns-in-Halt-clause-answers : goal.returns-in-Halt-clause-answers
 returns-in-Halt-clause-answers g c = λ told_source told_sink.
     let w = c.args.work.now in
     let place = c.args.call.place in
     let all = ap (texts_from w.neutral (place + 1)) c.neutral_len.ensures.value ∙ texts-all w.neutral place c.requires.innermost.mark.0 in
-    let name = c.text.ensures.text ∙ c.next-name.ensures.text ∙ ap (λ l. argument l 0) all in
+    let name = ap (λ l. argument l 0) all in
     answers-halt w place
-    (record { sound = c.requires.sound; innermost = c.requires.innermost; names = sym (sym c.in-Some.is ∙ c.function_named.ensures ∙ ap function_named name) ∙ ap Some c.in-Halt.is })
+    (record { sound = c.requires.sound; innermost = c.requires.innermost; names = sym (sym c.in-Some.is ∙ c.function.ensures.named ∙ ap function_named name) ∙ ap Some c.in-Halt.is })
     c.args.meta.now _ _
 
 pub returns-in_default-function-clause-answers : goal.returns-in_default-function-clause-answers
@@ -31,10 +31,10 @@ returns-in_default-function-clause-answers g c = λ told_source told_sink.
     let place = c.args.call.place in
     let d = c.in_default-function in
     let all = ap (texts_from w.neutral (place + 1)) c.neutral_len.ensures.value ∙ texts-all w.neutral place c.requires.innermost.mark.0 in
-    let name = c.text.ensures.text ∙ c.next-name.ensures.text ∙ ap (λ l. argument l 0) all in
+    let name = ap (λ l. argument l 0) all in
     let plain = plain-rest c.in-Some.function d.not-ReadString d.not-ReadCharacter d.not-ChangeMeta d.not-PrintString d.not-PrintForm d.not-Halt in
-    answers-made w c.value_of.new.work place c.in-Some.function (texts w c.next-name.new.self) (sym (sym c.in-Some.is ∙ c.function_named.ensures ∙ ap function_named name)) c.requires.innermost plain
-    (c.next-name.ensures.rest ∙ ap (drop 1) all) c.value_of.result (c.value_of.ensures.makes plain (argument (arguments_at w.neutral place) 0)) c.args.meta.now _ _
+    answers-made w c.value_of.new.work place c.in-Some.function (texts w c.function.new.self) (sym (sym c.in-Some.is ∙ c.function.ensures.named ∙ ap function_named name)) c.requires.innermost plain
+    (c.in-Some.ensures.rest refl ∙ ap (drop 1) all) c.value_of.result (c.value_of.ensures.makes plain (argument (arguments_at w.neutral place) 0)) c.args.meta.now _ _
 
 pub returns-in_default-function-clause-stands : goal.returns-in_default-function-clause-stands
 returns-in_default-function-clause-stands g c =
