@@ -160,9 +160,7 @@ impl<'a> Machine<'a> {
         let Some(front) = scan_on(&mut self.work, 1).1 else {
             return self.count(Attempt { fate: None, need });
         };
-        let mut meta = self.meta;
-        let attempt = carry_out(&mut self.work, front, &mut meta, source, sink);
-        self.meta = meta;
+        let attempt = carry_out(&mut self.work, front, &mut self.meta, source, sink);
         self.count(attempt)
     }
 
@@ -203,14 +201,13 @@ impl<'a> Machine<'a> {
                 need: 0,
             });
         };
-        let mut meta = self.meta;
-        let last = carry_out(&mut self.work, front, &mut meta, source, sink);
-        self.meta = meta;
+        let last = carry_out(&mut self.work, front, &mut self.meta, source, sink);
         self.count(last)
     }
 
-    /// Counts a step that came to this.
+    /// Counts a step that came to this, of a run that is not over.
     fn count(&mut self, attempt: Attempt) -> Option<Fate>
+        requires not_over { self.old.fate ≡ None }
         requires allowed { counts_as_step attempt.fate ≡ true →
             self.old.steps < self.old.allowance }
         requires fits { attempt.need ≤ self.old.room }
@@ -230,8 +227,12 @@ impl<'a> Machine<'a> {
             }
             Some(Fate::Workspace | Fate::Steps) => {}
         }
+        prove!(self.steps <= self.allowance);
+        prove!(self.peak <= self.work.room());
         prove!(self.work.used() <= self.work.room());
-        self.fate = attempt.fate;
+        if attempt.fate.is_some() {
+            self.fate = attempt.fate;
+        }
         attempt.fate
     }
 
