@@ -1,8 +1,7 @@
 -- The names of functions, each of two characters.
-use Rattle.std.proofs.Common.{◌≡◌, ◌≢◌, ℕ, ◌-◌, ◌≤◌, Bool, true, false, List, [], ◌∷◌, length, take, drop, Option, None, refl, sym, ap, ◌∙◌, subst, rules, arith, get_or}
+use Rattle.std.proofs.Common.{◌≡◌, ◌≢◌, ℕ, ◌-◌, ◌≤◌, Bool, true, false, List, [], ◌∷◌, length, take, drop, None, refl, sym, ap, ◌∙◌, subst, rules, arith, get_or}
 use Rattle.std.specs.Prelude.{IsSome, IsTrue}
 use Rattle.std.proofs.Math.Seq.{take-length}
-use Rattle.trac_language.specs.declared.function.Function.{Function}
 use Rattle.trac_language.specs.Text.{Text}
 use Rattle.trac_language.specs.Function.{function_named}
 use Rattle.trac_space.specs.declared.cell.Cell.{Cell}

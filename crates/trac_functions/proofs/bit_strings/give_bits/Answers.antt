@@ -5,7 +5,7 @@ use Rattle.trac_forms.specs.Contents.{used, part_text}
 use Rattle.trac_functions.specs.BitResults.{bits_made}
 use Rattle.trac_functions.proofs.Fronts.{length-part_text}
 use Rattle.trac_functions.proofs.PutCharacters.{stands-behind}
-use Rattle.trac_functions.proofs.BitResults.{made-within, behind-parts, behind-fits, behind-all}
+use Rattle.trac_functions.proofs.BitResults.{made-within, behind-all}
 use Rattle.trac_functions.proofs.bit_strings.give_bits.Goals as goal
 
 pub overflow_add-prefix : goal.overflow_add-prefix
@@ -16,18 +16,6 @@ overflow_add-prefix c =
     let fits = c.free.ensures.sound.fits in
     let bounded = c.free.ensures.sound.bounded in
     omega arith
-
-pub put_digits-requires : goal.put_digits-requires
-put_digits-requires c =
-    let w = c.args.work.now in
-    let long = length-part_text w.neutral c.args.prefix.0 c.args.prefix.1 c.requires.prefix.order c.requires.prefix.within in
-    let text = part_text w.neutral c.args.prefix.0 c.args.prefix.1 in
-    let both : used w + length text + length (octal (bits_made w.neutral c.args.bits)) ≤ w.room = omega (arith, long, c.free.ensures.value, c.digits_made.ensures, c.if-free-prefix.false) in
-    let put = OnTrue_at (c.put_part.ensures.put.1 (omega arith)) c.put_part.ensures.last in
-    record {
-      parts = behind-parts w c.put_part.new.work text c.args.bits c.requires.parts put;
-      fits = behind-fits w c.put_part.new.work text c.args.bits c.requires.parts put both;
-    }
 
 pub returns-clause-makes : goal.returns-clause-makes
 returns-clause-makes c = λ function args valued.

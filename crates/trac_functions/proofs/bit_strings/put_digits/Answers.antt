@@ -5,14 +5,9 @@ use Rattle.std.proofs.lemmas.Option.{none-some, slice_get-get_or}
 use Rattle.trac_language.specs.BitString.{octal}
 use Rattle.trac_functions.specs.BitResults.{bits_made}
 use Rattle.trac_functions.proofs.PutCharacters.{with-more, fits-more}
-use Rattle.trac_functions.proofs.BitResults.{behind-parts, behind-made}
+use Rattle.trac_functions.proofs.BitResults.{behind-made}
 use Rattle.trac_functions.proofs.bit_strings.put_digits.Goals as goal
 use Rattle.trac_functions.proofs.bit_strings.put_digits.Goals.{in-Some, in_default}
-
-pub digit_made-requires : goal.digit_made-requires
-digit_made-requires c =
-    let old = c.args.work.now in
-    behind-parts old c.loop-place.work (take c.loop-place.place (octal (bits_made old.neutral c.args.bits))) c.args.bits c.requires.parts c.loop-place.invariant.put
 
 pub loop-place-preserved : goal.loop-place-preserved
 loop-place-preserved c =

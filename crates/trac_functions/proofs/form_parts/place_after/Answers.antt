@@ -1,6 +1,6 @@
 use Rattle.std.proofs.Common.{arith}
 use Rattle.trac_forms.specs.Contents.{body_at}
-use Rattle.trac_functions.proofs.TakenItems.{forward-none, forward-within, forward-more, forward-last, forward-all}
+use Rattle.trac_functions.proofs.TakenItems.{forward-none, forward-within, forward-more, forward-last}
 use Rattle.trac_functions.proofs.form_parts.place_after.Goals as goal
 
 pub loop-taken-init : goal.loop-taken-init
@@ -8,11 +8,6 @@ loop-taken-init c = forward-none (body_at c.args.work.now.forms c.args.form.0) c
 
 pub next_char-requires-clause-within : goal.next_char-requires-clause-within
 next_char-requires-clause-within c = forward-within (body_at c.args.work.now.forms c.args.form.0) c.args.from c.loop-taken._taken c.loop-taken.place c.requires.within c.loop-taken.invariant
-
-pub overflow_add-place : goal.overflow_add-place
-overflow_add-place c =
-    let first = c.in-Some.ensures.within in
-    omega (arith, c.body_len.ensures.value)
 
 pub returns-in-None-clause-place : goal.returns-in-None-clause-place
 returns-in-None-clause-place c =
@@ -24,10 +19,6 @@ returns-in-None-clause-end c = forward-within (body_at c.args.work.now.forms c.a
 pub loop-taken-preserved : goal.loop-taken-preserved
 loop-taken-preserved c =
     forward-more (body_at c.args.work.now.forms c.args.form.0) c.args.from c.loop-taken._taken c.loop-taken.place c.requires.within c.loop-taken.invariant c.in-Some.character c.in-Some.ensures
-
-pub returns-clause-place : goal.returns-clause-place
-returns-clause-place c =
-    forward-all (body_at c.args.work.now.forms c.args.form.0) c.args.from c.loop-taken._taken c.loop-taken.place c.requires.within c.loop-taken.invariant c.args.count (omega arith)
 
 pub returns-clause-end : goal.returns-clause-end
 returns-clause-end c = forward-within (body_at c.args.work.now.forms c.args.form.0) c.args.from c.loop-taken._taken c.loop-taken.place c.requires.within c.loop-taken.invariant

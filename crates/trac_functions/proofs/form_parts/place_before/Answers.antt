@@ -1,14 +1,10 @@
 use Rattle.std.proofs.Common.{arith}
 use Rattle.trac_forms.specs.Contents.{body_at}
-use Rattle.trac_functions.proofs.TakenItems.{backward-none, backward-within, backward-more, backward-last, backward-all}
+use Rattle.trac_functions.proofs.TakenItems.{backward-none, backward-more, backward-last}
 use Rattle.trac_functions.proofs.form_parts.place_before.Goals as goal
 
 pub loop-taken-init : goal.loop-taken-init
 loop-taken-init c = backward-none (body_at c.args.work.now.forms c.args.form.0) c.args.to
-
-pub previous_char-requires-clause-within : goal.previous_char-requires-clause-within
-previous_char-requires-clause-within c =
-    omega (arith, backward-within (body_at c.args.work.now.forms c.args.form.0) c.args.to c.loop-taken._taken c.loop-taken.place c.requires.within c.loop-taken.invariant)
 
 pub returns-in-None : goal.returns-in-None
 returns-in-None c =
@@ -17,7 +13,3 @@ returns-in-None c =
 pub loop-taken-preserved : goal.loop-taken-preserved
 loop-taken-preserved c =
     backward-more (body_at c.args.work.now.forms c.args.form.0) c.args.to c.loop-taken._taken c.loop-taken.place c.requires.within c.loop-taken.invariant c.in-Some.character c.in-Some.ensures
-
-pub returns : goal.returns
-returns c =
-    backward-all (body_at c.args.work.now.forms c.args.form.0) c.args.to c.loop-taken._taken c.loop-taken.place c.requires.within c.loop-taken.invariant c.args.count (omega arith)
