@@ -21,9 +21,10 @@ use Rattle.clap.specs.declared.builder.value_parser.ValueParser.{ValueParser}
 use Rattle.clap.specs.declared.builder.value_parser.ValueParser.TheVariants as parser
 use Rattle.clap.specs.declared.parser.matches.ArgMatches.{ArgMatches}
 use Rattle.clap.proofs.CallerReads.{signed_reads}
-use Rattle.clap.proofs.WalkLemmas.{both}
+use Rattle.std.proofs.lemmas.Bool.{and_parts, not-true}
+use Rattle.clap.proofs.SimpleLemmas.{is_nil}
 use Rattle.trac_words.specs.CommandLine.{number, number_option}
-use Rattle.trac_words.proofs.OptionReads.{all_plain, default_has_text, is_off, no_items, plain_option, text_passes}
+use Rattle.trac_words.proofs.OptionReads.{all_plain, default_has_text, plain_option, text_passes}
 use Rattle.trac_words.proofs.Places.{IsAt, at_place, only_at, unique_at}
 
 some_item : {X Y : Type 0} (f : X → Y) (xs : List X) (y : Y) → map f xs ≡ y ∷ [] → 0 < length xs
@@ -41,9 +42,9 @@ is_own_name name k rules = not (is_empty name) && (not (bytes_eq name (codes "he
 
 four : (a b d e : Bool) → (a && (b && (d && e))) ≡ true → (a ≡ true) × (b ≡ true) × (d ≡ true) × (e ≡ true)
 four a b d e h =
-    let first = both a (b && (d && e)) h in
-    let second = both b (d && e) first.1 in
-    let third = both d e second.1 in
+    let first = and_parts a (b && (d && e)) h in
+    let second = and_parts b (d && e) first.1 in
+    let third = and_parts d e second.1 in
     (first.0, second.0, third.0, third.1)
 
 -- the four things that it says
@@ -56,7 +57,7 @@ owned name k rules own = four (not (is_empty name)) (not (bytes_eq name (codes "
 is_other : (a b : Text) → not (bytes_eq a b) ≡ true → a ≡ b → ⊥
 is_other a b e same =
     let yes = (bytes_eq-Decides a b).1 same in
-    let no = is_off (bytes_eq a b) e in
+    let no = not-true (bytes_eq a b) e in
     let bad : true ≡ false = sym yes ∙ no in
     cc
 
@@ -79,12 +80,12 @@ module _ (c : Command) (m : ArgMatches) (p : IsParsedFrom c m) (app : App) (is :
 
   is_plain : IsPlain c × ((out-Command c).has_globals ≡ false)
   is_plain =
-      let parts = both _ _ is_plain_is in
-      let fields = both _ _ (ap (λ (a : App). a.top.is_plain) is ∙ parts.0) in
-      let no_groups : groups_of c ≡ [] = no_items (groups_of c) fields.0 in
-      let local = both _ _ (both _ _ fields.1).1 in
+      let parts = and_parts _ _ is_plain_is in
+      let fields = and_parts _ _ (ap (λ (a : App). a.top.is_plain) is ∙ parts.0) in
+      let no_groups : groups_of c ≡ [] = is_nil (groups_of c) fields.0 in
+      let local = and_parts _ _ (and_parts _ _ fields.1).1 in
       let plain_rules = ap (list_all (λ (r : Rule). r.is_simple && r.is_free)) rules_are ∙ parts.1 in
-      ((all_plain (args_of c) plain_rules, no_groups), is_off (out-Command c).has_globals local.0)
+      ((all_plain (args_of c) plain_rules, no_groups), not-true (out-Command c).has_globals local.0)
 
   -- the argument of the rule at a place
   module _ (k : ℕ) (r : Rule) (at : slice_get app.top.rules k ≡ Some r) (own : is_own_name r.id k app.top.rules ≡ true) where
