@@ -64,8 +64,7 @@ one_of_others id (r ∷ rs) rows others =
 pub default_at : (rules : List Rule) (rows : List Row) (k : ℕ) (r : Rule) (v : Text) → slice_get rules k ≡ Some r
     → only_at r.id k (map (λ (s : Rule). s.id) rules) ≡ true → bytes_eq r.id r.id ≡ true → r.defaults ≡ v ∷ [] → has_row r.id rows ≡ false
     → one_of r.id (fold with_default rows rules) ≡ Some (read_as (reading_by r) v)
-default_at [] rows zero r v at only self is none = cc
-default_at [] rows (suc k) r v at only self is none = cc
+default_at [] rows k r v at only self is none = cc
 default_at (s ∷ rs) rows zero r v at only self is none =
     let same : s ≡ r = cc in
     one_of_others r.id rs (with_default rows s) only ∙ ap (λ (t : Rule). one_of r.id (with_default rows t)) same

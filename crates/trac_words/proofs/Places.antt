@@ -20,12 +20,11 @@ pub record IsAt {X Y : Type 0} (f : X → Y) (xs : List X) (k : ℕ) (y : Y) : T
   pub shown : f element ≡ y
 
 pub at_place : {X Y : Type 0} (f : X → Y) (xs : List X) (k : ℕ) (y : Y) → slice_get (map f xs) k ≡ Some y → IsAt f xs k y
-at_place f [] zero y e = cc
-at_place f [] (suc k) y e = cc
+at_place f [] k y e = cc
 at_place f (x ∷ xs) zero y e = record { element = x; within = omega arith; here = refl; shown = cc }
 at_place f (x ∷ xs) (suc k) y e =
     let rest = at_place f xs k y e in
-    record { element = rest.element; within = omega (arith, rest.within); here = rest.here; shown = rest.shown }
+    record { element = rest.element; within = omega arith; here = rest.here; shown = rest.shown }
 
 none_has : {X : Type 0} (f : X → Text) (name : Text) (xs : List X) → list_all (λ u. not (bytes_eq u name)) (map f xs) ≡ true
     → (j : ℕ) (e : X) → j < length xs → bytes_eq (f (slice_index_or xs j e)) name ≡ true → ⊥
