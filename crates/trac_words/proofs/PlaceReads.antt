@@ -25,7 +25,7 @@ use Rattle.clap.proofs.CallerReads.{signed_reads}
 use Rattle.std.proofs.lemmas.Bool.{and_parts, cases_Bool, not-true}
 use Rattle.clap.proofs.SimpleLemmas.{plain_fields}
 use Rattle.trac_words.specs.CommandLine.{number, number_option}
-use Rattle.trac_words.proofs.OptionReads.{all_plain, default_has_text, plain_option, text_passes}
+use Rattle.trac_words.proofs.OptionReads.{all_plain, default_has_text, plain_option, text_passes, the_element}
 use Rattle.trac_words.proofs.Places.{IsAt, at_place, only_at, unique_at}
 
 -- a command whose arguments exclude nothing
@@ -61,15 +61,6 @@ owned name k rules own =
     let c = and_parts (not (bytes_eq name (codes "version"))) _ b.1 in
     record { named = is_some_text name a.0; help = is_other name _ b.0; version = is_other name _ c.0; only = c.1 }
 
--- the text that an option with a default has
-the_text : (o : Option Text) → is_some o ≡ true → (u : Text) × (o ≡ Some u)
-the_text None e = cc
-the_text (Some u) e = (u, refl)
-
-ids_are : (xs : List Arg) → map (λ (r : Rule). r.id) (map rule_of xs) ≡ map (λ (a : Arg). a.id.now) xs
-ids_are [] = refl
-ids_are (x ∷ xs) = ap (λ ts. x.id.now ∷ ts) (ids_are xs)
-
 module _ (c : Command) (m : ArgMatches) (p : IsParsedFrom c m) (app : App) (is : app_of c ≡ app) (is_plain_is : is_plain_app app ≡ true) where
   rules_are : map rule_of (args_of c) ≡ app.top.rules
   rules_are = ap (λ (a : App). a.top.rules) is
@@ -97,9 +88,8 @@ module _ (c : Command) (m : ArgMatches) (p : IsParsedFrom c m) (app : App) (is :
 
     only : (j : ℕ) (e : Arg) → j < length (args_of c) → bytes_eq (slice_index_or (args_of c) j e).id.now same.id.now ≡ true → j ≡ k
     only j e low eq =
-        let ids = ap (only_at r.id k) (sym (ids_are (args_of c)) ∙ ap (map (λ (s : Rule). s.id)) rules_are)
-        ∙ (owned r.id k app.top.rules own).only in
-        unique_at (λ (a : Arg). a.id.now) r.id (args_of c) k ids j e low (rw (← same_id) eq)
+        let ids = ap (λ (rs : List Rule). only_at r.id k (map (λ (s : Rule). s.id) rs)) rules_are ∙ (owned r.id k app.top.rules own).only in
+        unique_at r.id (args_of c) k ids j e low (rw (← same_id) eq)
 
     named : same.id.now ≡ [] → ⊥
     named none = (owned r.id k app.top.rules own).named (sym same_id ∙ none)
@@ -129,7 +119,7 @@ module _ (c : Command) (m : ArgMatches) (p : IsParsedFrom c m) (app : App) (is :
         let some : 0 < length (items_of a.default_vals) = omega (arith, length-map (items_of a.default_vals) (λ s. s.now), ap length texts) in
         let has = default_has_text c m p k (arg k r at own).element (arg k r at own).within (only k r at own) (named k r at own) (unlike k r at own)
         is_plain.0 is_plain.1 (plain.default_ifs, some) (ap (λ (s : Rule). s.action) is_r) plain.val_delim (omega (arith, least_is)) in
-        let u = the_text (one_text (found_of m) name) (rw (same_id k r at own) at has) in
+        let u = the_element (one_text (found_of m) name) (rw (same_id k r at own) at has) in
         let got = option_text k r at own q refl u.0 u.1 in
         (got.0, u.1 ∙ ap Some got.1, got.2)
 

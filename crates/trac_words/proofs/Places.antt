@@ -1,9 +1,12 @@
 -- Elements of a list, by their place and by a text that only one of them has.
-use Rattle.std.proofs.Common.{zero, suc, ◌≡◌, ◌<◌, ◌&&◌, ap, ℕ, Bool, true, not, List, [], ◌∷◌, length, Some, refl, arith}
+use Rattle.std.proofs.Common.{sym, ◌∙◌, zero, suc, ◌≡◌, ◌<◌, ◌&&◌, ap, ℕ, Bool, true, not, List, [], ◌∷◌, length, Some, refl, arith}
 use Rattle.std.specs.List.{slice_index_or, list_all}
 use Rattle.std.specs.Str.{bytes_eq}
 use Rattle.std.specs.Prelude.{map, slice_get}
-use Rattle.clap.specs.Walk.{Text}
+use Rattle.std.proofs.lemmas.List.Folds.{list_all-map}
+use Rattle.clap.specs.Walk.{Rule, Text, rule_of}
+use Rattle.clap.specs.declared.builder.arg.Arg.{Arg}
+use Rattle.clap.proofs.TakesLemmas.{each_rule}
 use Rattle.std.proofs.lemmas.Bool.{and_parts, not-true}
 
 -- no text of the list is the name, but the one at the place
@@ -26,17 +29,14 @@ at_place f (x ∷ xs) (suc k) y e =
     let rest = at_place f xs k y e in
     record { element = rest.element; within = omega arith; here = rest.here; shown = rest.shown }
 
-none_has : {X : Type 0} (f : X → Text) (name : Text) (xs : List X) → list_all (λ u. not (bytes_eq u name)) (map f xs) ≡ true
-    → (j : ℕ) (e : X) → j < length xs → bytes_eq (f (slice_index_or xs j e)) name ≡ true → ⊥
-none_has f name [] none j e low same = absurd (omega arith)
-none_has f name (x ∷ xs) none zero e low same = let off = not-true (bytes_eq (f x) name) (and_parts _ _ none).0 in cc
-none_has f name (x ∷ xs) none (suc j) e low same = none_has f name xs (and_parts _ _ none).1 j e (omega arith) same
-
 -- what has the name stands at the place
-pub unique_at : {X : Type 0} (f : X → Text) (name : Text) (xs : List X) (k : ℕ) → only_at name k (map f xs) ≡ true
-    → (j : ℕ) (e : X) → j < length xs → bytes_eq (f (slice_index_or xs j e)) name ≡ true → j ≡ k
-unique_at f name [] k only j e low same = absurd (omega arith)
-unique_at f name (x ∷ xs) zero only zero e low same = refl
-unique_at f name (x ∷ xs) zero only (suc j) e low same = absurd (none_has f name xs only j e (omega arith) same)
-unique_at f name (x ∷ xs) (suc k) only zero e low same = let off = not-true (bytes_eq (f x) name) (and_parts _ _ only).0 in cc
-unique_at f name (x ∷ xs) (suc k) only (suc j) e low same = ap suc (unique_at f name xs k (and_parts _ _ only).1 j e (omega arith) same)
+pub unique_at : (name : Text) (xs : List Arg) (k : ℕ) → only_at name k (map (λ (r : Rule). r.id) (map rule_of xs)) ≡ true
+    → (j : ℕ) (a : Arg) → j < length xs → bytes_eq (slice_index_or xs j a).id.now name ≡ true → j ≡ k
+unique_at name [] k only j a low same = absurd (omega arith)
+unique_at name (x ∷ xs) zero only zero a low same = refl
+unique_at name (x ∷ xs) zero only (suc j) a low same =
+    let none = sym (list_all-map (λ u. not (bytes_eq u name)) (λ (r : Rule). r.id) (map rule_of xs)) ∙ only in
+    let off = not-true _ (each_rule (λ r. not (bytes_eq r.id name)) xs none j a (omega arith)) in
+    cc
+unique_at name (x ∷ xs) (suc k) only zero a low same = let off = not-true (bytes_eq x.id.now name) (and_parts _ _ only).0 in cc
+unique_at name (x ∷ xs) (suc k) only (suc j) a low same = ap suc (unique_at name xs k (and_parts _ _ only).1 j a (omega arith) same)
