@@ -10,7 +10,7 @@ use Rattle.clap.specs.Values.{read_as}
 use Rattle.clap.specs.declared.builder.value_parser.Reading.{Reading}
 use Rattle.clap.specs.declared.parser.matches.ValueSource.TheVariants.{DefaultValue}
 use Rattle.clap.specs.Walk.{Row, Rule, more_values, Text, at_row, default_rows, has_row, one_of, reading_by, row_text, with_default}
-use Rattle.trac_words.proofs.Places.{only_at}
+use Rattle.trac_words.proofs.PlaceReads.{only_at}
 
 -- where no row has the id, the new one comes last
 at_row_absent : (id : Text) (change : Row → List Row) (missing rows : List Row) → has_row id rows ≡ false → at_row id change missing rows ≡ rows ++ missing
