@@ -11,8 +11,7 @@ use Rattle.clap.specs.Walk.{Rule, Text, one_of, reading_by}
 use Rattle.clap.proofs.OnLiterals.{clap_on_literals}
 use Rattle.trac_words.specs.CommandLine.{cells_option, command_of, gives, given_rows, has_flag, number, number_of, numbers_command, report_flag, steps_option}
 use Rattle.trac_words.proofs.DefaultRows.{default_at}
-use Rattle.trac_words.proofs.PlaceReads.{only_at}
-use Rattle.trac_words.proofs.PlaceReads.{is_own_name, is_plain_app}
+use Rattle.trac_words.proofs.PlaceReads.{is_own_name, is_plain_app, only_at}
 
 pub same_number : (m n : ℕ) (o : Option ℕ) → o ≡ Some m → o ≡ Some n → n ≡ m
 same_number m n o e f = cc

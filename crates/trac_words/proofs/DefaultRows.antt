@@ -1,5 +1,5 @@
 -- What a default adds to the rows of the words.
-use Rattle.std.proofs.Common.{zero, suc, ◌≡◌, ◌∙◌, ◌++◌, ◌∷◌, [], List, ℕ, Bool, true, false, not, cond, ap, refl, Some, None}
+use Rattle.std.proofs.Common.{zero, suc, ◌≡◌, ◌∙◌, ◌++◌, ◌∷◌, [], List, ℕ, Bool, true, false, not, cond, ap, refl, Some}
 use Rattle.std.specs.Prelude.{find, fold, map, slice_get, option_and_then}
 use Rattle.std.specs.List.{list_all}
 use Rattle.std.specs.Str.{bytes_eq}
@@ -7,9 +7,7 @@ use Rattle.std.proofs.lemmas.Bool.{and_parts, not-true, or_parts}
 use Rattle.std.proofs.lemmas.List.Folds.{list_any-append}
 use Rattle.std.proofs.Math.Bool.{or-false}
 use Rattle.clap.specs.Values.{read_as}
-use Rattle.clap.specs.declared.builder.value_parser.Reading.{Reading}
-use Rattle.clap.specs.declared.parser.matches.ValueSource.TheVariants.{DefaultValue}
-use Rattle.clap.specs.Walk.{Row, Rule, more_values, Text, at_row, default_rows, has_row, one_of, reading_by, row_text, with_default}
+use Rattle.clap.specs.Walk.{Row, Rule, Text, at_row, default_rows, has_row, one_of, reading_by, row_text, with_default}
 use Rattle.trac_words.proofs.PlaceReads.{only_at}
 
 -- where no row has the id, the new one comes last
@@ -29,19 +27,6 @@ find_own id (r ∷ rs) x none own =
     let parts = or_parts (bytes_eq r.id id) (has_row id rs) none in
     rw parts.0 (find_own id rs x parts.1 own)
 
-abbrev default_row : Text → Reading → List Text → Row
-default_row id how values = record {
-  id = id;
-  values = values;
-  count = None;
-  source = Some DefaultValue;
-  reading = how;
-}
-
-rows_with_default : (id : Text) (how : Reading) (v : Text) (vs : List Text) (rows : List Row) → has_row id rows ≡ false
-    → default_rows id how (v ∷ vs) rows ≡ rows ++ default_row id how (v ∷ vs) ∷ []
-rows_with_default id how v vs rows none = at_row_absent id (more_values DefaultValue (v ∷ vs)) (default_row id how (v ∷ vs) ∷ []) rows none
-
 -- what no row of the argument's id changes, its default doesn't change
 unchanged : {X : Type 0} (f : List Row → X) (rows : List Row) (a : Rule) → ((x : Row) → x.id ≡ a.id → f (rows ++ x ∷ []) ≡ f rows) → f (with_default rows a) ≡ f rows
 unchanged f rows a other = go (has_row a.id rows) refl a.defaults
@@ -49,7 +34,7 @@ unchanged f rows a other = go (has_row a.id rows) refl a.defaults
     go : (b : Bool) → has_row a.id rows ≡ b → (vs : List Text) → f (cond b rows (default_rows a.id (reading_by a) vs rows)) ≡ f rows
     go true e vs = refl
     go false e [] = refl
-    go false e (v ∷ vs) = ap f (rows_with_default a.id (reading_by a) v vs rows e) ∙ other (default_row a.id (reading_by a) (v ∷ vs)) refl
+    go false e (v ∷ vs) = rw at_row_absent (other _ refl)
 
 -- defaults of other arguments change nothing for the id
 one_of_others : (id : Text) (rules : List Rule) (rows : List Row) → list_all (λ u. not (bytes_eq u id)) (map (λ (r : Rule). r.id) rules) ≡ true
@@ -68,7 +53,7 @@ default_at [] rows k r v at only self is none = cc
 default_at (s ∷ rs) rows zero r v at only self is none =
     let same : s ≡ r = cc in
     one_of_others r.id rs (with_default rows s) only ∙ ap (λ (t : Rule). one_of r.id (with_default rows t)) same
-    ∙ rw (none, is, rows_with_default r.id (reading_by r) v [] rows none) (ap (option_and_then row_text) (find_own r.id rows (default_row r.id (reading_by r) (v ∷ [])) none self))
+    ∙ rw (none, is, at_row_absent) (ap (option_and_then row_text) (find_own r.id rows _ none self))
 default_at (s ∷ rs) rows (suc k) r v at only self is none =
     let parts = and_parts _ _ only in
     let other = not-true _ parts.0 in

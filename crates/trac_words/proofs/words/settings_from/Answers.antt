@@ -5,7 +5,7 @@ use Rattle.std.specs.Result.{MatchResult}
 use Rattle.std.specs.Str.{bytes_eq}
 use Rattle.std.specs.Str.Parse.{ExplainsUnsignedError, HasUnsignedDigitsIfOk, ParsesUnsigned}
 use Rattle.std.proofs.lemmas.Bool.{and_parts, cases_Bool}
-use Rattle.clap.specs.Words.{HasKind, Text, app_of, fault_of, found_of, matches_of, one_text, takes}
+use Rattle.clap.specs.Words.{HasKind, Text, fault_of, found_of, matches_of, one_text, takes}
 use Rattle.clap.specs.Walk.{one_of}
 use Rattle.clap.specs.Simple.{is_simple}
 use Rattle.clap.specs.declared.builder.value_parser.ValueParser.TheVariants as parser
@@ -32,14 +32,10 @@ returns-in_err-matches-clause-passes c =
 pub returns-in_err-matches-clause-kinds : goal.returns-in_err-matches-clause-kinds
 returns-in_err-matches-clause-kinds c =
     let is = c.in_ok-command.ensures in
-    let app = command_of c.args.name.now c.args.default_steps.now c.args.reports in
-    let words_are = ap (map string_bytes) c.as_slice.ensures.value in
-    let free : is_simple_and_free (app_of c.in_ok-command.command) ≡ true = ap is_simple_and_free is ∙ (says c.args.name.now c.args.default_steps.now c.args.reports).free in
-    let kinds : fault_of (app_of c.in_ok-command.command) (map string_bytes c.as_slice.result.now) ≡ fault_of app (map string_bytes c.args.words.items) =
-    ap₂ fault_of is words_are in
-    err_as c.from_residual-in_err-matches.result c.in_err-matches.field-0.0 _ _
-    c.from_residual-in_err-matches.ensures.1
-    (subst (λ ks. HasKind ks c.in_err-matches.field-0.0) kinds (c.in_err-matches.ensures.kinds free))
+    let free = ap is_simple_and_free is ∙ (says c.args.name.now c.args.default_steps.now c.args.reports).free in
+    let same = ap₂ fault_of is (ap (map string_bytes) c.as_slice.ensures.value) in
+    err_as c.from_residual-in_err-matches.result c.in_err-matches.field-0.0 _ _ c.from_residual-in_err-matches.ensures.1
+    (subst (λ ks. HasKind ks c.in_err-matches.field-0.0) same (c.in_err-matches.ensures.kinds free))
 
 -- what `get_one` gives of `--cells`: the number of its text, in the range
 cells : (c : After-get_one) → IsRead 1 16777216 (one_text (found_of c.in_ok-matches.matches) (codes "cells")) c.get_one.result
@@ -87,16 +83,12 @@ unwrap-steps-requires c = (steps (goal.at.unwrap-steps-requires c).After-get_one
 
 pub invariant_of-result : goal.invariant_of-result
 invariant_of-result c =
-    let cells = cells (goal.at.invariant_of-result c).After-get_one in
-    let steps = steps (goal.at.invariant_of-result c).After-get_one-2 in
-    record {
-      ranges = (
-        cells.least c.unwrap-cells.result c.unwrap-cells.ensures,
-        cells.most c.unwrap-cells.result c.unwrap-cells.ensures,
-        steps.least c.unwrap-steps.result c.unwrap-steps.ensures,
-        steps.most c.unwrap-steps.result c.unwrap-steps.ensures,
-      );
-    }
+    let at = goal.at.invariant_of-result c in
+    let cells = cells at.After-get_one in
+    let steps = steps at.After-get_one-2 in
+    let n = c.unwrap-cells.ensures in
+    let m = c.unwrap-steps.ensures in
+    record { ranges = (cells.least _ n, cells.most _ n, steps.least _ m, steps.most _ m) }
 
 pub returns : goal.returns
 returns c =
