@@ -1,3 +1,2 @@
-pub mod DefaultRows
 pub mod PlaceReads
 pub mod Commands

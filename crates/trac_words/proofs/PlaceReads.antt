@@ -13,9 +13,9 @@ use Rattle.std.proofs.lemmas.List.{length-map}
 use Rattle.std.proofs.lemmas.List.Elements.{All-get_or}
 use Rattle.std.proofs.lemmas.List.Folds.{list_all-map}
 use Rattle.clap.specs.Texts.{items_of}
-use Rattle.clap.specs.Facts.{args_of, groups_of, IsParsed, Entry, EntryPasses, PassesArg, WantsDefault, least_values, parser_of, parser_of_value, unwrap_or_range}
+use Rattle.clap.specs.Facts.{args_of, Entry, EntryPasses, PassesArg, WantsDefault, least_values, parser_of, parser_of_value, unwrap_or_range}
 use Rattle.clap.specs.Built.{IsAuto, IsParsedFrom, IsPlain, IsPlainArg, SameRules}
-use Rattle.clap.specs.Matches.{ReadsOne, found_of, has_subcommand, matched_of, one_text}
+use Rattle.clap.specs.Matches.{ReadsOne, found_of, matched_of, one_text}
 use Rattle.clap.specs.Simple.{App, app_of}
 use Rattle.clap.specs.Walk.{Rule, Text, is_empty, is_free_arg, is_simple_arg, rule_of}
 use Rattle.clap.specs.Values.{Accepts, IsUnsignedIn, read_as, reading_of}
@@ -141,23 +141,14 @@ is_other a b e same =
     let yes = (bytes_eq-Decides a b).1 same in
     cc
 
-is_some_text : (t : Text) → not (is_empty t) ≡ true → t ≡ [] → ⊥
-is_some_text [] e none = cc
-is_some_text (x ∷ xs) e none = cc
-
--- the rest of what a name of one's own says
-record IsOwn (name : Text) (k : ℕ) (rules : List Rule) : Type 0 where
-  named : name ≡ [] → ⊥
-  help : name ≡ codes "help" → ⊥
-  version : name ≡ codes "version" → ⊥
-  only : only_at name k (map (λ (r : Rule). r.id) rules) ≡ true
-
-owned : (name : Text) (k : ℕ) (rules : List Rule) → is_own_name name k rules ≡ true → IsOwn name k rules
+-- the name is not null, nor of those flags, and nothing else has it
+owned : (name : Text) (k : ℕ) (rules : List Rule) → is_own_name name k rules ≡ true
+    → (name ≡ [] → ⊥) × (name ≡ codes "help" → ⊥) × (name ≡ codes "version" → ⊥) × (only_at name k (map (λ (r : Rule). r.id) rules) ≡ true)
 owned name k rules own =
     let a = and_parts (not (is_empty name)) _ own in
     let b = and_parts (not (bytes_eq name (codes "help"))) _ a.1 in
     let c = and_parts (not (bytes_eq name (codes "version"))) _ b.1 in
-    record { named = is_some_text name a.0; help = is_other name _ b.0; version = is_other name _ c.0; only = c.1 }
+    ((λ none. let bad : false ≡ true = rw none at a.0 in cc), is_other name _ b.0, is_other name _ c.0, c.1)
 
 module _ (c : Command) (m : ArgMatches) (p : IsParsedFrom c m) (app : App) (is : app_of c ≡ app) (is_plain_is : is_plain_app app ≡ true) where
   rules_are : map rule_of (args_of c) ≡ app.top.rules
@@ -169,12 +160,6 @@ module _ (c : Command) (m : ArgMatches) (p : IsParsedFrom c m) (app : App) (is :
       let fields = plain_fields c (ap (λ (a : App). a.top.is_plain) is ∙ parts.0) in
       let rules = ap (list_all (λ (r : Rule). r.is_simple && r.is_free)) rules_are ∙ parts.1 in
       ((all_plain (args_of c) rules, fields.groups), fields.globals)
-
-  parsed : IsParsed p.built (found_of m) (has_subcommand m)
-  parsed = p.parsed (p.from.globals ∙ is_plain.1)
-
-  no_groups : groups_of p.built ≡ []
-  no_groups = (p.from.plain is_plain.0).1
 
   -- the argument of the rule at a place
   module _ (k : ℕ) (r : Rule) (at : slice_get app.top.rules k ≡ Some r) (own : is_own_name r.id k app.top.rules ≡ true) where
@@ -190,25 +175,22 @@ module _ (c : Command) (m : ArgMatches) (p : IsParsedFrom c m) (app : App) (is :
     has_id : arg.id.now ≡ r.id
     has_id = ap (λ (s : Rule). s.id) is_rule
 
-    owns : IsOwn r.id k app.top.rules
-    owns = owned r.id k app.top.rules own
-
     only : (j : ℕ) (a : Arg) → j < length (args_of c) → bytes_eq (slice_index_or (args_of c) j a).id.now arg.id.now ≡ true → j ≡ k
     only j a low eq =
-        let ids = ap (λ (rs : List Rule). only_at r.id k (map (λ (s : Rule). s.id) rs)) rules_are ∙ owns.only in
+        let ids = ap (λ (rs : List Rule). only_at r.id k (map (λ (s : Rule). s.id) rs)) rules_are ∙ (owned r.id k app.top.rules own).3 in
         unique_at r.id (args_of c) k ids j a low (rw (← has_id) eq)
 
     unlike : IsAuto arg → ⊥
-    unlike (inl h) = owns.help (sym has_id ∙ h)
-    unlike (inr h) = owns.version (sym has_id ∙ h)
+    unlike (inl h) = (owned r.id k app.top.rules own).1 (sym has_id ∙ h)
+    unlike (inr h) = (owned r.id k app.top.rules own).2 (sym has_id ∙ h)
 
     -- an entry of the argument's id is no group's
     no_group : {A : Type 0} (e : Entry) → e.0.now ≡ r.id → EntryPasses p.built e → (e.1.is_group ≡ true) ⊎ A → A
     no_group e at pass (inr a) = a
     no_group e at pass (inl g) = elim (pass.3 g) [
-      | inl empty ↦ absurd (owns.named (sym at ∙ empty))
+      | inl empty ↦ absurd ((owned r.id k app.top.rules own).0 (sym at ∙ empty))
       | inr lots ↦
-          let bad : 0 < 0 = rw no_groups at lots in
+          let bad : 0 < 0 = rw (p.from.plain is_plain.0).1 at lots in
           absurd (omega arith)
     ]
 
@@ -233,7 +215,7 @@ module _ (c : Command) (m : ArgMatches) (p : IsParsedFrom c m) (app : App) (is :
     -- the entry of the argument's id, with what holds of it
     entry_at : (x : MatchedArg) → matched_of (found_of m) r.id ≡ Some x → (e : Entry) × (e.1 ≡ x) × (e.0.now ≡ r.id) × EntryPasses p.built e
     entry_at x at =
-        let got = entry_by_id (EntryPasses p.built) (found_of m).entries.items r.id x parsed.values at in
+        let got = entry_by_id (EntryPasses p.built) (found_of m).entries.items r.id x (p.parsed (p.from.globals ∙ is_plain.1)).values at in
         (got.0, got.1, (bytes_eq-Decides got.0.0.now r.id).0 got.2, got.3)
 
     -- the text that the argument gives is a text that passed its parser, as that parser reads it
@@ -323,14 +305,9 @@ is_read E G k low high t o r text read only got = record {
 module _ (c : Command) (m : ArgMatches) (p : IsParsedFrom c m) (app : App) (is : app_of c ≡ app) (plain : is_plain_app app ≡ true)
     (k : ℕ) (name default : Text) (low high : ℕ) (own : is_own_name name k app.top.rules ≡ true) (E : Type 0) (G : Text → Result ℕ E → Type 0)
     (r : Option ℕ) (reads : (t : Text) → one_text (found_of m) name ≡ Some t → ReadsOne G t r) where
-  abbrev signed : Rule
-  signed = number_option name (parser.Signed (pos low) (pos high)) default
-
-  abbrev unsigned : Rule
-  unsigned = number_option name (parser.Unsigned low high) default
-
   -- what `get_one` gives of an option of `u32`: the number of its text, in the range
-  pub signed_read : slice_get app.top.rules k ≡ Some signed → ((u : Text) (x : Result ℕ E) → G u x → ParsesUnsigned 32 10 u x) → high < 2 ^ 32
+  pub signed_read : slice_get app.top.rules k ≡ Some (number_option name (parser.Signed (pos low) (pos high)) default)
+      → ((u : Text) (x : Result ℕ E) → G u x → ParsesUnsigned 32 10 u x) → high < 2 ^ 32
       → IsRead low high (one_text (found_of m) name) r
   signed_read at only fits =
       let text = number_text c m p app is plain k name default (parser.Signed (pos low) (pos high)) at own in
@@ -338,7 +315,8 @@ module _ (c : Command) (m : ArgMatches) (p : IsParsedFrom c m) (app : App) (is :
       is_read E G 32 low high (without_minus text.0) _ r text.1 read only (signed_reads E G 32 low high text.0 r read only fits text.2)
 
   -- and of an option of `u64`
-  pub unsigned_read : slice_get app.top.rules k ≡ Some unsigned → ((u : Text) (x : Result ℕ E) → G u x → ParsesUnsigned 64 10 u x)
+  pub unsigned_read : slice_get app.top.rules k ≡ Some (number_option name (parser.Unsigned low high) default)
+      → ((u : Text) (x : Result ℕ E) → G u x → ParsesUnsigned 64 10 u x)
       → IsRead low high (one_text (found_of m) name) r
   unsigned_read at only =
       let text = number_text c m p app is plain k name default (parser.Unsigned low high) at own in

@@ -13,7 +13,7 @@ use Rattle.clap.specs.declared.error.Error.{Error}
 use Rattle.clap.specs.Faults.{is_simple_and_free}
 use Rattle.clap.proofs.WalkLemmas.{one_text-rows}
 use Rattle.trac_words.specs.CommandLine.{cells_option, command_of, number, report_flag, steps_option}
-use Rattle.trac_words.proofs.Commands.{built_cells, built_steps, number_default, report_at, report_default, report_own, says}
+use Rattle.trac_words.proofs.Commands.{built_cells, built_steps, number_default, report_at, report_default, says}
 use Rattle.trac_words.proofs.PlaceReads.{IsRead, flag_read, option_text, signed_read, unsigned_read}
 use Rattle.trac_words.proofs.words.settings_from.Goals.{After-get_one, After-get_one-2, After-has_report-report}
 use Rattle.trac_words.proofs.words.settings_from.Goals as goal
@@ -62,7 +62,7 @@ report c =
     let says = says c.args.name.now c.args.default_steps.now c.args.reports in
     let passed = λ (on : c.args.reports ≡ true) (u : Text) (e : one_text (found_of c.in_ok-matches.matches) (codes "report") ≡ Some u).
     let got = option_text c.in_ok-command.command c.in_ok-matches.matches c.in_ok-matches.ensures.parsed _ c.in_ok-command.ensures says.plain 2 report_flag
-    (report_at _ _ c.args.reports on) (report_own _ _ c.args.reports on) parser.Bool refl u e in
+    (report_at _ _ c.args.reports on).0 (report_at _ _ c.args.reports on).1 parser.Bool refl u e in
     rw (← got.1) at got.2 in
     ⊎_elim (λ on. rw on (flag_read _ _ (passed on) h.none (h.value on) h.other)) (λ off. rw off (sym (h.off off))) (cases_Bool c.args.reports)
 
