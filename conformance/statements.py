@@ -10,43 +10,23 @@ PROOFS = HERE.parent / 'crates' / 'trac_laws' / 'proofs'
 KINDS = ('scanning', 'functions', 'characters', 'limits')
 FATES = {'1': 'Workspace', '3': 'Steps', '4': 'InputFailed'}
 
-COMMON = ('◌≡◌', 'ℕ', '[]', '◌∷◌', 'refl', 'false', 'true')
-
-HEAD = """\
+FILE = """\
 -- The definition gives the cases of conformance/{kind}.cases, from which this file is written.
-use Rattle.std.proofs.Common.{{{common}}}
-use Rattle.std.specs.Prelude.{{codes}}
-use Rattle.std.specs.Fmt.{{digits}}
-use Rattle.trac_language.specs.declared.fate.Fate.{{Fate}}
+use Rattle.std.proofs.Common.{{◌≡◌, List, [], ◌∷◌, refl}}
+use Rattle.std.specs.Prelude.{{codes, map}}
 use Rattle.trac_language.specs.declared.fate.Fate.TheVariants.{{{fates}}}
-use Rattle.trac_language.specs.Text.{{Text}}
-use Rattle.trac_language.specs.Segment.{{segment_after}}
-use Rattle.trac_language.specs.Protected.{{split_at_match}}
-use Rattle.trac_language.specs.State.{{Input, first}}
-use Rattle.trac_language.specs.Meaning.{{meaning_of}}
-use Rattle.trac_language.specs.Rule.{{rule}}
-use Rattle.trac_language.specs.Step.{{step, need}}
-use Rattle.trac_language.specs.Run.{{Run, run}}
+use Rattle.trac_laws.proofs.Cases.{{Case, case, computing, ended{failing}, ran}}
 
--- what a run gave
-abbrev gave : Text → Fate → ℕ → ℕ → Text × Fate × ℕ × ℕ
-gave output fate steps peak = (output, fate, steps, peak)
+abbrev cases : List Case
+cases =
+{cases}    []
 
-abbrev numbers : Run → Text × Fate × ℕ × ℕ
-numbers r = gave r.output r.fate r.steps r.peak
-
-abbrev ended : Text → Input
-ended text = record {{ text = text; fails = false }}
-
-abbrev failing : Text → Input
-failing text = record {{ text = text; fails = true }}
+all : map ran cases ≡ cases
+unfolding computing
+all = refl
 """
 
-CASE = """
-{name} : numbers (run {cells} {allowance} (first ({way} {input}))) ≡ gave {output} {fate} {steps} {peak}
-unfolding run step need rule meaning_of split_at_match segment_after digits
-{name} = refl
-"""
+CASE = '    case {name} {cells} {allowance} ({way} {input}) {output} {fate} {steps} {peak} ∷\n'
 
 
 def text(shown):
@@ -57,12 +37,11 @@ def text(shown):
 
 
 def statement(case):
-    """A case with its fate, its texts and a name of its own."""
+    """A case with its fate and its texts."""
     fate = FATES.get(case['status'], 'Halted' if 'halts' in case else 'InputEnded')
-    name = 'case_' + re.sub(r'\W+', '_', case['name'])
     way = 'failing' if 'fails' in case else 'ended'
     texts = {key: text(case[key]) for key in ('input', 'output')}
-    return {**case, **texts, 'name': name, 'fate': fate, 'way': way}
+    return {**case, **texts, 'name': text(case['name'].encode()), 'fate': fate, 'way': way}
 
 
 def written(kind):
@@ -70,9 +49,9 @@ def written(kind):
     found = [statement(case) for case in cases(HERE / f'{kind}.cases')]
     fates = [fate for fate in ('Halted', 'InputEnded', 'Workspace', 'Steps', 'InputFailed')
              if any(case['fate'] == fate for case in found)]
-    cases_of_it = ''.join(CASE.format(**c) for c in found)
-    common = [word for word in COMMON if word != '◌∷◌' or '∷' in cases_of_it]
-    return HEAD.format(kind=kind, fates=', '.join(fates), common=', '.join(common)) + cases_of_it
+    failing = ', failing' if any(case['way'] == 'failing' for case in found) else ''
+    return FILE.format(kind=kind, fates=', '.join(fates), failing=failing,
+                       cases=''.join(CASE.format(**case) for case in found))
 
 
 def path(kind):

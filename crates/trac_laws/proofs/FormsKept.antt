@@ -10,7 +10,7 @@ use Rattle.trac_language.specs.declared.item.Item.TheVariants.{Byte, Gap}
 use Rattle.trac_language.specs.declared.mode.Mode.{Mode}
 use Rattle.trac_language.specs.declared.mode.Mode.TheVariants.{Active, Neutral}
 use Rattle.trac_language.specs.declared.function.Function.{Function}
-use Rattle.trac_language.specs.declared.function.Function.TheVariants.{ReadString, ReadCharacter, ChangeMeta, PrintString, Halt, DefineString, SegmentString, DeleteDefinition, DeleteAll, ListNames, PrintForm, CallForm, CallSegment, CallCharacter, CallNumber, InitialPart, CallRestore, Equal, Greater, Arithmetic, Union, Intersection, Complement, Shift, Rotate}
+use Rattle.trac_language.specs.declared.function.Function.TheVariants.{ReadString, ReadCharacter, ChangeMeta, Halt, DefineString, SegmentString, DeleteDefinition, DeleteAll, PrintForm, CallForm, CallSegment, CallCharacter, CallNumber, InitialPart, CallRestore, Arithmetic}
 use Rattle.trac_language.specs.Text.{Text}
 use Rattle.trac_language.specs.Form.{Form, is_character, text_of, items_of, fill, before_pointer, after_pointer}
 use Rattle.trac_language.specs.Segment.{begins, place_of, segment_by}
@@ -18,7 +18,7 @@ use Rattle.trac_language.specs.Store.{is_named, form_named, without, changed, de
 use Rattle.trac_language.specs.Number.{number, prefix, arith as arith_of}
 use Rattle.trac_language.specs.State.{OpenCall, Memory, State, arguments, argument, add_to, add}
 use Rattle.trac_language.specs.Meaning.{World, Meaning, Gives, Ends, valued, silent, printing, before_meta, from_meta, read_all, read_string, read_character, change_meta, show_form, on_form, with_form, take_part, result_or, meaning_of, meaning}
-use Rattle.trac_language.specs.Rule.{Rule, LoadIdling, DeleteLayout, AddProtected, ClearActive, BeginArgument, BeginCall, EndCall, AddCharacter, rule}
+use Rattle.trac_language.specs.Rule.{Rule, AddProtected, EndCall, AddCharacter, rule}
 use Rattle.trac_language.specs.Step.{Outcome, Next, Over, function_of, world_of, deliver, perform, end_call, with_active, follow, step}
 use Rattle.trac_language.specs.Part.{Part, first_characters, last_characters, segment_from, next_segment, unless_null, forward, backward, characters, up_to, initial_part}
 
@@ -228,13 +228,11 @@ unfolding meaning_of
 meaning_of_keeps ReadString args world h = keeps_read_string (before_meta world) (from_meta world) world h
 meaning_of_keeps ReadCharacter args world h = keeps_read_character world.input.text world.input.fails world h
 meaning_of_keeps ChangeMeta args world h = keeps_change_meta (argument args 1) world h
-meaning_of_keeps PrintString args world h = h
 meaning_of_keeps Halt args world h = tt
 meaning_of_keeps DefineString args world h = store_defined (argument args 1) (argument args 2) world.forms h
 meaning_of_keeps SegmentString args world h = keeps_on_form (argument args 1) (λ form. silent (with_form (argument args 1) (λ form. record form { body = segment_by (drop 2 args) 1 form.body; pointer = 0 }) world)) world h (λ form e le. keeps_with_form (argument args 1) (λ form. record form { body = segment_by (drop 2 args) 1 form.body; pointer = 0 }) world form h e (λ form. refl) (omega arith))
 meaning_of_keeps DeleteDefinition args world h = store_filter (λ form. not (list_any (bytes_eq form.name) (drop 1 args))) world.forms h
 meaning_of_keeps DeleteAll args world h = tt
-meaning_of_keeps ListNames args world h = h
 meaning_of_keeps PrintForm args world h = keeps_on_form (argument args 1) (λ form. printing (show_form form) world) world h (λ form e le. h)
 meaning_of_keeps CallForm args world h = keeps_on_form (argument args 1) (λ form. valued (fill (drop 2 args) (after_pointer form)) world) world h (λ form e le. h)
 meaning_of_keeps CallSegment args world h = keeps_on_form (argument args 1) (λ form. take_part (argument args 1) (next_segment form) (argument args 2) world) world h (λ form e le. keeps_take_part (argument args 1) (next_segment form) (argument args 2) world form h e (fits_next_segment form le))
@@ -242,14 +240,8 @@ meaning_of_keeps CallCharacter args world h = keeps_on_form (argument args 1) (�
 meaning_of_keeps CallNumber args world h = keeps_on_form (argument args 1) (λ form. take_part (argument args 1) (characters (number (argument args 2)) form) (argument args 3) world) world h (λ form e le. keeps_take_part (argument args 1) (characters (number (argument args 2)) form) (argument args 3) world form h e (fits_characters (number (argument args 2)) form le))
 meaning_of_keeps InitialPart args world h = keeps_on_form (argument args 1) (λ form. take_part (argument args 1) (initial_part (argument args 2) form) (argument args 3) world) world h (λ form e le. keeps_take_part (argument args 1) (initial_part (argument args 2) form) (argument args 3) world form h e (fits_initial_part (argument args 2) form le))
 meaning_of_keeps CallRestore args world h = keeps_on_form (argument args 1) (λ form. silent (with_form (argument args 1) (λ form. record form { pointer = 0 }) world)) world h (λ form e le. keeps_with_form (argument args 1) (λ form. record form { pointer = 0 }) world form h e (λ form. refl) (omega arith))
-meaning_of_keeps Equal args world h = h
-meaning_of_keeps Greater args world h = h
 meaning_of_keeps (Arithmetic operation) args world h = keeps_result_or (arith_of operation (number (argument args 1)) (number (argument args 2))) (prefix (argument args 1)) (argument args 3) world h
-meaning_of_keeps Union args world h = h
-meaning_of_keeps Intersection args world h = h
-meaning_of_keeps Complement args world h = h
-meaning_of_keeps Shift args world h = h
-meaning_of_keeps Rotate args world h = h
+meaning_of_keeps f args world h = h
 
 meaning_keeps : (f : Option Function) (args : List Text) (world : World) → IsStore world.forms → Keeps (meaning f args world)
 meaning_keeps None args world h = h
@@ -282,14 +274,10 @@ end_call_keeps [] s h = h
 end_call_keeps (call ∷ outer) s h = perform_keeps call.mode (meaning (function_of call) (arguments call) (world_of s)) (record s { memory = record s.memory { calls = outer } }) (meaning_keeps (function_of call) (arguments call) (world_of s) h)
 
 follow_keeps : (r : Rule) (s : State) → IsStore s.memory.forms → KeepsStore (follow r s)
-follow_keeps LoadIdling s h = h
-follow_keeps (DeleteLayout rest) s h = h
 follow_keeps (AddProtected inside rest) s h = add_keeps inside (record s.memory { active = rest }) h
-follow_keeps ClearActive s h = h
-follow_keeps (BeginArgument rest) s h = h
-follow_keeps (BeginCall mode rest) s h = h
 follow_keeps (EndCall rest) s h = end_call_keeps s.memory.calls (with_active rest s) h
 follow_keeps (AddCharacter c rest) s h = add_keeps (c ∷ []) (record s.memory { active = rest }) h
+follow_keeps r s h = h
 
 -- a step keeps the forms in order
 pub step_keeps : (s t : State) → IsStore s.memory.forms → step s ≡ Next t → IsStore t.memory.forms

@@ -9,7 +9,7 @@ use Rattle.trac_language.specs.declared.function.Function.{Function}
 use Rattle.trac_language.specs.Text.{Text}
 use Rattle.trac_language.specs.State.{Input, OpenCall, State, arguments}
 use Rattle.trac_language.specs.Meaning.{World, Meaning, Gives, Ends, before_meta, from_meta, read_all, read_string, read_character, meaning_of, meaning}
-use Rattle.trac_language.specs.Rule.{Rule, LoadIdling, DeleteLayout, AddProtected, ClearActive, BeginArgument, BeginCall, EndCall, AddCharacter, rule}
+use Rattle.trac_language.specs.Rule.{Rule, EndCall, rule}
 use Rattle.trac_language.specs.Step.{Outcome, Next, Over, function_of, world_of, perform, end_call, follow, step, need}
 use Rattle.trac_laws.specs.LastRead.{is_read_string, reads_last, end_reads_last, reads_last_by, reads_to_end}
 use Rattle.trac_laws.specs.Laws.{ReadsNoFurther, with_more}
@@ -70,14 +70,8 @@ end_leaves [] s = ([], (refl, refl))
 end_leaves (call ∷ outer) s = perform_leaves call.mode (meaning (function_of call) (arguments call) (world_of s)) s.input _ (meaning_leaves (function_of call) (arguments call) (world_of s))
 
 follow_leaves : (r : Rule) (s : State) → LeavesNext s.input (follow r s)
-follow_leaves LoadIdling s = ([], (refl, refl))
-follow_leaves (DeleteLayout rest) s = ([], (refl, refl))
-follow_leaves (AddProtected inside rest) s = ([], (refl, refl))
-follow_leaves ClearActive s = ([], (refl, refl))
-follow_leaves (BeginArgument rest) s = ([], (refl, refl))
-follow_leaves (BeginCall mode rest) s = ([], (refl, refl))
 follow_leaves (EndCall rest) s = end_leaves s.memory.calls _
-follow_leaves (AddCharacter c rest) s = ([], (refl, refl))
+follow_leaves r s = ([], (refl, refl))
 
 step_leaves : (s t : State) → step s ≡ Next t → LeftOf s.input t.input
 unfolding step
@@ -122,14 +116,8 @@ end_still [] world more fails e = refl
 end_still (call ∷ outer) world more fails e = call_still (function_of call) world more fails e
 
 rule_still : (r : Rule) (s : State) (more : Text) (fails : Bool) → reads_last_by r s ≡ false → reads_last_by r (with_more more fails s) ≡ false
-rule_still LoadIdling s more fails e = refl
-rule_still (DeleteLayout rest) s more fails e = refl
-rule_still (AddProtected inside rest) s more fails e = refl
-rule_still ClearActive s more fails e = refl
-rule_still (BeginArgument rest) s more fails e = refl
-rule_still (BeginCall mode rest) s more fails e = refl
 rule_still (EndCall rest) s more fails e = end_still s.memory.calls (world_of s) more fails e
-rule_still (AddCharacter c rest) s more fails e = refl
+rule_still r s more fails e = refl
 
 pub still_not_last : (s : State) (more : Text) (fails : Bool) → reads_to_end s ≡ false → reads_to_end (with_more more fails s) ≡ false
 still_not_last s more fails e = rule_still (rule s.memory.active) s more fails e

@@ -1,6 +1,7 @@
 pub mod TakenInput
 pub mod UnreadInput
 pub mod Examples
+pub mod Cases
 pub mod ScanningCases
 pub mod FunctionsCases
 pub mod CharactersCases

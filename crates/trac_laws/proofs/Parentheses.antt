@@ -30,16 +30,6 @@ prefix_at t c rest =
     let n : length (t ++ c ∷ []) ≡ suc (length t) = omega (arith, length-append t (c ∷ [])) in
     ap (take (suc (length t))) (sym (append_assoc t (c ∷ []) rest)) ∙ take_at (t ++ c ∷ []) rest (suc (length t)) n
 
--- no balanced text goes on behind a balanced text with a right parenthesis
-too_long : (t u r : Text) → IsBalanced t → IsBalanced u → u ≡ t ++ 41 ∷ r → ⊥
-too_long t u r bt bu e =
-    let p : take (suc (length t)) u ≡ t ++ 41 ∷ [] = ap (take (suc (length t))) e ∙ prefix_at t 41 r in
-    let right : count 41 (take (suc (length t)) u) ≡ suc (count 41 t) = ap (count 41) p ∙ count_right t in
-    let left : count 40 (take (suc (length t)) u) ≡ count 40 t = ap (count 40) p ∙ count_left t in
-    let more = bu.prefixes (suc (length t)) in
-    let same = bt.same in
-    omega arith
-
 -- the shorter of two such texts stands before a right parenthesis in the longer
 shorter : (t u r v : Text) → t ++ 41 ∷ r ≡ u ++ 41 ∷ v → length t < length u → take (suc (length t)) u ≡ t ++ 41 ∷ []
 shorter t u r v e lt =

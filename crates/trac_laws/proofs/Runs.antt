@@ -2,11 +2,11 @@
 use Rattle.std.proofs.Common.{◌≡◌, ◌≢◌, ℕ, zero, suc, ◌<◌, ◌≤◌, max, List, [], ◌∷◌, ◌++◌, refl, sym, ap, ◌∙◌, subst, ◌⊎◌, inl, inr, ⊎_elim, arith, append_assoc, append-nil}
 use Rattle.std.proofs.lemmas.Bool.{cases_lt, lt-ltb, le-ltb}
 use Rattle.trac_language.specs.declared.fate.Fate.{Fate}
-use Rattle.trac_language.specs.declared.fate.Fate.TheVariants.{Halted, InputEnded, Workspace, Steps, InputFailed, OutputFailed}
+use Rattle.trac_language.specs.declared.fate.Fate.TheVariants.{Halted, Workspace, Steps}
 use Rattle.trac_language.specs.Text.{Text}
 use Rattle.trac_language.specs.State.{OpenCall, State, first}
 use Rattle.trac_language.specs.Meaning.{Meaning, Gives, Ends}
-use Rattle.trac_language.specs.Rule.{Rule, LoadIdling, DeleteLayout, AddProtected, ClearActive, BeginArgument, BeginCall, EndCall, AddCharacter, rule}
+use Rattle.trac_language.specs.Rule.{Rule, EndCall, rule}
 use Rattle.trac_language.specs.Step.{Outcome, Next, Over, perform, end_call, follow, step, need}
 use Rattle.trac_language.specs.Run.{Run, counted, stopped, one_more, go_on, within, run}
 use Rattle.trac_laws.specs.Laws.{IsPrefix, MoreRoom, MoreSteps, FewerSteps, LeastRoom, LessRoom}
@@ -56,14 +56,8 @@ end_call_grows [] s = prefix_refl s.output
 end_call_grows (call ∷ outer) s = perform_grows call.mode _ _
 
 follow_grows : (r : Rule) (s : State) → Grows s.output (follow r s)
-follow_grows LoadIdling s = prefix_refl s.output
-follow_grows (DeleteLayout rest) s = prefix_refl s.output
-follow_grows (AddProtected inside rest) s = prefix_refl s.output
-follow_grows ClearActive s = prefix_refl s.output
-follow_grows (BeginArgument rest) s = prefix_refl s.output
-follow_grows (BeginCall mode rest) s = prefix_refl s.output
 follow_grows (EndCall rest) s = end_call_grows s.memory.calls _
-follow_grows (AddCharacter c rest) s = prefix_refl s.output
+follow_grows r s = prefix_refl s.output
 
 -- a step only adds to the output
 pub step_grows : (s t : State) → step s ≡ Next t → IsPrefix s.output t.output
@@ -120,11 +114,7 @@ pub record Begins (a b : Run) (f : Fate) : Type 0 where
 
 counted-le : (f : Fate) → counted f ≤ 1
 counted-le Halted = omega arith
-counted-le InputEnded = omega arith
-counted-le Workspace = omega arith
-counted-le Steps = omega arith
-counted-le InputFailed = omega arith
-counted-le OutputFailed = omega arith
+counted-le f = omega arith
 
 -- cut short by an allowance below its steps
 pub cut_by_steps : (room n m : ℕ) (s : State) → m < (run room n s).steps → Begins (run room m s) (run room n s) Steps

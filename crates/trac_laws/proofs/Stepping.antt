@@ -6,7 +6,7 @@ use Rattle.trac_language.specs.declared.mode.Mode.TheVariants.{Active, Neutral}
 use Rattle.trac_language.specs.Text.{Text}
 use Rattle.trac_language.specs.State.{OpenCall, Memory, State, Input, arguments, add, add_to, begin_argument}
 use Rattle.trac_language.specs.Meaning.{Answer, Meaning, Gives, Ends, meaning}
-use Rattle.trac_language.specs.Rule.{Rule, LoadIdling, DeleteLayout, AddProtected, ClearActive, BeginArgument, BeginCall, EndCall, AddCharacter, rule}
+use Rattle.trac_language.specs.Rule.{Rule, AddProtected, BeginArgument, EndCall, AddCharacter, rule}
 use Rattle.trac_language.specs.Step.{Outcome, Next, deliver, perform, end_call, follow, step, function_of, world_of}
 use Rattle.trac_laws.specs.Stepping.{Adds, AddsArgument, Delivers, IsAfter, FollowsMeaning, EndsCall, rest_of, Does, Leads}
 use Rattle.trac_laws.proofs.Fitting.{rule-fits}
@@ -57,23 +57,10 @@ performs : (mode : Mode) (means : Meaning) (s : State) → FollowsMeaning mode m
 unfolding after_call
 performs mode (Ends fate) s = inl (fate, (refl, refl))
 performs mode (Gives answer) s =
-    inr (
-      answer,
-      (
-        after_call mode answer s,
-        (
-          refl,
-          (
-            refl,
-            record {
-              memory = delivers mode answer.forced answer.value (record s.memory { forms = answer.world.forms; meta = answer.world.meta });
-              input = refl;
-              output = refl;
-            },
-          ),
-        ),
-      ),
-    )
+    let m = record s.memory { forms = answer.world.forms; meta = answer.world.meta } in
+    let is : IsAfter mode answer s (after_call mode answer s) =
+    record { memory = delivers mode answer.forced answer.value m; input = refl; output = refl } in
+    inr (answer, (after_call mode answer s, (refl, (refl, is))))
 
 is-after : (mode : Mode) (answer : Answer) (s after : State) → IsAfter mode answer s after → after ≡ after_call mode answer s
 unfolding after_call
@@ -102,27 +89,21 @@ ends-only s o h =
     ∙ sym (ap (λ calls. end_call calls s) some.1.1.0)) h
 
 does : (r : Rule) (s : State) → Does r s (follow r s)
-does LoadIdling s = refl
-does (DeleteLayout rest) s = refl
 does (AddProtected inside rest) s = (add inside (rest_of rest s).memory, (adds inside (rest_of rest s).memory, refl))
-does ClearActive s = refl
 does (BeginArgument rest) s = (_, (arguments-to (rest_of rest s).memory s.memory.calls refl, refl))
-does (BeginCall mode rest) s = refl
 does (EndCall rest) s = ends-to (rest_of rest s) s.memory.calls refl
 does (AddCharacter c rest) s = (add (c ∷ []) (rest_of rest s).memory, (adds (c ∷ []) (rest_of rest s).memory, refl))
+does r s = refl
 
 does-only : (r : Rule) (s : State) (o : Outcome) → Does r s o → o ≡ follow r s
-does-only LoadIdling s o e = e
-does-only (DeleteLayout rest) s o e = e
 does-only (AddProtected inside rest) s o h =
     h.1.1 ∙ ap (λ m. Next (record s { memory = m })) (adds-only inside (rest_of rest s).memory h.0 h.1.0)
-does-only ClearActive s o e = e
 does-only (BeginArgument rest) s o h =
     h.1.1 ∙ ap (λ m. Next (record s { memory = m })) (arguments-only (rest_of rest s).memory h.0 h.1.0)
-does-only (BeginCall mode rest) s o e = e
 does-only (EndCall rest) s o h = ends-only (rest_of rest s) o h
 does-only (AddCharacter c rest) s o h =
     h.1.1 ∙ ap (λ m. Next (record s { memory = m })) (adds-only (c ∷ []) (rest_of rest s).memory h.0 h.1.0)
+does-only r s o e = e
 
 pub step-fits : (s : State) (o : Outcome) → (step s ≡ o) ↔ Leads s o
 unfolding step

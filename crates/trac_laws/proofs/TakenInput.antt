@@ -6,12 +6,12 @@ use Rattle.std.proofs.lemmas.Bool.{cases_Bool, false≢true}
 use Rattle.std.proofs.lemmas.List.{length-append, take_at, drop_at, append_cancel_right, nil_from_length}
 use Rattle.trac_language.specs.declared.mode.Mode.{Mode}
 use Rattle.trac_language.specs.declared.function.Function.{Function}
-use Rattle.trac_language.specs.declared.function.Function.TheVariants.{ReadString, ReadCharacter, ChangeMeta, PrintString, Halt, DefineString, SegmentString, DeleteDefinition, DeleteAll, ListNames, PrintForm, CallForm, CallSegment, CallCharacter, CallNumber, InitialPart, CallRestore, Equal, Greater, Arithmetic, Union, Intersection, Complement, Shift, Rotate}
+use Rattle.trac_language.specs.declared.function.Function.TheVariants.{ReadString, ReadCharacter}
 use Rattle.trac_language.specs.Text.{Text}
-use Rattle.trac_language.specs.State.{OpenCall, Memory, State, arguments, size, add, begin_argument, begin_call}
+use Rattle.trac_language.specs.State.{OpenCall, Memory, State, arguments, size}
 use Rattle.trac_language.specs.Meaning.{World, Meaning, Gives, Ends, read_string, meaning_of, meaning, built}
-use Rattle.trac_language.specs.Rule.{Rule, LoadIdling, DeleteLayout, AddProtected, ClearActive, BeginArgument, BeginCall, EndCall, AddCharacter, rule}
-use Rattle.trac_language.specs.Step.{Outcome, Next, Over, idling, function_of, world_of, deliver, perform, end_call, with_active, follow, end_need, need_by, step, need}
+use Rattle.trac_language.specs.Rule.{Rule, EndCall, rule}
+use Rattle.trac_language.specs.Step.{Outcome, Next, Over, function_of, world_of, deliver, perform, end_call, with_active, follow, end_need, need_by, step, need}
 use Rattle.trac_laws.specs.LastRead.{is_read_string, reads_last, end_reads_last, reads_last_by, reads_to_end}
 use Rattle.trac_laws.proofs.UnreadInput.{with_source, reads, elsewhere, built_elsewhere}
 
@@ -73,29 +73,7 @@ pub data Kind (f : Function) : Type 0 where
 pub kind : (f : Function) → Kind f
 kind ReadString = IsString refl
 kind ReadCharacter = IsCharacter refl
-kind ChangeMeta = IsOther refl refl
-kind PrintString = IsOther refl refl
-kind Halt = IsOther refl refl
-kind DefineString = IsOther refl refl
-kind SegmentString = IsOther refl refl
-kind DeleteDefinition = IsOther refl refl
-kind DeleteAll = IsOther refl refl
-kind ListNames = IsOther refl refl
-kind PrintForm = IsOther refl refl
-kind CallForm = IsOther refl refl
-kind CallSegment = IsOther refl refl
-kind CallCharacter = IsOther refl refl
-kind CallNumber = IsOther refl refl
-kind InitialPart = IsOther refl refl
-kind CallRestore = IsOther refl refl
-kind Equal = IsOther refl refl
-kind Greater = IsOther refl refl
-kind (Arithmetic operation) = IsOther refl refl
-kind Union = IsOther refl refl
-kind Intersection = IsOther refl refl
-kind Complement = IsOther refl refl
-kind Shift = IsOther refl refl
-kind Rotate = IsOther refl refl
+kind f = IsOther refl refl
 
 -- ---- a call that is performed
 
@@ -205,14 +183,8 @@ module _ (g r out out' : Text) (m' : Memory) where
       record { next = s.next; same_need = λ R e. ap (λ n. size m - 1 + n) (s.builds R e) }
 
   follow_anywhere : (ru : Rule) (m : Memory) → reads_last_by ru (standing m (g ++ r) false out) ≡ false → follow ru (standing m (g ++ r) false out) ≡ Next (standing m' r false out') → Anywhere (λ text e. follow ru (standing m text e out)) (λ text e. need_by ru (standing m text e out))
-  follow_anywhere LoadIdling m more h = record { next = untouched (record m { active = idling; base = []; calls = [] }) out m' g r out' h; same_need = λ R e. refl }
-  follow_anywhere (DeleteLayout rest) m more h = record { next = untouched (record m { active = rest }) out m' g r out' h; same_need = λ R e. refl }
-  follow_anywhere (AddProtected inside rest) m more h = record { next = untouched (add inside (record m { active = rest })) out m' g r out' h; same_need = λ R e. refl }
-  follow_anywhere ClearActive m more h = record { next = untouched (record m { active = [] }) out m' g r out' h; same_need = λ R e. refl }
-  follow_anywhere (BeginArgument rest) m more h = record { next = untouched (record m { active = rest; calls = begin_argument m.calls }) out m' g r out' h; same_need = λ R e. refl }
-  follow_anywhere (BeginCall mode rest) m more h = record { next = untouched (record m { active = rest; calls = begin_call mode m.calls }) out m' g r out' h; same_need = λ R e. refl }
   follow_anywhere (EndCall rest) m more h = end_anywhere m.calls m rest more h
-  follow_anywhere (AddCharacter c rest) m more h = record { next = untouched (add (c ∷ []) (record m { active = rest })) out m' g r out' h; same_need = λ R e. refl }
+  follow_anywhere ru m more h = record { next = untouched _ out m' g r out' h; same_need = λ R e. refl }
 
   -- a step that takes g and leaves r, of an input that ends, does the same with any other rest, ended or failing
   pub step_anywhere : (m : Memory) → reads_to_end (standing m (g ++ r) false out) ≡ false → step (standing m (g ++ r) false out) ≡ Next (standing m' r false out') → (R : Text) (e : Bool) → (step (standing m (g ++ R) e out) ≡ Next (standing m' R e out')) × (need (standing m (g ++ R) e out) ≡ need (standing m (g ++ r) false out))

@@ -1,7 +1,7 @@
 -- A step that doesn't read to the end of the input looks at nothing past what it takes.
 use Rattle.std.proofs.Common.{◌≡◌, Bool, true, false, List, [], ◌∷◌, drop, Option, Some, None, ℤ, pos, refl, ap, ◌∙◌}
 use Rattle.trac_language.specs.declared.function.Function.{Function}
-use Rattle.trac_language.specs.declared.function.Function.TheVariants.{ReadString, ReadCharacter, ChangeMeta, PrintString, Halt, DefineString, SegmentString, DeleteDefinition, DeleteAll, ListNames, PrintForm, CallForm, CallSegment, CallCharacter, CallNumber, InitialPart, CallRestore, Equal, Greater, Arithmetic, Union, Intersection, Complement, Shift, Rotate}
+use Rattle.trac_language.specs.declared.function.Function.TheVariants.{ReadString, ReadCharacter, ChangeMeta, DefineString, SegmentString, PrintForm, CallForm, CallSegment, CallCharacter, CallNumber, InitialPart, CallRestore, Arithmetic}
 use Rattle.trac_language.specs.Text.{Text}
 use Rattle.trac_language.specs.Form.{Form, fill, after_pointer}
 use Rattle.trac_language.specs.Segment.{segment_by}
@@ -19,29 +19,7 @@ with_source i (Ends fate) = Ends fate
 abbrev pub reads : Function → Bool
 reads ReadString = true
 reads ReadCharacter = true
-reads ChangeMeta = false
-reads PrintString = false
-reads Halt = false
-reads DefineString = false
-reads SegmentString = false
-reads DeleteDefinition = false
-reads DeleteAll = false
-reads ListNames = false
-reads PrintForm = false
-reads CallForm = false
-reads CallSegment = false
-reads CallCharacter = false
-reads CallNumber = false
-reads InitialPart = false
-reads CallRestore = false
-reads Equal = false
-reads Greater = false
-reads (Arithmetic operation) = false
-reads Union = false
-reads Intersection = false
-reads Complement = false
-reads Shift = false
-reads Rotate = false
+reads f = false
 
 change_meta_elsewhere : (text : Text) (world : World) (i : Input) → change_meta text (record world { input = i }) ≡ with_source i (change_meta text world)
 change_meta_elsewhere [] world i = refl
@@ -65,13 +43,7 @@ unfolding meaning_of
 elsewhere ReadString args world i e = cc
 elsewhere ReadCharacter args world i e = cc
 elsewhere ChangeMeta args world i e = change_meta_elsewhere (argument args 1) world i
-elsewhere PrintString args world i e = refl
-elsewhere Halt args world i e = refl
-elsewhere DefineString args world i e = refl
 elsewhere SegmentString args world i e = on_form_elsewhere (form_named (argument args 1) world.forms) (λ form. silent (with_form (argument args 1) (λ form. record form { body = segment_by (drop 2 args) 1 form.body; pointer = 0 }) world)) (λ form. silent (with_form (argument args 1) (λ form. record form { body = segment_by (drop 2 args) 1 form.body; pointer = 0 }) (record world { input = i }))) world i (λ form. refl)
-elsewhere DeleteDefinition args world i e = refl
-elsewhere DeleteAll args world i e = refl
-elsewhere ListNames args world i e = refl
 elsewhere PrintForm args world i e = on_form_elsewhere (form_named (argument args 1) world.forms) (λ form. printing (show_form form) world) (λ form. printing (show_form form) (record world { input = i })) world i (λ form. refl)
 elsewhere CallForm args world i e = on_form_elsewhere (form_named (argument args 1) world.forms) (λ form. valued (fill (drop 2 args) (after_pointer form)) world) (λ form. valued (fill (drop 2 args) (after_pointer form)) (record world { input = i })) world i (λ form. refl)
 elsewhere CallSegment args world i e = on_form_elsewhere (form_named (argument args 1) world.forms) (λ form. take_part (argument args 1) (next_segment form) (argument args 2) world) (λ form. take_part (argument args 1) (next_segment form) (argument args 2) (record world { input = i })) world i (λ form. take_part_elsewhere (argument args 1) (next_segment form) (argument args 2) world i)
@@ -79,14 +51,8 @@ elsewhere CallCharacter args world i e = on_form_elsewhere (form_named (argument
 elsewhere CallNumber args world i e = on_form_elsewhere (form_named (argument args 1) world.forms) (λ form. take_part (argument args 1) (characters (number (argument args 2)) form) (argument args 3) world) (λ form. take_part (argument args 1) (characters (number (argument args 2)) form) (argument args 3) (record world { input = i })) world i (λ form. take_part_elsewhere (argument args 1) (characters (number (argument args 2)) form) (argument args 3) world i)
 elsewhere InitialPart args world i e = on_form_elsewhere (form_named (argument args 1) world.forms) (λ form. take_part (argument args 1) (initial_part (argument args 2) form) (argument args 3) world) (λ form. take_part (argument args 1) (initial_part (argument args 2) form) (argument args 3) (record world { input = i })) world i (λ form. take_part_elsewhere (argument args 1) (initial_part (argument args 2) form) (argument args 3) world i)
 elsewhere CallRestore args world i e = on_form_elsewhere (form_named (argument args 1) world.forms) (λ form. silent (with_form (argument args 1) (λ form. record form { pointer = 0 }) world)) (λ form. silent (with_form (argument args 1) (λ form. record form { pointer = 0 }) (record world { input = i }))) world i (λ form. refl)
-elsewhere Equal args world i e = refl
-elsewhere Greater args world i e = refl
 elsewhere (Arithmetic operation) args world i e = result_or_elsewhere (arith_of operation (number (argument args 1)) (number (argument args 2))) (prefix (argument args 1)) (argument args 3) world i
-elsewhere Union args world i e = refl
-elsewhere Intersection args world i e = refl
-elsewhere Complement args world i e = refl
-elsewhere Shift args world i e = refl
-elsewhere Rotate args world i e = refl
+elsewhere f args world i e = refl
 
 value_length-with_source : (i : Input) (m : Meaning) → value_length (with_source i m) ≡ value_length m
 value_length-with_source i (Gives answer) = refl
@@ -97,25 +63,4 @@ pub built_elsewhere : (f : Function) (args : List Text) (world : World) (i : Inp
 built_elsewhere ReadString args world i e = cc
 built_elsewhere ReadCharacter args world i e = cc
 built_elsewhere DefineString args world i e = refl
-built_elsewhere ChangeMeta args world i e = ap value_length (elsewhere ChangeMeta args world i e) ∙ value_length-with_source i (meaning_of ChangeMeta args world)
-built_elsewhere PrintString args world i e = ap value_length (elsewhere PrintString args world i e) ∙ value_length-with_source i (meaning_of PrintString args world)
-built_elsewhere Halt args world i e = ap value_length (elsewhere Halt args world i e) ∙ value_length-with_source i (meaning_of Halt args world)
-built_elsewhere SegmentString args world i e = ap value_length (elsewhere SegmentString args world i e) ∙ value_length-with_source i (meaning_of SegmentString args world)
-built_elsewhere DeleteDefinition args world i e = ap value_length (elsewhere DeleteDefinition args world i e) ∙ value_length-with_source i (meaning_of DeleteDefinition args world)
-built_elsewhere DeleteAll args world i e = ap value_length (elsewhere DeleteAll args world i e) ∙ value_length-with_source i (meaning_of DeleteAll args world)
-built_elsewhere ListNames args world i e = ap value_length (elsewhere ListNames args world i e) ∙ value_length-with_source i (meaning_of ListNames args world)
-built_elsewhere PrintForm args world i e = ap value_length (elsewhere PrintForm args world i e) ∙ value_length-with_source i (meaning_of PrintForm args world)
-built_elsewhere CallForm args world i e = ap value_length (elsewhere CallForm args world i e) ∙ value_length-with_source i (meaning_of CallForm args world)
-built_elsewhere CallSegment args world i e = ap value_length (elsewhere CallSegment args world i e) ∙ value_length-with_source i (meaning_of CallSegment args world)
-built_elsewhere CallCharacter args world i e = ap value_length (elsewhere CallCharacter args world i e) ∙ value_length-with_source i (meaning_of CallCharacter args world)
-built_elsewhere CallNumber args world i e = ap value_length (elsewhere CallNumber args world i e) ∙ value_length-with_source i (meaning_of CallNumber args world)
-built_elsewhere InitialPart args world i e = ap value_length (elsewhere InitialPart args world i e) ∙ value_length-with_source i (meaning_of InitialPart args world)
-built_elsewhere CallRestore args world i e = ap value_length (elsewhere CallRestore args world i e) ∙ value_length-with_source i (meaning_of CallRestore args world)
-built_elsewhere Equal args world i e = ap value_length (elsewhere Equal args world i e) ∙ value_length-with_source i (meaning_of Equal args world)
-built_elsewhere Greater args world i e = ap value_length (elsewhere Greater args world i e) ∙ value_length-with_source i (meaning_of Greater args world)
-built_elsewhere (Arithmetic operation) args world i e = ap value_length (elsewhere (Arithmetic operation) args world i e) ∙ value_length-with_source i (meaning_of (Arithmetic operation) args world)
-built_elsewhere Union args world i e = ap value_length (elsewhere Union args world i e) ∙ value_length-with_source i (meaning_of Union args world)
-built_elsewhere Intersection args world i e = ap value_length (elsewhere Intersection args world i e) ∙ value_length-with_source i (meaning_of Intersection args world)
-built_elsewhere Complement args world i e = ap value_length (elsewhere Complement args world i e) ∙ value_length-with_source i (meaning_of Complement args world)
-built_elsewhere Shift args world i e = ap value_length (elsewhere Shift args world i e) ∙ value_length-with_source i (meaning_of Shift args world)
-built_elsewhere Rotate args world i e = ap value_length (elsewhere Rotate args world i e) ∙ value_length-with_source i (meaning_of Rotate args world)
+built_elsewhere f args world i e = ap value_length (elsewhere f args world i e) ∙ value_length-with_source i (meaning_of f args world)

@@ -61,6 +61,7 @@ fn has_report(reports: bool, matches: &ArgMatches) -> bool
 }
 
 // The command `NAME [--cells N] [--steps N]`, with the flag `--report` where it reports.
+#[tactic(auto, unfolding(crate::specs::CommandLine::command_of))]
 fn command<'a>(
     alloc: Global,
     name: &'a str,
@@ -127,6 +128,7 @@ pub fn number<'a>(
 }
 
 // The flag `--report`.
+#[tactic(auto, unfolding(crate::specs::CommandLine::report_flag))]
 fn report<'a>(alloc: Global) -> Arg<'a>
     ensures rule { rule_of result ≡ report_flag }
     ensures own { result.global ≡ false }
