@@ -2,7 +2,7 @@ use Rattle.std.proofs.Common.{◌≡◌, ℕ, ◌+◌, ◌*◌, ◌/◌, ◌<◌
 use Rattle.std.proofs.Math.Nat.{mod-lt}
 use Rattle.std.proofs.Math.Seq.{take-length}
 use Rattle.std.proofs.lemmas.Nat.{div-add-mod'}
-use Rattle.std.proofs.lemmas.List.{take-replicate, replicate-append-replicate, length-replicate, length-take-le}
+use Rattle.std.proofs.lemmas.List.{take-replicate, replicate-append-replicate, length-replicate}
 use Rattle.trac_space.specs.declared.cell.Cell.{Cell}
 use Rattle.trac_space.specs.declared.cell.Cell.TheVariants.{Byte}
 use Rattle.trac_space.proofs.block.put_blanks.Goals as goal
@@ -38,20 +38,6 @@ loop-part-preserved c =
       blank = all ∙ ap (λ k. replicate k (Byte 0)) (sym long);
       parts = omega arith;
     }
-
-pub slice_bounds-extend_from_slice-count : goal.slice_bounds-extend_from_slice-count
-slice_bounds-extend_from_slice-count c =
-    let before = c.len.ensures in
-    let few = few-left c.len.result c.args.cells (length c.args.block.now.items) (length c.loop-part.block.items) (length c.args.part.now) c.loop-part._part c.requires.some c.requires.fewer (omega (arith, before)) c.loop-part-test.false c.loop-part.auto._part-end c.loop-part.invariant.parts in
-    let len = c.len-2.ensures in
-    omega (arith, few.0)
-
-pub slice_bounds-extend_from_slice-length : goal.slice_bounds-extend_from_slice-length
-slice_bounds-extend_from_slice-length c =
-    let before = c.len.ensures in
-    let few = few-left c.len.result c.args.cells (length c.args.block.now.items) (length c.loop-part.block.items) (length c.args.part.now) c.loop-part._part c.requires.some c.requires.fewer (omega (arith, before)) c.loop-part-test.false c.loop-part.auto._part-end c.loop-part.invariant.parts in
-    let len = c.len-2.ensures in
-    sym (length-take-le (c.args.cells - c.len-2.result) c.args.part.now (omega (arith, few.1)))
 
 pub returns : goal.returns
 returns c =
