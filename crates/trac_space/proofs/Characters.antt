@@ -1,6 +1,5 @@
 -- Characters that are put once more at a place behind, one after the other.
 use Rattle.std.proofs.Common.{◌≡◌, ℕ, ◌+◌, ◌<◌, ◌≤◌, true, false, All, List, ◌++◌, length, take, drop, map, get_or, slice_range, refl, ◌-◌, ap, ◌∙◌, arith, rules}
-use Rattle.std.proofs.lemmas.Bool.{false≢true}
 use Rattle.std.proofs.lemmas.List.{places, same_lists, length-drop, length-take-le, get_or-take, get_or-map, get_or-drop, take_more, take-map, drop-map}
 use Rattle.std.proofs.lemmas.List.Elements.{All-push, All-map}
 use Rattle.trac_space.specs.declared.cell.Cell.{Cell}
@@ -15,11 +14,7 @@ front-cell was now source to k i d less within is = grind (arith, places)
 
 -- a cell that is tested is a character
 pub tested-byte : (cell : Cell) → is_byte_cell cell ≡ true → IsByte cell
-tested-byte (Byte b) is = tt
-tested-byte (Call mode distance) is = absurd (false≢true is)
-tested-byte Comma is = absurd (false≢true is)
-tested-byte (Gap ordinal) is = absurd (false≢true is)
-tested-byte (Head n) is = absurd (false≢true is)
+tested-byte cell is = rw is tt
 
 -- one character more
 pub bytes-more : (was : List Cell) (start k : ℕ) (d : Cell) → start + k < length was → All IsByte (take k (drop start was)) → IsByte (get_or was (start + k) d) → All IsByte (take (k + 1) (drop start was))
@@ -27,14 +22,7 @@ bytes-more was start k d within bytes next =
     rw (take_more (drop start was) k d (omega (arith, length-drop start was))) (All-push IsByte _ _ bytes (rw get_or-drop next))
 
 -- links don't count
-byte-seen : (cell : Cell) → IsByte cell → IsByte (seen cell)
-byte-seen (Byte b) h = h
-byte-seen (Call mode distance) h = h
-byte-seen Comma h = h
-byte-seen (Gap ordinal) h = h
-byte-seen (Head n) h = h
-
-tested-seen : (cell : Cell) → is_byte_cell (seen cell) ≡ is_byte_cell cell
+pub tested-seen : (cell : Cell) → is_byte_cell (seen cell) ≡ is_byte_cell cell
 tested-seen (Byte b) = refl
 tested-seen (Call mode distance) = refl
 tested-seen Comma = refl
@@ -59,7 +47,7 @@ module _ (cells : List Cell) (store a n : ℕ) (within : a + n ≤ store) where
   pub part-bytes : All IsByte (take n (drop a cells)) → All IsByte (slice_range (map seen (take store cells)) a (a + n))
   part-bytes bytes =
       let size : a + n - a ≡ n = omega arith in
-      rw (part-seen, size) (All-map IsByte seen (take n (drop a cells)) (λ k d less. byte-seen (get_or (take n (drop a cells)) k d) (bytes k d less)))
+      rw (part-seen, size) (All-map IsByte seen (take n (drop a cells)) (λ k d less. rw tested-seen (bytes k d less)))
 
   pub part-goes : All IsByte (take n (drop a cells)) → NoCall (map seen (slice_range cells a (a + n)))
   part-goes bytes = λ k d less. byte-no_call (get_or (map seen (slice_range cells a (a + n))) k d) ((rw part-seen at part-bytes bytes) k d less)

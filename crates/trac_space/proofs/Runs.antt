@@ -9,6 +9,7 @@ use Rattle.trac_space.specs.declared.cell.Cell.TheVariants.{Byte, Call, Comma, G
 use Rattle.trac_space.specs.Cells.{seen, is_comma, IsNoCall, NoCall, NoComma}
 use Rattle.trac_space.specs.Texts.{IsByte, character_of}
 use Rattle.trac_space.specs.Runs.{number_in, IsInRun, turned_by, turned}
+use Rattle.trac_space.proofs.Characters.{tested-seen}
 use lib.Seq.{paste}
 
 -- the cell that is next to be moved is as it was
@@ -72,13 +73,6 @@ character-seen Comma = refl
 character-seen (Gap ordinal) = refl
 character-seen (Head n) = refl
 
-byte-seen : (cell : Cell) → IsByte (seen cell) → IsByte cell
-byte-seen (Byte b) h = h
-byte-seen (Call mode distance) h = h
-byte-seen Comma h = h
-byte-seen (Gap ordinal) h = h
-byte-seen (Head n) h = h
-
 turned-seen : (table : List ℕ) (cells : List Cell) → turned table (map seen cells) ≡ turned table cells
 turned-seen table [] = refl
 turned-seen table (cell ∷ cells) = rw (character-seen cell, turned-seen table cells) refl
@@ -96,7 +90,7 @@ module _ (right : List Cell) (a n : ℕ) (within : n ≤ a) where
   pub front-bytes : All IsByte (take n (take a (map seen right))) → All IsByte (take n right)
   front-bytes h = λ k d less.
       let one = (rw front-seen at h) k (seen d) (omega (arith, less, length-map (take n right) seen)) in
-      byte-seen (get_or (take n right) k d) (subst IsByte (get_or-map seen (take n right) k d (seen d) less) one)
+      rw (get_or-map seen (take n right) k d (seen d) less, tested-seen) at one
 
   -- they are in a run where they stand in one
   pub front-run : (table : List ℕ) → All (IsInRun table) (take n right) → All (IsInRun table) (take n (take a (map seen right)))

@@ -1,4 +1,3 @@
-use Rattle.trac_space.specs.Block.{right_of}
 use Rattle.std.proofs.Common.{◌≡◌, ◌-◌, ◌∙◌, length, drop, replicate, ap, arith, refl}
 use Rattle.std.proofs.lemmas.List.{length-take, length-drop, length-replicate}
 use Rattle.trac_space.specs.declared.cell.Cell.TheVariants.{Byte}
@@ -15,7 +14,7 @@ returns c =
     let new : c.fill.new.self ≡ replicate k (Byte 0) =
     c.fill.ensures.after (λ _ e. e) ∙ ap (λ n. replicate n (Byte 0)) (omega (arith, length-take k (drop s.end s.cells.now), length-drop s.end s.cells.now)) in
     let moved = parts-put_last s h c.fill.new.self _ (omega (arith, ap length new, length-replicate k (Byte 0))) refl in
-    let other = seen-other_spare (parts_of s) s.active c.fill.new.self (omega (arith, length-drop (length s.cells.now - right_of s) s.cells.now)) in
+    let other = seen-other_spare (parts_of s) s.active c.fill.new.self (omega arith) in
     rw (← c.self.view_is, rw (← c.self.view_is) at size.spare) (shown _ moved ∙ other ∙ rw (new, seen-blank k) refl)
 
 -- neutral is as it was

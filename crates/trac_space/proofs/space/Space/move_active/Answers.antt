@@ -1,6 +1,5 @@
 use Rattle.std.proofs.Common.{◌-◌, ◌∙◌, length, drop, sym, ap, arith, refl}
-use Rattle.std.proofs.lemmas.List.{length-drop}
-use Rattle.trac_space.specs.Block.{right_of, seen_lists}
+use Rattle.trac_space.specs.Block.{seen_lists}
 use Rattle.trac_space.proofs.BlockChanges.{parts_of, sizes, shown, laid, parts-move_active}
 use Rattle.trac_space.proofs.Seen.{seen-other_spare}
 use Rattle.trac_space.proofs.space.Space.move_active.Goals as goal
@@ -13,7 +12,7 @@ returns-clause-same c =
     let p = parts_of s in
     let room = c.room.ensures.value ∙ size.room in
     let moved = parts-move_active s h c.args.n _ (omega arith) (rw room at c.copy_cells.ensures.after) in
-    let other = seen-other_spare p s.active (drop (length s.cells.now - c.args.n) s.cells.now) (omega (arith, length-drop (length s.cells.now - right_of s) s.cells.now)) in
+    let other = seen-other_spare p s.active (drop (length s.cells.now - c.args.n) s.cells.now) (omega arith) in
     let same = shown _ moved ∙ other in
     rw (← c.self.view_is, room) (same ∙ ap (λ cells. record (seen_lists s.active p) { spare = cells }) (sym (ap (λ l. l.spare) same)))
 

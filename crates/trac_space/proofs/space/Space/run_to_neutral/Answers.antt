@@ -1,5 +1,5 @@
-use Rattle.std.proofs.Common.{◌≡◌, ◌-◌, ◌++◌, ◌∙◌, take, length, ap, sym, arith, refl}
-use Rattle.std.proofs.lemmas.List.{map-append, length-map, length-drop, get_or-drop}
+use Rattle.std.proofs.Common.{◌-◌, ◌++◌, ◌∙◌, take, length, ap, sym, arith, refl}
+use Rattle.std.proofs.lemmas.List.{map-append, length-map, get_or-drop}
 use Rattle.trac_space.specs.declared.cell.Cell.TheVariants.{Byte}
 use Rattle.trac_space.specs.Runs.{number_in, turned, turned_by}
 use Rattle.trac_space.specs.Block.{right_of}
@@ -33,7 +33,7 @@ returns-clause-ends c = λ less.
     let right = (parts_of s).right in
     let ends = rw (begin s h) at (c.copy_run-count.ensures.ends less) in
     let at = ap (number_in table) (sym (get_or-drop (length s.cells.now - right_of s) s.cells.now n (Byte 0))) in
-    let same = front-next right s.active n (omega (arith, less)) (omega (arith, length-drop (length s.cells.now - right_of s) s.cells.now)) table in
+    let same = front-next right s.active n (omega (arith, less)) (omega arith) table in
     rw (← c.self.view_is) (omega (arith, ends, at, same))
 
 pub returns-clause-plain : goal.returns-clause-plain
@@ -53,8 +53,7 @@ returns-clause-moved c =
     let table = c.args.table.now in
     let right = (parts_of s).right in
     let ran = c.copy_run-count.ensures in
-    let long : length (turned table right) ≡ right_of s = omega (arith, length-map right (turned_by table), length-drop (length s.cells.now - right_of s) s.cells.now) in
-    let moved = parts-for_active s h (turned table right) n _ (omega (arith, ran.few)) (omega (arith, ran.few, long)) (rw (begin s h) at ran.after) in
+    let moved = parts-for_active s h (turned table right) n _ (omega (arith, ran.few)) (length-map right (turned_by table)) (rw (begin s h) at ran.after) in
     let left = seen-drop_active (record (parts_of s) { neutral = (parts_of s).neutral ++ take n (turned table right) }) s.active n (omega (arith, ran.few)) in
     rw (← c.self.view_is) (shown _ moved ∙ left ∙ simp (map-append, front-turned right s.active n (omega (arith, ran.few)) table))
 
@@ -68,7 +67,6 @@ invariant_of-self c =
     let table = c.args.table.now in
     let right = (parts_of s).right in
     let ran = c.copy_run-count.ensures in
-    let long : length (turned table right) ≡ right_of s = omega (arith, length-map right (turned_by table), length-drop (length s.cells.now - right_of s) s.cells.now) in
-    let moved = parts-for_active s h (turned table right) n _ (omega (arith, ran.few)) (omega (arith, ran.few, long)) (rw (begin s h) at ran.after) in
+    let moved = parts-for_active s h (turned table right) n _ (omega (arith, ran.few)) (length-map right (turned_by table)) (rw (begin s h) at ran.after) in
     laid-more s _ h moved refl (omega (arith, ran.few)) (omega arith) (take n (turned table right)) refl refl
     (rw (front-turned right s.active n (omega (arith, ran.few)) table) (turned-calls table _))
