@@ -15,8 +15,7 @@ use Rattle.trac_laws.specs.LastRead.{is_read_string, reads_last, end_reads_last,
 use Rattle.trac_laws.proofs.TakenInput.{Kind, IsString, IsCharacter, IsOther, kind}
 use Rattle.trac_laws.proofs.FurtherInput.{any_still, still_not_last, reads_no_further_law}
 use Rattle.trac_core.specs.declared.machine.session.Awaits.{Awaits}
-use Rattle.trac_core.specs.declared.machine.session.Awaits.TheVariants.{Nothing, Byte}
-use Rattle.trac_core.specs.declared.machine.session.Awaits.TheVariants.{Text as AwaitsText}
+use Rattle.trac_core.specs.declared.machine.session.Awaits.TheVariants.{Nothing, Byte, Text as AwaitsText}
 use Rattle.trac_core.specs.Machine.{MachineState, Moment, moment, GoesOn, ending, state_with, state_of}
 use Rattle.trac_core.specs.Performed.{performed_by, performs}
 use Rattle.trac_core.specs.Session.{awaited, next_function, next_printed}

@@ -1,30 +1,24 @@
 -- Characters that are moved to a place before, one after the other, and become what a table says.
-use Rattle.std.proofs.Common.{◌≡◌, ℕ, ◌+◌, ◌<◌, ◌≤◌, Bool, true, false, All, List, [], ◌∷◌, ◌++◌, length, take, drop, map, get_or, refl, sym, ap, ◌∙◌, arith, subst}
+use Rattle.std.proofs.Common.{◌≡◌, ℕ, ◌+◌, ◌<◌, ◌≤◌, Bool, true, false, All, List, [], ◌∷◌, length, take, drop, map, get_or, refl, sym, ap, ◌∙◌, arith, subst}
 use Rattle.std.specs.Prelude.{◌==◌, if◌then◌else◌}
-use Rattle.std.proofs.lemmas.List.{length-drop, length-map, length-take-le, get_or-drop, get_or-take, get_or-map, take_more, take-take, take-map, drop-append-le, drop_all}
+use Rattle.std.proofs.lemmas.List.{places, length-drop, length-map, length-take-le, get_or-drop, get_or-take, get_or-map, take_more, take-take, take-map, drop-append-le, drop_all}
 use Rattle.std.proofs.lemmas.List.Elements.{All-nil, All-push, All-map}
+use Rattle.std.proofs.lemmas.Grind.{elements}
 use Rattle.trac_space.specs.declared.cell.Cell.{Cell}
 use Rattle.trac_space.specs.declared.cell.Cell.TheVariants.{Byte, Call, Comma, Gap, Head}
 use Rattle.trac_space.specs.Cells.{seen, is_comma, IsNoCall, NoCall, NoComma}
 use Rattle.trac_space.specs.Texts.{IsByte, character_of}
 use Rattle.trac_space.specs.Runs.{number_in, IsInRun, turned_by, turned}
-use Rattle.trac_space.proofs.BlockChanges.{drop-paste_above}
+use Rattle.trac_space.proofs.Characters.{tested-seen}
 use lib.Seq.{paste}
 
 -- the cell that is next to be moved is as it was
 pub run-cell : (was now source : List Cell) (start to k : ℕ) (d : Cell) → to ≤ start → start + k < length was → k ≤ length source → now ≡ paste was to source k → get_or now (start + k) d ≡ get_or was (start + k) d
-run-cell was now source start to k d before within long is =
-    let here : start + k + 0 ≡ start + k = omega arith in
-    let tail : drop (start + k) now ≡ drop (start + k) was = ap (drop (start + k)) is ∙ drop-paste_above was source to k (start + k) (omega arith) (omega arith) long in
-    let first = sym (get_or-drop (start + k) now 0 d) ∙ ap (λ cells. get_or cells 0 d) tail ∙ get_or-drop (start + k) was 0 d in
-    rw here at first
+run-cell was now source start to k d before within long is = grind (arith, places)
 
 -- a cell of a part that is all characters is one
 pub byte-at : (was : List Cell) (start k most : ℕ) (d : Cell) → k < most → start + most ≤ length was → All IsByte (take most (drop start was)) → IsByte (get_or was (start + k) d)
-byte-at was start k most d less within bytes =
-    let size : k < length (take most (drop start was)) = omega (arith, length-drop start was, length-take-le most (drop start was) (omega (arith, length-drop start was))) in
-    let at : get_or (take most (drop start was)) k d ≡ get_or was (start + k) d = get_or-take most (drop start was) k d less ∙ get_or-drop start was k d in
-    subst IsByte at (bytes k d size)
+byte-at was start k most d less within bytes = grind (arith, elements, bytes k d)
 
 module _ (table : List ℕ) (was : List Cell) (start k : ℕ) (d : Cell) (within : start + k < length was) where
   part_long : k < length (drop start was)
@@ -33,32 +27,25 @@ module _ (table : List ℕ) (was : List Cell) (start k : ℕ) (d : Cell) (within
   -- one character more of the run
   pub run-more : All (IsInRun table) (take k (drop start was)) → IsInRun table (get_or was (start + k) d) → All (IsInRun table) (take (k + 1) (drop start was))
   run-more run next =
-      let part = drop start was in
-      let at : get_or part k d ≡ get_or was (start + k) d = get_or-drop start was k d in
-      subst (All (IsInRun table)) (sym (take_more part k d part_long))
-      (All-push (IsInRun table) (take k part) (get_or part k d) run (subst (IsInRun table) (sym at) next))
+      rw (take_more (drop start was) k d part_long) (All-push (IsInRun table) _ _ run (rw get_or-drop next))
 
   -- what becomes of it
   pub turned-at : get_or (turned table (drop start was)) k (turned_by table d) ≡ turned_by table (get_or was (start + k) d)
   turned-at = get_or-map (turned_by table) (drop start was) k d (turned_by table d) part_long ∙ ap (turned_by table) (get_or-drop start was k d)
 
-  turned_long : k < length (turned table (drop start was))
-  turned_long = omega (arith, part_long, length-map (drop start was) (turned_by table))
-
   -- a cell more that is no comma mark
   pub plain-more : (last : ℕ) → last ≤ k → is_comma (turned_by table (get_or was (start + k) d)) ≡ false → NoComma (drop last (take k (turned table (drop start was)))) → NoComma (drop last (take (k + 1) (turned table (drop start was))))
   plain-more last order none plain =
       let cells = turned table (drop start was) in
-      let cell = get_or cells k (turned_by table d) in
-      let other : is_comma cell ≡ false = ap is_comma turned-at ∙ none in
-      let size : length (take k cells) ≡ k = length-take-le k cells (omega (arith, turned_long)) in
-      let grown : drop last (take (k + 1) cells) ≡ drop last (take k cells) ++ cell ∷ [] = ap (drop last) (take_more cells k (turned_by table d) turned_long) ∙ drop-append-le last (take k cells) (cell ∷ []) (omega (arith, size)) in
-      subst NoComma (sym grown) (All-push (λ cell. is_comma cell ≡ false) (drop last (take k cells)) cell plain other)
+      let long : k < length cells = omega (arith, part_long, length-map (drop start was) (turned_by table)) in
+      let size : last ≤ length (take k cells) = omega (arith, length-take-le k cells (omega (arith, long))) in
+      rw (take_more cells k (turned_by table d) long, drop-append-le last (take k cells) (get_or cells k (turned_by table d) ∷ []) size)
+      (All-push (λ cell. is_comma cell ≡ false) _ _ plain (ap is_comma turned-at ∙ none))
 
 -- none stands behind the last
 pub plain-none : (cells : List Cell) (k : ℕ) → k ≤ length cells → NoComma (drop k (take k cells))
 plain-none cells k within =
-    subst NoComma (sym (drop_all k (take k cells) (omega (arith, length-take-le k cells within)))) (All-nil (λ cell. is_comma cell ≡ false))
+    rw (drop_all k (take k cells) (omega (arith, length-take-le k cells within))) (All-nil (λ cell. is_comma cell ≡ false))
 
 -- a character stays, or becomes a comma mark
 pub turned-byte : (table : List ℕ) (cell : Cell) → number_in table cell ≡ 0 → turned_by table cell ≡ Byte (character_of cell)
@@ -67,19 +54,16 @@ turned-byte table cell none = rw none refl
 pub turned-one : (table : List ℕ) (cell : Cell) → number_in table cell ≡ 1 → turned_by table cell ≡ Comma
 turned-one table cell one = rw one refl
 
-pub turned-none : (table : List ℕ) (cell : Cell) → number_in table cell ≡ 0 → is_comma (turned_by table cell) ≡ false
-turned-none table cell none = rw none refl
-
--- no call mark comes of it
-turned-call : (table : List ℕ) (cell : Cell) → IsNoCall (turned_by table cell)
-turned-call table cell = go (number_in table cell == 0) (character_of cell)
+-- it is seen as it is, and is no call mark
+turned-plain : (table : List ℕ) (cell : Cell) → (seen (turned_by table cell) ≡ turned_by table cell) × IsNoCall (turned_by table cell)
+turned-plain table cell = go (number_in table cell == 0) (character_of cell)
   where
-    go : (stays : Bool) (c : ℕ) → IsNoCall (if stays then Byte c else Comma)
-    go true c = refl
-    go false c = refl
+    go : (stays : Bool) (c : ℕ) → (seen (if stays then Byte c else Comma) ≡ (if stays then Byte c else Comma)) × IsNoCall (if stays then Byte c else Comma)
+    go true c = (refl, refl)
+    go false c = (refl, refl)
 
 pub turned-calls : (table : List ℕ) (cells : List Cell) → NoCall (turned table cells)
-turned-calls table cells = All-map IsNoCall (turned_by table) cells (λ k d less. turned-call table (get_or cells k d))
+turned-calls table cells = All-map IsNoCall (turned_by table) cells (λ k d less. (turned-plain table (get_or cells k d)).1)
 
 -- a cell has the character that it is seen with
 pub character-seen : (cell : Cell) → character_of (seen cell) ≡ character_of cell
@@ -89,58 +73,43 @@ character-seen Comma = refl
 character-seen (Gap ordinal) = refl
 character-seen (Head n) = refl
 
-byte-seen : (cell : Cell) → IsByte (seen cell) → IsByte cell
-byte-seen (Byte b) h = h
-byte-seen (Call mode distance) h = h
-byte-seen Comma h = h
-byte-seen (Gap ordinal) h = h
-byte-seen (Head n) h = h
-
 turned-seen : (table : List ℕ) (cells : List Cell) → turned table (map seen cells) ≡ turned table cells
 turned-seen table [] = refl
-turned-seen table (cell ∷ cells) =
-    let one : turned_by table (seen cell) ≡ turned_by table cell = ap (λ c. if get_or table c 0 == 0 then Byte c else Comma) (character-seen cell) in
-    ap (λ first. first ∷ turned table (map seen cells)) one ∙ ap (λ rest. turned_by table cell ∷ rest) (turned-seen table cells)
+turned-seen table (cell ∷ cells) = rw (character-seen cell, turned-seen table cells) refl
 
 seen-turned : (table : List ℕ) (cells : List Cell) → map seen (turned table cells) ≡ turned table cells
 seen-turned table [] = refl
-seen-turned table (cell ∷ cells) =
-    ap (λ first. first ∷ map seen (turned table cells)) (go (number_in table cell == 0) (character_of cell)) ∙ ap (λ rest. turned_by table cell ∷ rest) (seen-turned table cells)
-  where
-    go : (stays : Bool) (c : ℕ) → seen (if stays then Byte c else Comma) ≡ (if stays then Byte c else Comma)
-    go true c = refl
-    go false c = refl
+seen-turned table (cell ∷ cells) = rw ((turned-plain table cell).0, seen-turned table cells) refl
 
 module _ (right : List Cell) (a n : ℕ) (within : n ≤ a) where
   -- the first cells of active, as they stand in the block
-  front-seen : take n (take a (map seen right)) ≡ map seen (take n right)
+  pub front-seen : take n (take a (map seen right)) ≡ map seen (take n right)
   front-seen = take-take n a (map seen right) within ∙ take-map seen n right
 
   -- they are characters where they are seen as such
   pub front-bytes : All IsByte (take n (take a (map seen right))) → All IsByte (take n right)
   front-bytes h = λ k d less.
-      let all = subst (All IsByte) front-seen h in
-      let one = all k (seen d) (omega (arith, less, length-map (take n right) seen)) in
-      byte-seen (get_or (take n right) k d) (subst IsByte (get_or-map seen (take n right) k d (seen d) less) one)
+      let one = (rw front-seen at h) k (seen d) (omega (arith, less, length-map (take n right) seen)) in
+      rw (get_or-map seen (take n right) k d (seen d) less, tested-seen) at one
 
   -- they are in a run where they stand in one
   pub front-run : (table : List ℕ) → All (IsInRun table) (take n right) → All (IsInRun table) (take n (take a (map seen right)))
   front-run table h =
-      subst (All (IsInRun table)) (sym front-seen)
-      (All-map (IsInRun table) seen (take n right) (λ k d less.
+      rw front-seen (All-map (IsInRun table) seen (take n right) (λ k d less.
       subst (λ c. get_or table c 0 ≤ 1) (sym (character-seen (get_or (take n right) k d))) (h k d less)))
 
   -- what becomes of them
+  front-turns : (table : List ℕ) → take n (turned table right) ≡ turned table (take n (take a (map seen right)))
+  front-turns table = take-map (turned_by table) n right ∙ sym (turned-seen table (take n right)) ∙ ap (turned table) (sym front-seen)
+
   pub front-turned : (table : List ℕ) → map seen (take n (turned table right)) ≡ turned table (take n (take a (map seen right)))
-  front-turned table = ap (map seen) (take-map (turned_by table) n right) ∙ seen-turned table (take n right) ∙ sym (turned-seen table (take n right)) ∙ ap (turned table) (sym front-seen)
+  front-turned table = ap (map seen) (front-turns table) ∙ seen-turned table (take n (take a (map seen right)))
 
   pub front-plain : (table : List ℕ) (last : ℕ) → NoComma (drop last (take n (turned table right))) → NoComma (drop last (turned table (take n (take a (map seen right)))))
-  front-plain table last h =
-      let same : take n (turned table right) ≡ turned table (take n (take a (map seen right))) = take-map (turned_by table) n right ∙ sym (turned-seen table (take n right)) ∙ ap (turned table) (sym front-seen) in
-      subst (λ cells. NoComma (drop last cells)) same h
+  front-plain table last h = rw (front-turns table) at h
 
 -- the character behind them
 pub front-next : (right : List Cell) (a n : ℕ) → n < a → a ≤ length right → (table : List ℕ) → number_in table (get_or right n (Byte 0)) ≡ number_in table (get_or (take a (map seen right)) n (Byte 0))
 front-next right a n inside within table =
     let at : get_or (take a (map seen right)) n (Byte 0) ≡ seen (get_or right n (Byte 0)) = get_or-take a (map seen right) n (Byte 0) inside ∙ get_or-map seen right n (Byte 0) (Byte 0) (omega (arith, inside, within)) in
-    ap (λ c. get_or table c 0) (sym (ap character_of at ∙ character-seen (get_or right n (Byte 0))))
+    rw (at, character-seen (get_or right n (Byte 0))) refl

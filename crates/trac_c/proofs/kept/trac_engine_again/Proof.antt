@@ -8,10 +8,10 @@ use base.Logic.{id⊢}
 use base.Fml.{Lft, ftrue, flft, flent}
 use prog.Wp.{WpFn}
 use contract.Running.{tables}
-use types.Kit.{‵, raw, ◌⊛◌, some, later, prop, ◌$◌, ◌∵◌, !, qed, move, drop, use1, use3, join, split, pick, await, regoal, fsplit, fjoin, feq_l, suffices, group, done}
+use types.Kit.{‵, raw, ◌⊛◌, some, later, prop, ◌$◌, ◌∵◌, !, qed, move, drop, use1, use3, join, split, pick, await, regoal, fsplit, fjoin, feq_l, suffices, group, done, rewrite, feq_i}
 use types.Tokens.{lft_new, lft_end}
-use types.Run.{stop, addr, no_more, and_then, returns, enter}
-use types.ByLocal.{alloc_all, pass_all, free_all, look_at, get, sets, lands_as}
+use types.Run.{stop, addr, no_more, and_then, returns, enter, of_opd, unit_lit}
+use types.ByLocal.{alloc_all, pass_all, free_all, look_at, get, sets, lands_as, through}
 use denote.Exit.{yes}
 use denote.Builtin.{u64, unit}
 use denote.Laws.{Is}
@@ -19,10 +19,10 @@ use denote.Memory.{mem}
 use denote.Lend.{lends_ref, ref_back}
 use types.SemTy.{Body}
 use denote.Plain.{uint_vals, uint_Tells, uint_Makes}
-use denote.RawPtr.{Ptr, RawPtr, block_ptr, rawptr_vals, rawptr_Tells, in_a_block}
-use denote.Ref.{MutBor}
-use denote.Signature.{plain}
-use denote.Steps.{nothing, owned, heard}
+use denote.RawPtr.{Ptr, RawPtr, block_ptr, rawptr_vals, rawptr_Tells, in_a_block, lies_at}
+use denote.Ref.{MutBor, MutRef}
+use denote.Signature.{plain, static_lft}
+use denote.Steps.{nothing, owned, heard, only}
 use contract.Monad.{fact}
 use Rattle.trac_c.specs.Kept.{begun_again}
 use denote.Triple.Call.{calls_at}
@@ -31,15 +31,8 @@ use denote.Triple.Spec.{triple_of}
 use denote.Triple.Table.{framed}
 use denote.Triple.Walked.{Stays, stay_dropped, walk_of, ends_at, Goes-dropped}
 use Rattle.std.proofs.raw_atomic.Walks.{proved}
-use denote.RawPtr.{lies_at}
-use denote.Ref.{MutRef}
-use denote.Signature.{static_lft}
-use types.ByLocal.{through}
 use mir.Val.{vptr, vunit}
-use types.Kit.{rewrite, feq_i}
 use denote.Triple.Entry.{on_entry}
-use denote.Steps.{only}
-use types.Run.{of_opd, unit_lit}
 use denote.RattleType.{RattleType}
 use Rattle.trac_core.specs.contracts.machine.Machine as M
 use Rattle.trac_core.specs.Machine.{MachineState}

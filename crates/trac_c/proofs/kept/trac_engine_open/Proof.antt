@@ -5,18 +5,18 @@ use Prim.Native.Nat.{ℕ, ◌≤◌, ◌<◌, ◌^◌}
 use native.Mathlib.Omega.{arith}
 use lib.ListN.{length}
 use base.Fraction.{full_share}
-use mir.Syntax.{named, w32, w64}
-use mir.Val.{Val}
+use mir.Syntax.{named, w32, w64, erased}
+use mir.Val.{Val, vint}
 use base.Logic.{emp, id⊢}
 use base.Fml.{ftrue, fex, flft, flent, froom}
 use prog.Wp.{WpFn}
 use types.SemTy.{cells}
 use contract.Monad.{fact, fact_i}
 use contract.Running.{tables}
-use types.Kit.{‵, raw, ◌⊛◌, some, given, later, prop, ◌$◌, ◌∵◌, !, qed, move, drop, use0, use1, join, split, pick, learn, await, rewrite, regoal, fjoin, fpick, feq_i, feq_l, suffices, group, done}
-use types.Run.{stop, no_more, and_then, returns, enter}
+use types.Kit.{‵, raw, ◌⊛◌, some, given, later, prop, ◌$◌, ◌∵◌, !, qed, move, drop, use0, use1, join, split, pick, learn, await, rewrite, regoal, fjoin, fpick, feq_i, feq_l, suffices, group, done, at_ret, fpack, use2}
+use types.Run.{stop, no_more, and_then, returns, enter, bin, lit, of_opd, assigns, init, first, branches, skips, exec, returns_within}
 use types.Part.{agg}
-use types.ByLocal.{alloc_all, pass_all, free_all, look_at, get, sets, lands_as}
+use types.ByLocal.{alloc_all, pass_all, free_all, look_at, get, sets, lands_as, env, through}
 use denote.Exit.{yes}
 use denote.Builtin.{u32, u64, usize, unit}
 use denote.Array.{Array}
@@ -25,9 +25,9 @@ use denote.Laws.{Is, shows}
 use denote.Memory.{mem, part_at}
 use denote.Lend.{Held, lends_slice}
 use denote.Plain.{uint_vals, uint_Tells, uint_Makes}
-use denote.RawPtr.{Ptr, RawPtr, block_ptr, rawptr_vals, rawptr_Tells, room_at, in_a_block}
+use denote.RawPtr.{Ptr, RawPtr, block_ptr, rawptr_vals, rawptr_Tells, room_at, in_a_block, lies_at}
 use denote.Ref.{MutBor}
-use denote.Signature.{plain}
+use denote.Signature.{plain, static_lft}
 use denote.Slice.{MutSlice, slice_val}
 use denote.Steps.{heard, nothing, owned, peeks, only}
 use denote.Triple.Call.{calls_at}
@@ -42,21 +42,12 @@ use Rattle.trac_space.specs.declared.cell.Cell.{Cell}
 use Rattle.trac_space.proofs.cell.Cell.TheLaws as C'
 use Rattle.trac_c.specs.contracts.run.fill as fill
 use Rattle.trac_c.proofs.run.fill.Met as fill_thm
-use denote.RawPtr.{lies_at}
-use denote.Signature.{static_lft}
 use denote.Param.{layout}
 use denote.RattleType.{RattleType}
-use mir.Syntax.{erased}
-use mir.Val.{vint}
-use types.ByLocal.{env, through}
-use types.Kit.{at_ret}
 use lib.Dec.{lit<, ltb→lt, nltb→le}
 use mathlib.Core.Logic.{inl, inr}
 use Rattle.trac_c.specs.Kept.{Opening, opened_by}
 use Rattle.trac_c.proofs.Limits.{most_cells}
-use types.Run.{bin, lit, of_opd, assigns, init, first, branches, skips, exec, returns_within}
-use types.Kit.{fpack}
-use types.Kit.{use2}
 use denote.Triple.Entry.{on_entry}
 use borrow.Table.OneValue.{reroom, part_in_at}
 use Rattle.trac_core.specs.contracts.machine.Machine as M

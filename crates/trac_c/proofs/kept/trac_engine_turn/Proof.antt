@@ -8,11 +8,11 @@ use base.Logic.{id⊢}
 use base.Fml.{Lft, ftrue, fsep, flft, flent}
 use prog.Wp.{WpFn}
 use contract.Running.{tables}
-use types.Kit.{‵, raw, ◌⊛◌, some, later, prop, ◌$◌, ◌∵◌, !, qed, move, drop, use1, use3, join, split, pick, await, regoal, fsplit, fjoin, feq_l, suffices, group, done}
+use types.Kit.{‵, raw, ◌⊛◌, some, later, prop, ◌$◌, ◌∵◌, !, qed, move, drop, use1, use3, join, split, pick, await, regoal, fsplit, fjoin, feq_l, suffices, group, done, fpack}
 use types.Tokens.{lft_new, lft_end}
-use types.Run.{stop, fld, hop, from, addr, no_more, and_then, returns, enter}
+use types.Run.{stop, fld, hop, from, addr, no_more, and_then, returns, enter, of_opd}
 use types.Part.{agg, whole, sub}
-use types.ByLocal.{alloc_all, pass_all, free_all, look_at, look_in_at, get, get_in, sets, lands_as}
+use types.ByLocal.{alloc_all, pass_all, free_all, look_at, look_in_at, get, get_in, sets, lands_as, through}
 use denote.Exit.{yes}
 use denote.Builtin.{SliceRefOf, u8, u32, u64}
 use denote.Laws.{Is, shows}
@@ -20,9 +20,9 @@ use denote.Memory.{mem}
 use denote.Lend.{lends_ref, ref_back}
 use types.SemTy.{Body}
 use denote.Plain.{uint_vals, uint_Tells, uint_Makes}
-use denote.RawPtr.{Ptr, RawPtr, block_ptr, rawptr_vals, rawptr_Tells, in_a_block}
-use denote.Ref.{Bor, MutBor}
-use denote.Signature.{plain}
+use denote.RawPtr.{Ptr, RawPtr, block_ptr, rawptr_vals, rawptr_Tells, in_a_block, lies_at}
+use denote.Ref.{Bor, MutBor, MutRef}
+use denote.Signature.{plain, static_lft}
 use denote.Slice.{ShrSlice, MutSlice, shr_slice_vals, mut_slice_vals, shr_slice_Tells, mut_slice_Tells}
 use denote.Steps.{nothing, owned, peeks, heard}
 use contract.Monad.{fact}
@@ -33,13 +33,7 @@ use denote.Triple.Spec.{triple_of}
 use denote.Triple.Table.{framed}
 use denote.Triple.Walked.{Stays, stay_dropped, gave_slice, walk_of, ends_at, Goes-dropped, Goes-gave_slice}
 use Rattle.std.proofs.raw_atomic.Walks.{proved}
-use denote.RawPtr.{lies_at}
-use denote.Ref.{MutRef}
-use denote.Signature.{static_lft}
-use types.ByLocal.{through}
 use mir.Val.{vptr}
-use types.Run.{of_opd}
-use types.Kit.{fpack}
 use denote.RattleType.{RattleType}
 use Rattle.trac_core.specs.contracts.machine.Machine as M
 use Rattle.trac_core.specs.Machine.{MachineState}

@@ -9,7 +9,7 @@ use lib.WfN.{lt-wf_rel}
 use base.Fraction.{full_share}
 use mir.Syntax.{w8, w64, ty_array}
 use mir.Val.{Val, vunit, vint, vptr, vstruct, vcons, vnil, has_ty, WT}
-use base.Logic.{SProp}
+use base.Logic.{SProp, id⊢}
 use base.Fml.{froom, fex}
 use prog.Wp.{Out, Wp, WpFn, at_return, after_seq, after_block, after_turn}
 use contract.Monad.{fact}
@@ -30,7 +30,6 @@ use denote.Signature.{plain}
 use denote.Steps.{heard, nothing, owned}
 use denote.Triple.Entry.{on_entry}
 use denote.Triple.Walked.{Stays, stay_dropped, walk_of, ends_at, Goes-dropped}
-use base.Logic.{id⊢}
 use Rattle.std.proofs.raw_atomic.Walks.{proved}
 use Rattle.std.proofs.VecSteps.Shapes.{after}
 use Rattle.std.proofs.ptr.Rows.{El, R, elτ, sz, el_in, empty, room_split, spare, snoc}

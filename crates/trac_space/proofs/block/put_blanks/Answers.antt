@@ -1,8 +1,9 @@
-use Rattle.std.proofs.Common.{◌≡◌, ℕ, ◌+◌, ◌*◌, ◌/◌, ◌<◌, ◌≤◌, List, ◌++◌, ◌-◌, length, take, replicate, sym, ap, ◌∙◌, arith}
+use Rattle.std.proofs.Common.{◌≡◌, ℕ, ◌+◌, ◌*◌, ◌/◌, ◌<◌, ◌≤◌, List, ◌++◌, ◌-◌, length, take, replicate, sym, ap, ◌∙◌, arith, rules}
 use Rattle.std.proofs.Math.Nat.{mod-lt}
 use Rattle.std.proofs.Math.Seq.{take-length}
 use Rattle.std.proofs.lemmas.Nat.{div-add-mod'}
-use Rattle.std.proofs.lemmas.List.{take-replicate, replicate-append-replicate, length-replicate, length-take-le}
+use Rattle.std.proofs.lemmas.List.{places, same_lists, length-replicate}
+use Rattle.std.proofs.lemmas.Grind.{elements}
 use Rattle.trac_space.specs.declared.cell.Cell.{Cell}
 use Rattle.trac_space.specs.declared.cell.Cell.TheVariants.{Byte}
 use Rattle.trac_space.proofs.block.put_blanks.Goals as goal
@@ -10,10 +11,7 @@ use Rattle.trac_space.proofs.block.put_blanks.Goals as goal
 -- blank cells behind blank cells
 more-blank : (was part : List Cell) (n : ℕ) → was ≡ replicate (length was) (Byte 0) → part ≡ replicate (length part) (Byte 0) → n ≤ length part → was ++ take n part ≡ replicate (length was + n) (Byte 0)
 more-blank was part n before blank within =
-    ap (λ cells. cells ++ take n part) before
-    ∙ ap (λ cells. replicate (length was) (Byte 0) ++ take n cells) blank
-    ∙ ap (λ cells. replicate (length was) (Byte 0) ++ cells) (take-replicate n (length part) (Byte 0) within)
-    ∙ replicate-append-replicate (length was) n (Byte 0)
+    same_lists _ _ (search (rules, places)) (λ i d less. grind (arith, elements))
 
 -- after all whole parts there is room for less than one
 few-left : (len cells was now n k : ℕ) → 0 < n → was ≤ cells → len ≡ was → (cells - len) / n ≤ k → k ≤ (cells - len) / n → now ≡ was + k * n → (now ≤ cells) × (cells - now ≤ n)
@@ -38,20 +36,6 @@ loop-part-preserved c =
       blank = all ∙ ap (λ k. replicate k (Byte 0)) (sym long);
       parts = omega arith;
     }
-
-pub slice_bounds-extend_from_slice-count : goal.slice_bounds-extend_from_slice-count
-slice_bounds-extend_from_slice-count c =
-    let before = c.len.ensures in
-    let few = few-left c.len.result c.args.cells (length c.args.block.now.items) (length c.loop-part.block.items) (length c.args.part.now) c.loop-part._part c.requires.some c.requires.fewer (omega (arith, before)) c.loop-part-test.false c.loop-part.auto._part-end c.loop-part.invariant.parts in
-    let len = c.len-2.ensures in
-    omega (arith, few.0)
-
-pub slice_bounds-extend_from_slice-length : goal.slice_bounds-extend_from_slice-length
-slice_bounds-extend_from_slice-length c =
-    let before = c.len.ensures in
-    let few = few-left c.len.result c.args.cells (length c.args.block.now.items) (length c.loop-part.block.items) (length c.args.part.now) c.loop-part._part c.requires.some c.requires.fewer (omega (arith, before)) c.loop-part-test.false c.loop-part.auto._part-end c.loop-part.invariant.parts in
-    let len = c.len-2.ensures in
-    sym (length-take-le (c.args.cells - c.len-2.result) c.args.part.now (omega (arith, few.1)))
 
 pub returns : goal.returns
 returns c =

@@ -1,82 +1,51 @@
-use Rattle.std.proofs.Common.{◌≡◌, ◌+◌, length, drop, ap, ◌∙◌, arith}
+use Rattle.std.proofs.Common.{◌≡◌, drop, arith}
 use Rattle.std.proofs.lemmas.List.{length-drop}
-use Rattle.trac_space.proofs.BlockChanges.{drop-paste_above}
-use Rattle.trac_space.proofs.Blocks.{front-of, below-of, bytes-on, copied-on}
+use Rattle.trac_space.proofs.Blocks.{front-of, behind-of, bytes-on, copied-on}
 use Rattle.trac_space.proofs.copies.copy_characters.Goals as goal
 
 pub returns-then-more-lt-BLOCK-clause-bytes : goal.returns-then-more-lt-BLOCK-clause-bytes
 returns-then-more-lt-BLOCK-clause-bytes c =
-    let was = c.args.cells.now in
-    let start = c.args.start in
-    let to = c.args.to in
-    let k = c.loop-count.count in
-    let j = c.characters_in_block-more.result in
-    let more = copied-on was c.loop-count.cells c.copy_block.new.cells start to k 8 (omega (arith, c.requires.behind, c.loop-count-test.true)) (omega (arith, c.requires.room, c.loop-count-test.true)) c.loop-count.invariant.copied c.copy_block.ensures.after in
-    bytes-on was c.copy_block.new.cells start to k j (below-of was c.copy_block.new.cells (drop start was) to (k + 8) (omega (arith, c.requires.room)) more) (omega (arith, c.requires.behind, c.loop-count-test.true, c.characters_in_block-more.ensures.few)) c.loop-count.invariant.bytes c.characters_in_block-more.ensures.bytes
+    let more = copied-on c.args.cells.now c.loop-count.cells c.copy_block.new.cells c.args.start c.args.to c.loop-count.count 8 (omega arith) (omega arith) c.loop-count.invariant.copied c.copy_block.ensures.after in
+    bytes-on c.args.cells.now _ c.args.start c.args.to _ c.loop-count.count _ (omega arith) more (omega arith) c.loop-count.invariant.bytes c.characters_in_block-more.ensures.bytes
 
 pub returns-then-more-lt-BLOCK-clause-front : goal.returns-then-more-lt-BLOCK-clause-front
 returns-then-more-lt-BLOCK-clause-front c =
-    let was = c.args.cells.now in
-    let start = c.args.start in
-    let to = c.args.to in
-    let k = c.loop-count.count in
-    let j = c.characters_in_block-more.result in
-    let more = copied-on was c.loop-count.cells c.copy_block.new.cells start to k 8 (omega (arith, c.requires.behind, c.loop-count-test.true)) (omega (arith, c.requires.room, c.loop-count-test.true)) c.loop-count.invariant.copied c.copy_block.ensures.after in
-    front-of was c.copy_block.new.cells (drop start was) to (k + 8) (k + j) (omega (arith, c.requires.room)) (omega (arith, length-drop start was, c.requires.behind, c.requires.room, c.loop-count-test.true)) (omega (arith, c.characters_in_block-more.ensures.few)) more
+    let source = drop c.args.start c.args.cells.now in
+    let long = length-drop c.args.start c.args.cells.now in
+    let more = copied-on c.args.cells.now c.loop-count.cells c.copy_block.new.cells c.args.start c.args.to c.loop-count.count 8 (omega arith) (omega arith) c.loop-count.invariant.copied c.copy_block.ensures.after in
+    front-of c.args.cells.now _ source c.args.to _ _ (omega arith) (omega arith) (omega arith) more
 
 pub returns-then-more-lt-BLOCK-clause-behind : goal.returns-then-more-lt-BLOCK-clause-behind
 returns-then-more-lt-BLOCK-clause-behind c =
-    let was = c.args.cells.now in
-    let start = c.args.start in
-    let to = c.args.to in
-    let k = c.loop-count.count in
-    let more = copied-on was c.loop-count.cells c.copy_block.new.cells start to k 8 (omega (arith, c.requires.behind, c.loop-count-test.true)) (omega (arith, c.requires.room, c.loop-count-test.true)) c.loop-count.invariant.copied c.copy_block.ensures.after in
-    ap (drop (to + c.args.most)) more ∙ drop-paste_above was (drop start was) to (k + 8) (to + c.args.most) (omega (arith, c.loop-count-test.true)) (omega (arith, c.requires.room)) (omega (arith, length-drop start was, c.requires.behind, c.requires.room, c.loop-count-test.true))
+    let source = drop c.args.start c.args.cells.now in
+    let long = length-drop c.args.start c.args.cells.now in
+    let more = copied-on c.args.cells.now c.loop-count.cells c.copy_block.new.cells c.args.start c.args.to c.loop-count.count 8 (omega arith) (omega arith) c.loop-count.invariant.copied c.copy_block.ensures.after in
+    behind-of c.args.cells.now _ source c.args.to _ c.args.most (omega arith) (omega arith) (omega arith) more
 
 pub loop-count-preserved : goal.loop-count-preserved
 loop-count-preserved c =
-    let was = c.args.cells.now in
-    let start = c.args.start in
-    let to = c.args.to in
-    let k = c.loop-count.count in
-    let j = c.characters_in_block-more.result in
-    let more = copied-on was c.loop-count.cells c.copy_block.new.cells start to k 8 (omega (arith, c.requires.behind, c.loop-count-test.true)) (omega (arith, c.requires.room, c.loop-count-test.true)) c.loop-count.invariant.copied c.copy_block.ensures.after in
-    let all : j ≡ 8 = omega (arith, c.characters_in_block-more.ensures.few, c.if-more-lt-BLOCK.false) in
+    let all : c.characters_in_block-more.result ≡ 8 = omega (arith, c.if-more-lt-BLOCK.false) in
+    let more = copied-on c.args.cells.now c.loop-count.cells c.copy_block.new.cells c.args.start c.args.to c.loop-count.count 8 (omega arith) (omega arith) c.loop-count.invariant.copied c.copy_block.ensures.after in
     record {
-      within = omega (arith, all, c.loop-count-test.true);
-      bytes = bytes-on was c.copy_block.new.cells start to k j (below-of was c.copy_block.new.cells (drop start was) to (k + 8) (omega (arith, c.requires.room)) more) (omega (arith, c.requires.behind, c.loop-count-test.true, c.characters_in_block-more.ensures.few)) c.loop-count.invariant.bytes c.characters_in_block-more.ensures.bytes;
+      within = omega arith;
+      bytes = bytes-on c.args.cells.now _ c.args.start c.args.to _ c.loop-count.count _ (omega arith) more (omega arith) c.loop-count.invariant.bytes c.characters_in_block-more.ensures.bytes;
       copied = rw all more;
     }
 
 pub returns-clause-bytes : goal.returns-clause-bytes
 returns-clause-bytes c =
-    let was = c.args.cells.now in
-    let now = c.loop-count.cells in
-    let to = c.args.to in
-    let k = c.loop-count.count in
-    let m = c.copy_characters_each.result in
-    bytes-on was now c.args.start to k m (below-of was now (drop c.args.start was) to k (omega (arith, c.requires.room)) c.loop-count.invariant.copied) (omega (arith, c.requires.behind, c.loop-count.invariant.within, c.copy_characters_each.ensures.few)) c.loop-count.invariant.bytes c.copy_characters_each.ensures.bytes
+    bytes-on c.args.cells.now c.loop-count.cells c.args.start c.args.to _ c.loop-count.count _ (omega arith) c.loop-count.invariant.copied (omega arith) c.loop-count.invariant.bytes c.copy_characters_each.ensures.bytes
 
 pub returns-clause-front : goal.returns-clause-front
 returns-clause-front c =
-    let was = c.args.cells.now in
-    let start = c.args.start in
-    let to = c.args.to in
-    let k = c.loop-count.count in
-    let m = c.copy_characters_each.result in
-    let few = c.copy_characters_each.ensures.few in
-    let within = c.loop-count.invariant.within in
-    let more = copied-on was c.loop-count.cells c.copy_characters_each.new.cells start to k m (omega (arith, c.requires.behind, few, within)) (omega (arith, c.requires.room, few, within)) c.loop-count.invariant.copied c.copy_characters_each.ensures.after in
-    front-of was c.copy_characters_each.new.cells (drop start was) to (k + m) (k + m) (omega (arith, c.requires.room)) (omega (arith, length-drop start was, c.requires.behind, c.requires.room, few, within)) (omega arith) more
+    let source = drop c.args.start c.args.cells.now in
+    let long = length-drop c.args.start c.args.cells.now in
+    let more = copied-on c.args.cells.now c.loop-count.cells c.copy_characters_each.new.cells c.args.start c.args.to c.loop-count.count c.copy_characters_each.result (omega arith) (omega arith) c.loop-count.invariant.copied c.copy_characters_each.ensures.after in
+    front-of c.args.cells.now _ source c.args.to _ _ (omega arith) (omega arith) (omega arith) more
 
 pub returns-clause-behind : goal.returns-clause-behind
 returns-clause-behind c =
-    let was = c.args.cells.now in
-    let start = c.args.start in
-    let to = c.args.to in
-    let k = c.loop-count.count in
-    let m = c.copy_characters_each.result in
-    let few = c.copy_characters_each.ensures.few in
-    let within = c.loop-count.invariant.within in
-    let more = copied-on was c.loop-count.cells c.copy_characters_each.new.cells start to k m (omega (arith, c.requires.behind, few, within)) (omega (arith, c.requires.room, few, within)) c.loop-count.invariant.copied c.copy_characters_each.ensures.after in
-    ap (drop (to + c.args.most)) more ∙ drop-paste_above was (drop start was) to (k + m) (to + c.args.most) (omega (arith, few, within)) (omega (arith, c.requires.room)) (omega (arith, length-drop start was, c.requires.behind, c.requires.room, few, within))
+    let source = drop c.args.start c.args.cells.now in
+    let long = length-drop c.args.start c.args.cells.now in
+    let more = copied-on c.args.cells.now c.loop-count.cells c.copy_characters_each.new.cells c.args.start c.args.to c.loop-count.count c.copy_characters_each.result (omega arith) (omega arith) c.loop-count.invariant.copied c.copy_characters_each.ensures.after in
+    behind-of c.args.cells.now _ source c.args.to _ c.args.most (omega arith) (omega arith) (omega arith) more

@@ -1,19 +1,16 @@
-use Rattle.std.proofs.Common.{◌≡◌, ◌+◌, ◌-◌, drop, ap, ◌∙◌, arith}
+use Rattle.std.proofs.Common.{◌≡◌, ℕ, ◌+◌, ◌≤◌, List, length, drop, arith, rules}
+use Rattle.std.specs.List.{copy_within}
+use Rattle.std.proofs.lemmas.List.{places, same_lists}
 use lib.Seq.{paste}
-use Rattle.trac_space.proofs.Copied.{copied-down}
 use Rattle.trac_space.proofs.copies.copy_down.Goals as goal
 
+-- the first k cells are there, and n more follow
+copied-down : {X : Type 0} (was now after : List X) (start to k n : ℕ) → to ≤ start → start + (k + n) ≤ length was → now ≡ paste was to (drop start was) k → after ≡ copy_within now (start + k) (start + (k + n)) (to + k) → after ≡ paste was to (drop start was) (k + n)
+copied-down was now after start to k n before within is moved =
+    rw (moved, is) (same_lists _ _ (search (rules, places)) (λ i d less. grind (arith, places)))
+
 pub loop-done-preserved : goal.loop-done-preserved
-loop-done-preserved c =
-    let was = c.args.cells.now in
-    let now = c.loop-done.cells in
-    let start = c.args.start in
-    let to = c.args.to in
-    let k = c.loop-done.done in
-    let n = c.min-done.result in
-    let size : start + (k + n) - (start + k) ≡ n = omega arith in
-    let one = ap (λ m. paste now (to + k) (drop (start + k) now) m) size in
-    record {
-      within = omega arith;
-      copied = c.copy_apart.ensures.after ∙ one ∙ copied-down was now start to k n (omega arith) (omega arith) c.loop-done.invariant.copied;
-    }
+loop-done-preserved c = record {
+  within = omega arith;
+  copied = copied-down c.args.cells.now c.loop-done.cells _ c.args.start c.args.to c.loop-done.done _ (omega arith) (omega arith) c.loop-done.invariant.copied c.copy_apart.ensures.after;
+}

@@ -3,9 +3,10 @@ use Rattle.std.proofs.lemmas.List.{length-drop, length-map}
 use Rattle.std.proofs.lemmas.List.Edits.{paste_more}
 use lib.Seq.{paste}
 use Rattle.trac_space.specs.declared.cell.Cell.TheVariants.{Byte}
+use Rattle.trac_space.specs.Cells.{is_comma}
 use Rattle.trac_space.specs.Texts.{IsByte, character_of}
 use Rattle.trac_space.specs.Runs.{number_in, turned, turned_by}
-use Rattle.trac_space.proofs.Runs.{run-cell, byte-at, run-more, turned-at, turned-byte, turned-one, turned-none, plain-more, plain-none}
+use Rattle.trac_space.proofs.Runs.{run-cell, byte-at, run-more, turned-at, turned-byte, turned-one, plain-more, plain-none}
 use Rattle.trac_space.proofs.copies.copy_run.Goals as goal
 use Rattle.trac_space.proofs.copies.copy_run.Goals.{then-number-eq0, else-number-eq0+then-number-eq1}
 
@@ -46,7 +47,7 @@ loop-count-preserved c =
             within = omega (arith, less);
             run = run-more table was start k (Byte 0) inside kept.run (omega (arith, none));
             last = omega (arith, w.last-is, kept.last);
-            plain = rw w.last-is (plain-more table was start k (Byte 0) inside c.loop-count.last kept.last (turned-none table cell none) kept.plain);
+            plain = rw w.last-is (plain-more table was start k (Byte 0) inside c.loop-count.last kept.last (ap is_comma (turned-byte table cell none)) kept.plain);
             copied = w.cells-is ∙ ap (set now (to + k)) (byte ∙ sym (turned-byte table cell none)) ∙ copied;
           })
       | else-number-eq0+then-number-eq1 w ↦ (

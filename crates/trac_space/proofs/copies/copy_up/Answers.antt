@@ -1,29 +1,16 @@
-use Rattle.std.proofs.Common.{◌≡◌, ◌+◌, ◌-◌, drop, ap, ◌∙◌, arith}
+use Rattle.std.proofs.Common.{◌≡◌, ℕ, ◌+◌, ◌-◌, ◌≤◌, List, length, drop, arith, rules}
+use Rattle.std.specs.List.{copy_within}
+use Rattle.std.proofs.lemmas.List.{places, same_lists}
 use lib.Seq.{paste}
-use Rattle.trac_space.proofs.Copied.{copied-up}
 use Rattle.trac_space.proofs.copies.copy_up.Goals as goal
 
+-- the cells from one place on are there, and n before them follow
+copied-up : {X : Type 0} (was now after : List X) (start to all left n : ℕ) → start ≤ to → to + all ≤ length was → left ≤ all → n ≤ left → now ≡ paste was (to + left) (drop (start + left) was) (all - left) → after ≡ copy_within now (start + (left - n)) (start + left) (to + (left - n)) → after ≡ paste was (to + (left - n)) (drop (start + (left - n)) was) (all - (left - n))
+copied-up was now after start to all left n behind room within few is moved =
+    rw (moved, is) (same_lists _ _ (search (rules, places)) (λ i d less. grind (arith, places)))
+
 pub loop-left-preserved : goal.loop-left-preserved
-loop-left-preserved c =
-    let was = c.args.cells.now in
-    let now = c.loop-left.cells in
-    let start = c.args.start in
-    let to = c.args.to in
-    let all = c.args.end - start in
-    let left = c.loop-left.left in
-    let n = c.min-left.result in
-    let k = left - n in
-    let m = all - left in
-    let order = c.requires.order in
-    let room = c.requires.room in
-    let far = c.requires.behind in
-    let within = c.loop-left.invariant.within in
-    let split : left ≡ k + n = omega arith in
-    let before = c.loop-left.invariant.copied ∙ ap (λ i. paste was (to + i) (drop (start + i) was) m) split in
-    let size : start + left - (start + k) ≡ n = omega arith in
-    let one = ap (λ i. paste now (to + k) (drop (start + k) now) i) size in
-    let rest : n + m ≡ all - k = omega arith in
-    record {
-      within = omega arith;
-      copied = c.copy_apart.ensures.after ∙ one ∙ copied-up was now start to k n m (omega arith) (omega arith) before ∙ ap (λ i. paste was (to + k) (drop (start + k) was) i) rest;
-    }
+loop-left-preserved c = record {
+  within = omega arith;
+  copied = copied-up c.args.cells.now c.loop-left.cells _ c.args.start c.args.to _ c.loop-left.left _ (omega arith) (omega arith) c.loop-left.invariant.within (omega arith) c.loop-left.invariant.copied c.copy_apart.ensures.after;
+}
