@@ -24,7 +24,8 @@ overflow_add-first c =
     omega arith
 
 pub result_of-requires-clause-left : goal.result_of-requires-clause-left
-result_of-requires-clause-left c = ranged _ (number_in c.text.result.now) c.tail_number-left.ensures.value
+result_of-requires-clause-left c =
+    ranged _ (number_in c.text.result.now) c.tail_number-left.ensures.value
 
 pub give_number-requires : goal.give_number-requires
 give_number-requires c =
