@@ -1,14 +1,14 @@
 -- Characters that are put once more by blocks, before they are looked at.
-use Rattle.std.proofs.Common.{◌≡◌, ℕ, zero, suc, ◌+◌, ◌-◌, ◌<◌, ◌≤◌, false, All, List, ◌++◌, length, take, drop, map, get_or, refl, sym, ap, ◌∙◌, arith, append_assoc, subst}
+use Rattle.std.proofs.Common.{◌≡◌, ℕ, ◌+◌, ◌-◌, ◌<◌, ◌≤◌, false, All, List, ◌++◌, length, take, drop, get_or, sym, ap, ◌∙◌, arith, append_assoc, subst}
 use Rattle.std.specs.List.{copy_within}
 use Rattle.std.proofs.Math.Seq.{take-add}
-use Rattle.std.proofs.lemmas.List.{length-drop, length-map, length-take-le, drop-drop, drop-take, get_or-drop, get_or-take, take-take, take-map, drop-map, take-append-le, drop-append-le, drop_at}
-use Rattle.std.proofs.lemmas.List.Edits.{take-paste, length-paste}
-use Rattle.std.proofs.lemmas.List.Elements.{All-append, All-take, All-drop}
+use Rattle.std.proofs.lemmas.List.{length-drop, length-take-le, drop-drop, drop-take, get_or-take, take-take, drop_at}
+use Rattle.std.proofs.lemmas.List.Edits.{take-paste}
+use Rattle.std.proofs.lemmas.List.Elements.{All-append}
 use Rattle.trac_space.specs.declared.cell.Cell.{Cell}
-use Rattle.trac_space.specs.declared.cell.Cell.TheVariants.{Byte, Comma}
+use Rattle.trac_space.specs.declared.cell.Cell.TheVariants.{Comma}
 use Rattle.trac_space.specs.Texts.{IsByte, is_byte_cell, byte_cell_at}
-use Rattle.trac_space.proofs.BlockChanges.{take-paste_below, drop-paste_above, drop-paste_at}
+use Rattle.trac_space.proofs.BlockChanges.{take-paste_below, drop-paste_above}
 use lib.Seq.{paste}
 
 -- the first cells of a copy, with those before it
