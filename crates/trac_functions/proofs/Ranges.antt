@@ -1,6 +1,6 @@
 -- Results of arithmetic are machine numbers.
 use Rattle.std.proofs.Common.{◌≡◌, ◌^◌, ℤ, Bool, true, false, cond, ◌&&◌, Option, Some, None, sym, ap, ◌∙◌}
-use Rattle.std.specs.Prelude.{unsigned_abs}
+use Rattle.std.specs.Prelude.{unsigned_abs, IfSome, IsTrue}
 use Rattle.std.proofs.lemmas.Bool.{ltb-true}
 use Rattle.std.proofs.lemmas.Int.{to_z-of_z, fits_signed_from_abs}
 use Rattle.std.proofs.lemmas.Option.{cond_some}
@@ -20,3 +20,10 @@ arith-passed operation m n r is = go (in_range m && in_range n) (exactly operati
     go true None e = absurd cc
     go true (Some z) e = let facts = cond_some (in_range z) z r e in kept r (ap in_range (sym facts.1) ∙ facts.0)
     go false exact e = absurd cc
+
+-- a number that is there is in the range
+pub ranged : (v : Option ℤ) (n : ℤ) → v ≡ if_in_range (Some n) → IfSome v (λ m. IsTrue (in_range m))
+ranged None n e = tt
+ranged (Some m) n e =
+    let facts = cond_some (in_range n) n m (sym e) in
+    ap in_range (sym facts.1) ∙ facts.0

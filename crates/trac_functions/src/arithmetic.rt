@@ -1,10 +1,11 @@
 //! The functions of arithmetic: `ad`, `su`, `ml` and `dv`.
-ghost use Rattle.std.specs.Prelude.{◌≡◌, ◌∷◌, ◌++◌, false, List};
+ghost use Rattle.std.specs.Prelude.{◌≡◌, ◌+◌, ◌-◌, ◌≤◌, ◌∷◌, ◌++◌, false, List};
 ghost use Rattle.std.specs.Fmt.{signed_decimal};
 ghost use Rattle.trac_language.specs.declared.function.Function.{Function};
 ghost use Rattle.trac_language.specs.declared.function.Function.TheVariants.{Arithmetic};
 ghost use Rattle.trac_language.specs.Text.{Text};
-ghost use Rattle.trac_forms.specs.Contents.{part_text, IsTextPart};
+ghost use Rattle.trac_space.specs.Texts.{flat_text};
+ghost use Rattle.trac_forms.specs.Contents.{used, part_text, IsTextPart, IsSound};
 ghost use Rattle.trac_functions.specs.Calls.{AreArguments, texts, Valued, Makes};
 ghost use Rattle.trac_functions.specs.Calls.{KeepsRoom};
 
@@ -28,12 +29,14 @@ pub fn arithmetic(work: &mut Work, operation: Arith, mut arguments: Arguments) -
 {
     let first = arguments.next(work);
     let second = arguments.next(work);
-    let other = arguments.next(work);
     let left = trac_values::tail_number(text(work, first));
     let right = trac_values::tail_number(text(work, second));
     match trac_values::result_of(operation, left.value, right.value) {
         Some(number) => give_number(work, (first.0, first.0 + left.start), number),
-        None => give(work, other, true),
+        None => {
+            let other = arguments.next(work);
+            give(work, other, true)
+        }
     }
 }
 
@@ -53,7 +56,23 @@ fn give_number(work: &mut Work, prefix: (u32, u32), number: i128) -> Made
     if work.free() < prefix.1 - prefix.0 + digits.len() as u32 {
         return Made::Full;
     }
-    put_part(work, prefix);
+    put_prefix(work, prefix);
     put_bytes(work, digits);
     Made::Value
+}
+
+/// Puts a part of the neutral string once more at its end, which there are cells for. It mostly is
+/// null, and then there is nothing to do.
+#[inline(always)]
+fn put_prefix(work: &mut Work, part: (u32, u32))
+    requires part { IsTextPart work.old.neutral part.0 part.1 }
+    requires fits { used work.old + (part.1 - part.0) ≤ work.old.room }
+    ensures put { let text = part_text work.old.neutral part.0 part.1 in
+        work.new ≡ record work.old { neutral = work.old.neutral ++ flat_text text } }
+    ensures sound { IsSound work.new }
+{
+    prove!(work.used() <= work.room());
+    if part.0 < part.1 {
+        put_part(work, part);
+    }
 }

@@ -1,11 +1,12 @@
 -- Characters that are put once more by blocks, before they are looked at.
-use Rattle.std.proofs.Common.{◌≡◌, ℕ, ◌+◌, ◌≤◌, All, List, ◌++◌, length, take, drop, arith, rules}
+use Rattle.std.proofs.Common.{◌≡◌, ℕ, ◌+◌, ◌<◌, ◌≤◌, false, All, List, ◌++◌, length, take, drop, get_or, sym, ap, ◌∙◌, arith, rules}
 use Rattle.std.specs.List.{copy_within}
 use Rattle.std.proofs.Math.Seq.{take-add}
 use Rattle.std.proofs.lemmas.List.{places, same_lists}
 use Rattle.std.proofs.lemmas.List.Elements.{All-append}
 use Rattle.trac_space.specs.declared.cell.Cell.{Cell}
-use Rattle.trac_space.specs.Texts.{IsByte}
+use Rattle.trac_space.specs.declared.cell.Cell.TheVariants.{Comma}
+use Rattle.trac_space.specs.Texts.{IsByte, is_byte_cell, byte_cell_at}
 use lib.Seq.{paste}
 
 -- the first cells of a copy, with those before it
@@ -29,3 +30,10 @@ bytes-on was now start to n k j long is apart bytes more =
     let part : take j (drop (start + k) now) ≡ take j (drop k (drop start was)) =
     rw is (same_lists _ _ (search (rules, places)) (λ i d less. grind (arith, places))) in
     rw take-add (All-append IsByte _ _ bytes (rw part at more))
+
+-- the cell behind them, before the place, is as it was
+pub stop-on : (was now : List Cell) (start to n k j : ℕ) → to + n ≤ length was → now ≡ paste was to (drop start was) n → start + k + j < to → byte_cell_at now (start + k + j) ≡ false → byte_cell_at was (start + (k + j)) ≡ false
+stop-on was now start to n k j long is apart stop =
+    let place : start + k + j ≡ start + (k + j) = omega arith in
+    let at : get_or now (start + k + j) Comma ≡ get_or was (start + k + j) Comma = rw is (grind (arith, places)) in
+    rw place at (sym (ap is_byte_cell at) ∙ stop)

@@ -1,6 +1,6 @@
 //! Moves of cells within a block.
 ghost use Rattle.std.specs.Prelude.{◌≡◌, ◌+◌, ◌-◌, ◌≤◌, ◌<◌, ◌⊎◌, ◌++◌};
-ghost use Rattle.std.specs.Prelude.{All, drop, false};
+ghost use Rattle.std.specs.Prelude.{All, drop, false, ℕ};
 ghost use Rattle.std.specs.Prelude.{length, take, ◌==◌, if◌then◌else◌, slice_index_or};
 ghost use Rattle.std.specs.List.{copy_within};
 ghost use Rattle.trac_space.specs.declared.cell.Cell.TheVariants.{Byte};
@@ -231,9 +231,17 @@ pub(crate) fn copy_run(
 
 // Puts the characters that stand from a place on once more at a place behind, at most so many, up
 // to the first cell that is none. Gives how many they are. Behind them other cells may be written
-// over, at most as far as so many would reach.
+// over, at most as far as so many would reach. Told how far the places are from one another, the
+// compiler needs no subtraction for each block to test that they are apart.
 #[inline(always)]
-pub(crate) fn copy_characters(cells: &mut [Cell], start: usize, to: usize, most: usize) -> usize
+pub(crate) fn copy_characters(
+    cells: &mut [Cell],
+    start: usize,
+    to: usize,
+    distance: usize,
+    most: usize,
+) -> usize
+    requires far { to ≡ start + distance }
     requires behind { start + most ≤ to }
     requires room { to + most ≤ length cells.old }
     ensures few { result ≤ most }
@@ -246,7 +254,7 @@ pub(crate) fn copy_characters(cells: &mut [Cell], start: usize, to: usize, most:
 {
     let mut count = 0;
     while most - count >= BLOCK {
-        copy_block(cells, start + count, to + count);
+        copy_block(cells, start + count, distance);
         let more = characters_in_block(cells, start + count);
         count += more;
         if more < BLOCK {
@@ -271,14 +279,16 @@ fn characters_in_block(cells: &[Cell], at: usize) -> usize
     count
 }
 
-// Makes a block of cells the same as another that stands before, and apart.
-#[inline]
-fn copy_block(cells: &mut [Cell], start: usize, to: usize)
-    requires apart { start + 8 ≤ to }
-    requires room { to + 8 ≤ length cells.old }
+// Makes a block of cells the same as another that stands so far before, and apart.
+#[inline(always)]
+fn copy_block(cells: &mut [Cell], start: usize, distance: usize)
+    requires apart { 8 ≤ distance }
+    requires room { start + distance + 8 ≤ length cells.old }
     ensures len { length cells.new ≡ length cells.old }
-    ensures after { cells.new ≡ copy_within cells.old start (start + 8) to }
+    ensures after { (to : ℕ) → to ≡ start + distance →
+        cells.new ≡ copy_within cells.old start (start + 8) to }
 {
+    let to = start + distance;
     let end = start + BLOCK;
     let n = end - start;
     let (front, back) = cells.split_at_mut(to);

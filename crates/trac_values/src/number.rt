@@ -1,13 +1,13 @@
 //! Numbers at the end of texts.
 ghost use Rattle.std.specs.Prelude.{◌≡◌, ◌↔◌, ◌+◌, ◌*◌, ◌%◌, ◌<◌, ◌≤◌, ◌^◌};
-ghost use Rattle.std.specs.Prelude.{All, ℕ};
+ghost use Rattle.std.specs.Prelude.{All, false, ℕ};
 ghost use Rattle.std.specs.Prelude.{ℤ, min, IfSome, IsSome, IsTrue, length, int_lt, neg_ℤ, pos};
 ghost use Rattle.std.specs.Prelude.{unsigned_abs, ◌<ℤ◌};
 ghost use Rattle.std.specs.Int.{int_rem_euclid};
 ghost use Rattle.std.specs.Ordering.{nat_cmp};
 ghost use Rattle.trac_language.specs.declared.arith.Arith.TheVariants.{Divide};
-ghost use Rattle.trac_language.specs.Number.{arith, before_digits, digits, exactly, if_in_range};
-ghost use Rattle.trac_language.specs.Number.{in_range, prefix};
+ghost use Rattle.trac_language.specs.Number.{arith, before_digits, digits, ends_with, exactly};
+ghost use Rattle.trac_language.specs.Number.{if_in_range, in_range, prefix};
 ghost use Rattle.std.specs.Str.Parse.{digits_value};
 ghost use Rattle.trac_space.specs.Texts.{text_of_cells, IsByte};
 ghost use Rattle.trac_values.specs.Digits.{IsDecimal, decimal_value, value_upto};
@@ -61,6 +61,7 @@ fn split_digits(cells: &[Cell]) -> (&[Cell], &[Cell])
 
 /// Where the longest suffix of decimal digits begins, and the number that it is. None where it may
 /// have more than 19 digits, which 64 bits don't always hold.
+#[inline(always)]
 fn short_number(cells: &[Cell]) -> Option<(usize, u64)>
     requires bytes { All IsByte cells.now }
     ensures start { IfSome result (λ r. r.0 ≡ length (before_digits (text_of_cells cells.now))) }
@@ -95,22 +96,6 @@ fn long_value(digits: &[Cell]) -> Option<i128>
     value
 }
 
-/// A text before its longest suffix of decimal digits, and the number that these are, None where
-/// that is outside the range of arithmetic.
-fn split_number(cells: &[Cell]) -> (&[Cell], Option<i128>)
-    requires { IsText cells.now }
-    ensures front { text_of_cells result.0.now ≡ before_digits (text_of_cells cells.now) }
-    ensures value { result.1 ≡
-        if_in_range (Some (pos (digits_value 10 (digits (text_of_cells cells.now))))) }
-    ensures short { length result.0.now ≤ length cells.now }
-{
-    if let Some((start, value)) = short_number(cells) {
-        return (cells.split_at(start).0, Some(i128::from(value)));
-    }
-    let (front, digits) = split_digits(cells);
-    (front, long_value(digits))
-}
-
 /// The number turned to the other sign.
 fn negated(value: Option<i128>) -> Option<i128>
     ensures { (n : ℕ) → value ≡ if_in_range (Some (pos n)) →
@@ -119,16 +104,57 @@ fn negated(value: Option<i128>) -> Option<i128>
     value?.checked_neg()
 }
 
-/// The number at the end of a text, for arithmetic: the longest suffix of decimal
-/// digits, with one `+` or `-` just before it. Without digits the number is 0 and
-/// the whole text is the prefix. That a number stands at the right end behind a
-/// prefix is Mooers' rule of 1966, the rest this processor's own choice.
-pub fn tail_number(cells: &[Cell]) -> TailNumber
+/// Whether the last of these characters is this one.
+#[inline(always)]
+fn is_last(cells: &[Cell], character: u8) -> bool
+    requires { All IsByte cells.now }
+    ensures { result ≡ ends_with character (text_of_cells cells.now) }
+{
+    !cells.is_empty() && byte_in(&cells[cells.len() - 1]) == character
+}
+
+/// Whether the twentieth character from the end is a digit, as in a number of 20 digits or more.
+#[inline(always)]
+fn may_be_long(cells: &[Cell]) -> bool
+    requires { All IsByte cells.now }
+    ensures { length cells.now < 20 → result ≡ false }
+{
+    cells.len() > 19 && byte_in(&cells[cells.len() - 20]).is_ascii_digit()
+}
+
+/// The number at the end of a text with its sign, and the length of the prefix. None where it may
+/// have more than 19 digits.
+#[inline(always)]
+fn short_tail(cells: &[Cell]) -> Option<(usize, i128)>
+    requires { IsText cells.now }
+    ensures start { IfSome result (λ r. r.0 ≡ length (prefix (text_of_cells cells.now))) }
+    ensures value { IfSome result (λ r. r.1 ≡ number_in cells.now) }
+    ensures in_range { IfSome result (λ r. IsTrue (in_range r.1)) }
+    ensures few { length (digits (text_of_cells cells.now)) < 19 → IsSome result }
+{
+    let (start, size) = short_number(cells)?;
+    let front = cells.split_at(start).0;
+    let number = i128::from(size);
+    if start == cells.len() {
+        Some((start, number))
+    } else if is_last(front, b'-') {
+        Some((start - 1, -number))
+    } else if is_last(front, b'+') {
+        Some((start - 1, number))
+    } else {
+        Some((start, number))
+    }
+}
+
+/// The number at the end of a text, of any length.
+#[inline(never)]
+fn long_tail(cells: &[Cell]) -> TailNumber
     requires { IsText cells.now }
     ensures start { result.start ≡ length (prefix (text_of_cells cells.now)) }
     ensures value { result.value ≡ if_in_range (Some (number_in cells.now)) }
 {
-    let (front, value) = split_number(cells);
+    let (front, digits) = split_digits(cells);
+    let value = long_value(digits);
     let start = front.len() as u32;
     if front.len() == cells.len() {
         return TailNumber {
@@ -148,6 +174,30 @@ pub fn tail_number(cells: &[Cell]) -> TailNumber
         }
     } else {
         TailNumber { start, value }
+    }
+}
+
+/// The number at the end of a text, for arithmetic: the longest suffix of decimal
+/// digits, with one `+` or `-` just before it. Without digits the number is 0 and
+/// the whole text is the prefix. That a number stands at the right end behind a
+/// prefix is Mooers' rule of 1966, the rest this processor's own choice.
+#[inline(always)]
+pub fn tail_number(cells: &[Cell]) -> TailNumber
+    requires { IsText cells.now }
+    ensures start { result.start ≡ length (prefix (text_of_cells cells.now)) }
+    ensures value { result.value ≡ if_in_range (Some (number_in cells.now)) }
+{
+    let short = if may_be_long(cells) {
+        None
+    } else {
+        short_tail(cells)
+    };
+    match short {
+        Some((start, number)) => TailNumber {
+            start: start as u32,
+            value: Some(number),
+        },
+        None => long_tail(cells),
     }
 }
 
@@ -196,7 +246,26 @@ fn compare_digits(a: &[Cell], b: &[Cell]) -> Ordering
 
 /// Whether the number at the end of a text is greater than that at the end of another: the test of
 /// `gr` (Mooers 1966). That the numbers may have any length is this processor's own choice.
+#[inline(never)]
 pub fn greater(a: &[Cell], b: &[Cell]) -> bool
+    requires left { IsText a.now }
+    requires right { IsText b.now }
+    ensures { IsTrue result ↔ (number_in b.now <ℤ number_in a.now) }
+{
+    if may_be_long(a) || may_be_long(b) {
+        return long_greater(a, b);
+    }
+    if let Some((_, m)) = short_tail(a) {
+        if let Some((_, n)) = short_tail(b) {
+            return m > n;
+        }
+    }
+    long_greater(a, b)
+}
+
+/// The same, told by the digits.
+#[inline(never)]
+fn long_greater(a: &[Cell], b: &[Cell]) -> bool
     requires left { IsText a.now }
     requires right { IsText b.now }
     ensures { IsTrue result ↔ (number_in b.now <ℤ number_in a.now) }

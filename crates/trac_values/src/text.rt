@@ -4,7 +4,7 @@ ghost use Rattle.trac_language.specs.Number.{ends_with};
 ghost use Rattle.trac_space.specs.Texts.{character_of, text_of_cells};
 ghost use Rattle.trac_values.specs.Cells.{IsText};
 
-use trac_space::{Cell, character_of};
+use trac_space::{Cell, byte_in, character_of};
 
 /// Whether the last of the cells is this character.
 pub fn ends_with(cells: &[Cell], character: u8) -> bool
@@ -23,7 +23,7 @@ pub fn equal(a: &[Cell], b: &[Cell]) -> bool
         return false;
     }
     for i in 0..a.len() {
-        if character_of(&a[i]) != character_of(&b[i]) {
+        if byte_in(&a[i]) != byte_in(&b[i]) {
             return false;
         }
     }

@@ -4,10 +4,11 @@ use Rattle.trac_language.specs.declared.function.Function.TheVariants.{Arithmeti
 use Rattle.trac_language.specs.Number.{number, prefix, arith as result_of_arith, if_in_range}
 use Rattle.trac_language.specs.State.{argument}
 use Rattle.trac_language.specs.Meaning.{result_or, forced, valued, meaning_of}
+use Rattle.trac_values.specs.Cells.{number_in}
 use Rattle.trac_forms.specs.Contents.{part_text}
 use Rattle.trac_functions.specs.Calls.{world, texts}
 use Rattle.trac_functions.proofs.MadeValues.{valued-of}
-use Rattle.trac_functions.proofs.Ranges.{arith-passed}
+use Rattle.trac_functions.proofs.Ranges.{arith-passed, ranged}
 use Rattle.trac_functions.proofs.Fronts.{prefix-front, inside, front-part, front-text}
 use Rattle.trac_functions.proofs.arithmetic.arithmetic.Goals as goal
 
@@ -21,6 +22,10 @@ overflow_add-first c =
     let sound = c.requires.sound.fits in
     let bounded = c.requires.sound.bounded in
     omega arith
+
+pub result_of-requires-clause-left : goal.result_of-requires-clause-left
+result_of-requires-clause-left c =
+    ranged _ (number_in c.text.result.now) c.tail_number-left.ensures.value
 
 pub give_number-requires : goal.give_number-requires
 give_number-requires c =
