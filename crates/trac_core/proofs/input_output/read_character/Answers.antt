@@ -8,9 +8,6 @@ returns-then-push_neutral-clause-answers g c = λ told place meta written call.
     let gives = c.in-Byte.ensures.gives told in
     character-read c.args.work.now place meta call c.push_neutral.new.self c.in-Byte.byte _ _ written c.push_neutral.ensures.sound c.if-push_neutral.ensures.last gives.0 gives.1
 
-pub returns-then-push_neutral-clause-stands : goal.returns-then-push_neutral-clause-stands
-returns-then-push_neutral-clause-stands g c = character-stands c.args.work.now c.push_neutral.new.self c.in-Byte.byte c.push_neutral.ensures.sound c.if-push_neutral.ensures.last
-
 pub returns-else-push_neutral-clause-answers : goal.returns-else-push_neutral-clause-answers
 returns-else-push_neutral-clause-answers g c = λ told place meta written call.
     let gives = c.in-Byte.ensures.gives told in

@@ -26,14 +26,6 @@ returns-clause-some c = λ first is less allowed.
     let reach : 0 < c.min.result = omega (arith, inside, allowed, c.min.ensures, c.min-reach.ensures, c.from.ensures, c.active_len.ensures.value) in
     rw c.from-2.ensures (run-some old.active n c.min.result first is less reach c.run_to_neutral-count.ensures.ends)
 
-pub returns-clause-shorter : goal.returns-clause-shorter
-returns-clause-shorter c =
-    let old = c.args.work.now in
-    let n = c.run_to_neutral-count.result.0 in
-    let run = c.run_to_neutral-count.ensures in
-    let within : n ≤ length old.active = omega (arith, run.few, c.min.ensures, c.min-reach.ensures, c.from.ensures, c.active_len.ensures.value) in
-    rw (c.from-2.ensures, run.moved) (omega (arith, within, length-drop n old.active))
-
 pub returns-clause-plain : goal.returns-clause-plain
 returns-clause-plain c =
     let old = c.args.work.now in
