@@ -124,9 +124,11 @@ fn copy_character(work: &mut Work, form: FormId, place: u32) -> bool
     requires within { place < length (body_at work.old.forms form.0) }
     requires character { character_at (body_at work.old.forms form.0) place ≡ true }
     requires sound { IsSound work.old }
-    ensures put { let text = characters_between (body_at work.old.forms form.0) place (place + 1) in
+    ensures put { let body = body_at work.old.forms form.0 in
+        let text = characters_between body place (place + 1) in
         IsTrue result ↔ (used work.old + length text ≤ work.old.room) }
-    ensures last { let text = characters_between (body_at work.old.forms form.0) place (place + 1) in
+    ensures last { let body = body_at work.old.forms form.0 in
+        let text = characters_between body place (place + 1) in
         OnTrue result
         (work.new ≡ record work.old { neutral = work.old.neutral ++ flat_text text }) }
     ensures forms { work.new.forms ≡ work.old.forms }

@@ -38,11 +38,12 @@ pub fn function_named(name: &[Cell]) -> Option<Function>
     function_of(first, second)
 }
 
-/// The function that is named before the first comma mark, in letters of either case. No name is looked
-/// for further, since each has two characters.
+/// The function that is named before the first comma mark, in letters of either case. That mark is
+/// not looked for further, since each name has two characters.
 #[inline]
 pub fn function_before_comma(cells: &[Cell]) -> Option<Function>
-    ensures named { result ≡ function_named (text_of_cells (take (before_comma cells.now) cells.now)) }
+    ensures named { let name = text_of_cells (take (before_comma cells.now) cells.now) in
+        result ≡ function_named name }
     ensures two { IsSome result → before_comma cells.now ≡ 2 }
 {
     let [first, second, ..] = cells else {
