@@ -58,6 +58,14 @@ pub appends_behind : (old : Option (List ℕ)) (before after more : List ℕ) �
 appends_behind None before after more e = tt
 appends_behind (Some xs) before after more e = ap (λ ys. xs ++ ys) e ∙ sym (append_assoc xs before more)
 
+-- what passed from those that wait to the writer
+pub keeps_passed : (old new : Option (List ℕ)) (waiting front back : List ℕ) → Appends old new front → waiting ≡ front ++ back
+    → Keeps (append_known old waiting) (append_known new back)
+keeps_passed None new waiting front back took e = tt
+keeps_passed (Some xs) None waiting front back took e = absurd took
+keeps_passed (Some xs) (Some ys) waiting front back took e =
+    ap (λ us. us ++ back) took ∙ append_assoc xs front back ∙ ap (λ us. xs ++ us) (sym e)
+
 pub at_end : (rest : Option (List ℕ)) (waiting : List ℕ) → waiting ≡ [] → IsAtEnd rest → IsAtEnd (prepend_known waiting rest)
 at_end None waiting none ended = tt
 at_end (Some xs) waiting none ended = ap₂ (λ (ys zs : List ℕ). ys ++ zs) none ended
