@@ -56,8 +56,7 @@ codes-length : (n : Neutral) (cells : List Cell) → length (codes_of_neutral (w
 codes-length n [] = omega arith
 codes-length n (cell ∷ cells) =
     let one = ap (λ l. length l) (codes-cell n cell) ∙ length-append (codes_of_neutral n) (cell_code (has_call n.calls) cell ∷ []) in
-    let rest = codes-length (with_cell n cell) cells in
-    omega (arith, one, rest)
+    omega (arith, one, codes-length (with_cell n cell) cells)
 
 -- there are as many codes as cells
 pub codes-count : (cells : List Cell) → length (codes_of_neutral (neutral_of cells)) ≡ length cells
@@ -66,19 +65,15 @@ codes-count cells = codes-length no_neutral cells ∙ omega arith
 commas-length : (texts : List Text) → length (with_commas texts) ≡ sum_by (λ (text : Text). length text + 1) texts
 commas-length [] = refl
 commas-length (text ∷ texts) =
-    let rest = commas-length texts in
-    length-append text (258 ∷ with_commas texts) ∙ sym (sum_by-cons (λ (text : Text). length text + 1) text texts ∙ omega (arith, rest))
+    length-append text (258 ∷ with_commas texts) ∙ sym (sum_by-cons (λ (text : Text). length text + 1) text texts ∙ omega (arith, commas-length texts))
 
 calls-length : (calls : List OpenCall) (base : List ℕ) → length (calls_codes calls base) ≡ length base + sum_by call_cells calls
 calls-length [] base = omega arith
 calls-length (call ∷ outer) base =
-    let rest = calls-length outer base in
-    let commas = commas-length call.earlier in
-    let all = sum_by-cons call_cells call outer in
     let opened = mark_code call.mode ∷ with_commas call.earlier in
     let first = length-append (calls_codes outer base) opened in
     let own = length-append (calls_codes outer base ++ opened) call.last in
-    omega (arith, rest, first, own, commas, all)
+    omega (arith, calls-length outer base, commas-length call.earlier, sum_by-cons call_cells call outer, first, own)
 
 -- as many as the neutral string takes cells
 pub codes-size : (n : Neutral) → length (codes_of_neutral n) ≡ length n.base + sum_by call_cells n.calls

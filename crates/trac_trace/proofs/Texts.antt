@@ -1,35 +1,21 @@
 -- The texts of more cells, and of more bytes.
-use Rattle.std.proofs.Common.{◌≡◌, ◌∙◌, ◌<◌, ℕ, List, [], ◌∷◌, ◌++◌, length, take, ◌+◌, ap, refl, sym, append_assoc, append-nil, get_or, Result, Ok, Err}
+use Rattle.std.proofs.Common.{◌≡◌, ◌∙◌, ◌<◌, ℕ, List, [], ◌∷◌, ◌++◌, length, take, ◌+◌, ap, sym, append_assoc, append-nil, get_or, Result, Ok, Err}
 use Rattle.std.specs.Result.{OnOk}
 use Rattle.std.proofs.lemmas.List.{take_more}
-use Rattle.trac_space.specs.declared.cell.Cell.{Cell}
-use Rattle.trac_trace.specs.Lines.{byte_text, bytes_text, cell_text, cells_text}
 
-cells_text-append : (xs ys : List Cell) → cells_text (xs ++ ys) ≡ cells_text xs ++ cells_text ys
-cells_text-append [] ys = refl
-cells_text-append (x ∷ xs) ys = ap (λ t. cell_text x ++ t) (cells_text-append xs ys) ∙ sym (append_assoc (cell_text x) (cells_text xs) (cells_text ys))
+-- texts that are made one after the other
+module _ {X : Type 0} (one : X → List ℕ) (all : List X → List ℕ) (none : [] ≡ all []) (next : (x : X) (xs : List X) → all (x ∷ xs) ≡ one x ++ all xs) where
+  all-append : (xs ys : List X) → all (xs ++ ys) ≡ all xs ++ all ys
+  all-append [] ys = ap (λ t. t ++ all ys) none
+  all-append (x ∷ xs) ys =
+      next x (xs ++ ys) ∙ ap (λ t. one x ++ t) (all-append xs ys) ∙ sym (append_assoc (one x) (all xs) (all ys)) ∙ sym (ap (λ t. t ++ all ys) (next x xs))
 
-bytes_text-append : (xs ys : List ℕ) → bytes_text (xs ++ ys) ≡ bytes_text xs ++ bytes_text ys
-bytes_text-append [] ys = refl
-bytes_text-append (x ∷ xs) ys = ap (λ t. byte_text x ++ t) (bytes_text-append xs ys) ∙ sym (append_assoc (byte_text x) (bytes_text xs) (bytes_text ys))
-
--- the text so far and the next cell
-pub cells_text-more : (old : List ℕ) (cells : List Cell) (k : ℕ) (d : Cell) → k < length cells
-    → (old ++ cells_text (take k cells)) ++ cell_text (get_or cells k d) ≡ old ++ cells_text (take (k + 1) cells)
-cells_text-more old cells k d within =
-    append_assoc old (cells_text (take k cells)) (cell_text (get_or cells k d))
-    ∙ ap (λ t. old ++ t)
-    (ap (λ t. cells_text (take k cells) ++ t) (sym (append-nil (cell_text (get_or cells k d))))
-    ∙ sym (ap cells_text (take_more cells k d within) ∙ cells_text-append (take k cells) (get_or cells k d ∷ [])))
-
--- the text so far and the next byte
-pub bytes_text-more : (old bytes : List ℕ) (k d : ℕ) → k < length bytes
-    → (old ++ bytes_text (take k bytes)) ++ byte_text (get_or bytes k d) ≡ old ++ bytes_text (take (k + 1) bytes)
-bytes_text-more old bytes k d within =
-    append_assoc old (bytes_text (take k bytes)) (byte_text (get_or bytes k d))
-    ∙ ap (λ t. old ++ t)
-    (ap (λ t. bytes_text (take k bytes) ++ t) (sym (append-nil (byte_text (get_or bytes k d))))
-    ∙ sym (ap bytes_text (take_more bytes k d within) ∙ bytes_text-append (take k bytes) (get_or bytes k d ∷ [])))
+  -- the text so far and the next
+  pub text-more : (old : List ℕ) (xs : List X) (k : ℕ) (d : X) → k < length xs → (old ++ all (take k xs)) ++ one (get_or xs k d) ≡ old ++ all (take (k + 1) xs)
+  text-more old xs k d within =
+      let last : all (get_or xs k d ∷ []) ≡ one (get_or xs k d) = next (get_or xs k d) [] ∙ sym (ap (λ t. one (get_or xs k d) ++ t) none) ∙ append-nil (one (get_or xs k d)) in
+      append_assoc old (all (take k xs)) (one (get_or xs k d))
+      ∙ ap (λ t. old ++ t) (ap (λ t. all (take k xs) ++ t) (sym last) ∙ sym (ap all (take_more xs k d within) ∙ all-append (take k xs) (get_or xs k d ∷ [])))
 
 -- a text and then more, put one after the other
 pub after : (old mid new text more : List ℕ) → mid ≡ old ++ text → new ≡ mid ++ more → new ≡ old ++ (text ++ more)

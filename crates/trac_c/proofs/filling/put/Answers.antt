@@ -6,4 +6,4 @@ pub returns-then-place-room : goal.returns-then-place-room
 returns-then-place-room g c = laid-put c.args.item c.args.place c.args.room.now c.if-place-room.true
 
 pub returns-else-place-room : goal.returns-else-place-room
-returns-else-place-room g c = laid-behind (c.args.item ∷ []) c.args.place c.args.room.now (let no = c.if-place-room.false in omega arith)
+returns-else-place-room g c = laid-behind (c.args.item ∷ []) c.args.place c.args.room.now (omega arith)

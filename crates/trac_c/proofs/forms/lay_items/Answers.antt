@@ -7,12 +7,9 @@ use Rattle.trac_c.proofs.forms.lay_items.Goals as goal
 
 pub loop-i-preserved : goal.loop-i-preserved
 loop-i-preserved c =
-    let i = c.loop-i.invariant in
-    let less = c.loop-i-test.true in
-    let long = c.body_len-len.ensures.value in
     let body = c.args.form.now.body in
-    let code = c.item_code.ensures ∙ ap code_of (c.item.ensures ∙ slice_get-get_or body c.loop-i.i (Byte 0) (omega (arith, less, long))) in
+    let code = c.item_code.ensures ∙ ap code_of (c.item.ensures ∙ slice_get-get_or body c.loop-i.i (Byte 0) (omega arith)) in
     record {
-      laid = laid-mapped item_code body c.loop-i.i (Byte 0) _ c.args.room.now c.loop-i.room c.put.new.room (omega (arith, less, long)) code i.laid c.put.ensures;
-      within = omega (arith, less, long);
+      laid = laid-mapped item_code body c.loop-i.i (Byte 0) _ c.args.room.now c.loop-i.room c.put.new.room (omega arith) code c.loop-i.invariant.laid c.put.ensures;
+      within = omega arith;
     }

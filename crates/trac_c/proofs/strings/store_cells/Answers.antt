@@ -9,7 +9,4 @@ pub returns : goal.returns
 returns c =
     let active = sym (length-map c.active.result.now character_of) ∙ ap (λ t. length t) c.active.ensures in
     let neutral = c.neutral_cells.ensures ∙ codes-size (neutral_in c.args.machine.now.memory) in
-    let size = c.size.ensures in
-    let rest = c.saturating_sub-rest.ensures in
-    let less = c.saturating_sub.ensures in
-    omega (arith, active, neutral, size, rest, less)
+    omega (arith, active, neutral)

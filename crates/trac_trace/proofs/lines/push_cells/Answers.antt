@@ -1,13 +1,10 @@
-use Rattle.std.proofs.Common.{sym, append-nil, ap, ◌∙◌, ◌++◌, get_or}
+use Rattle.std.proofs.Common.{ap, ◌∙◌, ◌++◌, get_or, refl}
 use Rattle.trac_space.specs.declared.cell.Cell.TheVariants.{Byte}
-use Rattle.trac_trace.specs.Lines.{cell_text}
-use Rattle.trac_trace.proofs.Texts.{cells_text-more}
+use Rattle.trac_trace.specs.Lines.{cell_text, cells_text}
+use Rattle.trac_trace.proofs.Texts.{text-more}
 use Rattle.trac_trace.proofs.lines.push_cells.Goals as goal
-
-pub loop-cell-init : goal.loop-cell-init
-loop-cell-init c = sym (append-nil _)
 
 pub loop-cell-preserved : goal.loop-cell-preserved
 loop-cell-preserved c =
     c.in_ok-push_cell.ensures ∙ ap (λ t. t ++ cell_text (get_or c.args.cells.now c.loop-cell.cell-index (Byte 0))) c.loop-cell.invariant
-    ∙ cells_text-more c.args.line.now.items c.args.cells.now c.loop-cell.cell-index (Byte 0) c.loop-cell-test.true
+    ∙ text-more cell_text cells_text refl (λ x xs. refl) c.args.line.now.items c.args.cells.now c.loop-cell.cell-index (Byte 0) c.loop-cell-test.true

@@ -3,20 +3,6 @@ use Rattle.trac_core.specs.Machine.{MachineState}
 use Rattle.trac_trace.proofs.Failures.{last-failures}
 use Rattle.trac_trace.proofs.trace.trace.Goals as goal
 
-pub loop-shown-init : goal.loop-shown-init
-loop-shown-init g c =
-    record {
-      not_over = ap (λ (m : MachineState). m.fate) c.over-machine.ensures;
-      source_failures = refl;
-      sink_failures = c.new-printed.ensures.none;
-    }
-
-pub step-fate-requires-clause-source_counts : goal.step-fate-requires-clause-source_counts
-step-fate-requires-clause-source_counts g c = omega (arith, c.loop-shown.invariant.source_failures, c.requires)
-
-pub step-fate-requires-clause-sink_counts : goal.step-fate-requires-clause-sink_counts
-step-fate-requires-clause-sink_counts g c = omega (arith, c.loop-shown.invariant.sink_failures)
-
 pub returns-in-Some : goal.returns-in-Some
 returns-in-Some g c =
     let i = c.loop-shown.invariant in
