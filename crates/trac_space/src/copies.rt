@@ -37,6 +37,7 @@ pub(crate) fn copy_cells(cells: &mut [Cell], start: usize, end: usize, to: usize
 
 // The same, for moves of few cells.
 #[inline]
+#[tactic(auto, using(crate::proofs::Moves::move_one))]
 pub(crate) fn copy_few(cells: &mut [Cell], start: usize, end: usize, to: usize)
     requires order { start ≤ end }
     requires within { end ≤ length cells.old }
@@ -53,6 +54,7 @@ pub(crate) fn copy_few(cells: &mut [Cell], start: usize, end: usize, to: usize)
 
 // The same, for moves that mostly are of one cell.
 #[inline]
+#[tactic(auto, using(crate::proofs::Moves::move_one))]
 pub(crate) fn copy_one_or_more(cells: &mut [Cell], start: usize, end: usize, to: usize)
     requires order { start ≤ end }
     requires within { end ≤ length cells.old }

@@ -111,6 +111,7 @@ pub fn push_text(line: &mut Vec<u8>, bytes: &[u8]) -> Result<(), AllocError>
 
 // How many bytes are left of a whole character, at the first of these bytes: of that which was
 // begun, or else of that which begins here.
+#[tactic(auto, unfolding(crate::specs::Shown::left_at))]
 fn left_at(left: u32, bytes: &[u8]) -> u32
     ensures { result ≡ left_at left bytes.now }
 {

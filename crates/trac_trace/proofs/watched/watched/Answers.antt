@@ -1,4 +1,4 @@
-use Rattle.std.proofs.Common.{arith, refl}
+use Rattle.std.proofs.Common.{arith}
 use Rattle.trac_trace.proofs.Failures.{last-failures}
 use Rattle.trac_trace.proofs.watched.watched.Goals as goal
 
@@ -7,10 +7,6 @@ returns-in-Some g c =
     let i = c.loop-watch.invariant in
     let told = last-failures c.loop-watch.machine.fate c.in-Some.fate i.not_over in
     record { input_failed = omega (arith, c.in-Some.ensures.input_failed, told, i.source_failures) }
-
-pub loop-watch-smaller : goal.loop-watch-smaller
-loop-watch-smaller g c =
-    omega (arith, c.in_default.ensures.allowance, (c.in_default.ensures.proceeds refl).0, (c.in_default.ensures.proceeds refl).1)
 
 pub loop-watch-preserved : goal.loop-watch-preserved
 loop-watch-preserved g c =
