@@ -221,7 +221,7 @@ class Views(unittest.TestCase):
         self.assertIn(b'100000', lines)
         self.assertEqual(status, 3)
         told = instructions([TRACER, *words, '--last', '20'], script)
-        self.assertLess(told, 6 * instructions([PROGRAM, *words], script))
+        self.assertLess(told, 7 * instructions([PROGRAM, *words], script))
 
 
 def trace_bytes(script, *words):
