@@ -16,7 +16,8 @@ SOURCE = os.path.join('crates', 'trac_core', 'src', 'machine.rt')
 # What a run by a user gets who may write nothing.
 NOBODY = 65534
 AS_NOBODY = {'user': NOBODY, 'group': NOBODY} if os.getuid() == 0 else {}
-FIRST = 'trac: building the program, and proving it: about twelve minutes on four idle cores ..\n'
+FIRST = ('trac: building the program, and proving it: '
+         'about a quarter of an hour on four idle cores ..\n')
 AGAIN = 'trac: building the program again, and proving what changed ..\n'
 RT = """#!/bin/sh
 echo "$1 ${{PWD##*/}}" >>'{calls}'
