@@ -3,6 +3,7 @@ called."""
 import os
 import re
 import shutil
+import signal
 import subprocess
 import tempfile
 import time
@@ -28,6 +29,15 @@ printf '#!/bin/sh\\necho "ran $*"; exit 3\\n' >out/trac_cli.$$
 chmod +x out/trac_cli.$$
 mv out/trac_cli.$$ out/trac_cli
 """
+
+
+def is_running(pid):
+    """Whether a process is there, and not one that has ended and waits to be asked how."""
+    try:
+        with open(f'/proc/{pid}/cmdline', 'rb') as file:
+            return file.read() != b''
+    except FileNotFoundError:
+        return False
 
 
 class Launcher(unittest.TestCase):
@@ -106,6 +116,22 @@ class Launcher(unittest.TestCase):
         os.remove(os.path.join(self.top, BUILT))
         self.run_once(AGAIN)
         self.assertEqual(self.called()[len(CRATES):], ['run trac_cli'])
+
+    def test_an_interrupt_ends_a_first_build(self):
+        self.answer(f'#!/bin/sh\necho $$ >>\'{self.calls}\'\nexec sleep 50\n')
+        # the shell that runs the checks may ignore interrupts
+        started = self.start(start_new_session=True, preexec_fn=lambda: signal.signal(
+            signal.SIGINT, signal.SIG_DFL))
+        while len(self.called()) < 2:
+            time.sleep(0.1)
+        os.killpg(started.pid, signal.SIGINT)
+        started.communicate(timeout=20)
+        self.assertNotEqual(started.returncode, 0)
+        time.sleep(1)
+        left = [pid for pid in self.called() if is_running(pid)]
+        for pid in left:
+            os.kill(int(pid), signal.SIGKILL)
+        self.assertEqual(left, [])
 
     def test_an_edit_is_built(self):
         self.run_once(FIRST)
