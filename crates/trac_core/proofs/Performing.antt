@@ -25,12 +25,12 @@ use Rattle.trac_space.specs.declared.cell.Cell.TheVariants.{Byte, Call, Comma, G
 use Rattle.trac_space.specs.Texts.{flat_text, text_of_cells, character_of, IsByte}
 use Rattle.trac_space.specs.Calls.{IsLastCall}
 use Rattle.trac_space.proofs.Texts.{text_of_cells-append}
-use Rattle.trac_forms.specs.Contents.{Contents, used, IsSound}
+use Rattle.trac_forms.specs.Contents.{Contents, used, IsSound, part_text, form_place}
 use Rattle.trac_devices.specs.Devices.{Stream}
 use Rattle.trac_functions.specs.declared.arguments.Made.{Made}
-use Rattle.trac_functions.specs.declared.arguments.Made.TheVariants.{Full, Value, Forced, Defined, Over}
+use Rattle.trac_functions.specs.declared.arguments.Made.TheVariants.{Full, Value, Part, Body, Defined, Over}
 use Rattle.trac_functions.specs.Flat.{texts_of, Neutral, no_neutral, neutral_of, memory_with, memory_of, mode_of, mode_at, is_active_mode, arguments_at}
-use Rattle.trac_functions.specs.Calls.{texts_from, world, IsValue, IsDefined, Makes}
+use Rattle.trac_functions.specs.Calls.{texts_from, world, IsValue, IsThere, IsDefined, Makes, body_text}
 use Rattle.trac_functions.proofs.FlatLemmas.{with_cells-append, with_cells-text, text_of-flat, neutral_of-innermost, call_at, opened, texts_of-some, grown-mode, arguments-call_at, size-used}
 use Rattle.trac_functions.proofs.ArgumentLemmas.{bytes-flat}
 use Rattle.trac_core.specs.Performed.{is_plain, performed_by, performs}
@@ -299,6 +299,23 @@ module _ (w mid : Contents) (place : ℕ) (f : Function) (rest : List Text) (nam
         read_all = λ reads. absurd (let no_reading = plain-reads f plain in let none = ap (λ b. b && not (list_any (λ c. c == meta) source.bytes)) no_reading in cc);
       })
 
+  -- a call whose value stands there already
+  pub tried-there : (new : Contents) (value : Text) (forced : Bool) (size : ℕ) → IsThere f (argument (arguments_at w.neutral place) 0 ∷ rest) w mid forced value size → new ≡ delivered (mode_at w.neutral place) forced value place w → (meta : ℕ) (source : Stream) (written : Text) → TriedCall place (scene w meta source written) None (used w + size) (scene new meta source written)
+  tried-there new value forced size is new_is meta source written =
+      let all = whole-arguments w.neutral place rest rest_is in
+      let here = world w.forms meta (ending source.bytes) in
+      let built_is = sym (ap (λ args. built (Some f) args here) (sym all) ∙ is.valued.builds meta (ending source.bytes)) in
+      let fits = is.fits in
+      tried-quiet w new place (Some f) meta meta source source written (used w + size) value forced w.forms names
+      (record {
+        means = ap (λ args. meaning_of f args here) (sym all) ∙ is.valued.means meta (ending source.bytes);
+        stands = new_is;
+        needs = ap (λ n. used w + n) (sym is.long ∙ built_is);
+        fits = omega arith;
+        stays_ended = λ e. e;
+        read_all = λ reads. absurd (let no_reading = plain-reads f plain in let none = ap (λ b. b && not (list_any (λ c. c == meta) source.bytes)) no_reading in cc);
+      })
+
   -- a call that builds a form
   pub tried-defined : (new : Contents) (needed cells : ℕ) → IsDefined f (argument (arguments_at w.neutral place) 0 ∷ rest) w mid cells → new ≡ closed mid place → needed ≡ used w + cells → (meta : ℕ) (source : Stream) (written : Text) → TriedCall place (scene w meta source written) None needed (scene new meta source written)
   tried-defined new needed cells is new_is needs meta source written =
@@ -329,7 +346,8 @@ module _ (w mid : Contents) (place : ℕ) (f : Function) (rest : List Text) (nam
   pub answers-made : (made : Made) → Makes f (argument (arguments_at w.neutral place) 0 ∷ rest) w made mid → (meta : ℕ) (source : Stream) (written : Text) → AnswersCall place (scene w meta source written) made (scene mid meta source written)
   answers-made Full is meta source written = tried-too-much mid is meta source written
   answers-made Value is meta source written = tried-value (settled Value place (length w.neutral) mid) (length w.neutral) (used w + (length mid.neutral - length w.neutral)) is.0 false is.1 refl refl refl meta source written
-  answers-made Forced is meta source written = tried-value (settled Forced place (length w.neutral) mid) (length w.neutral) (used w + (length mid.neutral - length w.neutral)) is.0 true is.1 refl refl refl meta source written
+  answers-made (Part part forced) is meta source written = tried-there (settled (Part part forced) place (length w.neutral) mid) (part_text w.neutral part.0 part.1) forced (part.1 - part.0) is.1 (ap (settled (Part part forced) place (length w.neutral)) is.1.same) meta source written
+  answers-made (Body form part) is meta source written = tried-there (settled (Body form part) place (length w.neutral) mid) (body_text w.forms (form_place form) part) false (part.1 - part.0) is.2 (ap (settled (Body form part) place (length w.neutral)) is.2.same) meta source written
   answers-made (Defined cells) is meta source written = tried-defined (closed mid place) (used w + cells) cells is refl refl meta source written
   answers-made (Over fate) is meta source written = absurd is
 
@@ -375,7 +393,12 @@ value-stands f args w mid forced value is = text-stands w mid mid.forms value is
 pub stands-made : (f : Function) (args : List Text) (w mid : Contents) (made : Made) → Makes f args w made mid → Stands made (used w) (length w.neutral) mid
 stands-made f args w mid Full is = tt
 stands-made f args w mid Value is = value-stands f args w mid false is.0 is.1
-stands-made f args w mid Forced is = value-stands f args w mid true is.0 is.1
+stands-made f args w mid (Part part forced) is =
+    let there = is.1 in
+    rw there.same (is.0, record { end = refl; fits = there.fits; room = there.fits })
+stands-made f args w mid (Body form part) is =
+    let there = is.2 in
+    rw there.same (is.0, is.1, record { end = refl; fits = there.fits; room = there.fits })
 stands-made f args w mid (Defined cells) is =
     let fits = is.fits in
     let neutral = ap (λ (w : Contents). length w.neutral) is.stands in
@@ -387,7 +410,8 @@ stands-made f args w mid (Over fate) is = tt
 pub no-failure-made : (f : Function) (args : List Text) (w mid : Contents) (made : Made) → Makes f args w made mid → (input_failures None (fate_after made) ≡ 0) × ((output_failures None (fate_after made) ≡ 0) × (made ≢ Over Steps))
 no-failure-made f args w mid Full is = (refl, (refl, λ e. absurd cc))
 no-failure-made f args w mid Value is = (refl, (refl, λ e. absurd cc))
-no-failure-made f args w mid Forced is = (refl, (refl, λ e. absurd cc))
+no-failure-made f args w mid (Part part forced) is = (refl, (refl, λ e. absurd cc))
+no-failure-made f args w mid (Body form part) is = (refl, (refl, λ e. absurd cc))
 no-failure-made f args w mid (Defined cells) is = (refl, (refl, λ e. absurd cc))
 no-failure-made f args w mid (Over fate) is = absurd is
 
@@ -395,7 +419,8 @@ no-failure-made f args w mid (Over fate) is = absurd is
 pub only-full : (f : Function) (args : List Text) (w mid : Contents) (made : Made) → Makes f args w made mid → fate_after made ≢ None → made ≡ Full
 only-full f args w mid Full is some = refl
 only-full f args w mid Value is some = absurd (some refl)
-only-full f args w mid Forced is some = absurd (some refl)
+only-full f args w mid (Part part forced) is some = absurd (some refl)
+only-full f args w mid (Body form part) is some = absurd (some refl)
 only-full f args w mid (Defined cells) is some = absurd (some refl)
 only-full f args w mid (Over fate) is some = absurd is
 
@@ -403,7 +428,8 @@ only-full f args w mid (Over fate) is some = absurd is
 pub unsettled : (made : Made) (place from : ℕ) (w : Contents) → fate_after made ≢ None → settled made place from w ≡ w
 unsettled Full place from w some = refl
 unsettled Value place from w some = absurd (some refl)
-unsettled Forced place from w some = absurd (some refl)
+unsettled (Part part forced) place from w some = absurd (some refl)
+unsettled (Body form part) place from w some = absurd (some refl)
 unsettled (Defined cells) place from w some = absurd (some refl)
 unsettled (Over fate) place from w some = refl
 

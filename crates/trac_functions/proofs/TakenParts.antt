@@ -23,11 +23,12 @@ use Rattle.trac_forms.specs.Search.{character_at, is_gap, gap_at, text_at, NoneP
 use Rattle.trac_forms.specs.Contents.{Contents, form_at, IsNamedAt, IsSound, part_text}
 use Rattle.trac_forms.proofs.Stores.{form_named-at, form_named-none, changed-at}
 use Rattle.trac_functions.specs.declared.arguments.Made.{Made}
-use Rattle.trac_functions.specs.declared.arguments.Made.TheVariants.{Full, Value, Forced, Defined}
+use Rattle.trac_functions.specs.declared.arguments.Made.TheVariants.{Full, Value, Part as PartValue, Body, Defined}
 use Rattle.trac_functions.specs.declared.arguments.Made.TheVariants.{Over}
 use Rattle.trac_functions.specs.Calls.{world, Valued, Makes}
 use Rattle.trac_functions.specs.Taking.{part_value, moved, TakesPart}
 use Rattle.trac_functions.proofs.CountLimits.{counted}
+use Rattle.trac_functions.proofs.FormLemmas.{length-part}
 use Rattle.trac_functions.proofs.MadeValues.{valued-of}
 use Rattle.trac_functions.proofs.TakenItems.{first-character, forward-all, forward-last, forward-more, forward-none, length-text_of, text_of-first, taken-forward, taken-backward, length-text_of-reverse}
 
@@ -72,15 +73,16 @@ module _ (f : Function) (args : List Text) (name : Text) (part : Form → Option
           long : (o : Option Part) (w : World) → value_length (take_part name o z w) ≡ length (part_value o z)
           long None w = refl
           long (Some p) w = refl
-      go None e Forced takes =
-          let forms : new.forms ≡ old.forms = ap (λ (w : Contents). w.forms) takes.stands in (
-            z,
-            record {
-              valued = subst (λ fs. Valued f args old.forms z true fs) (sym forms) (valued-of f args old.forms old.forms z true (means-at None e) by.builds);
-              fits = takes.fits;
-              stands = takes.stands ∙ ap (λ fs. record old { forms = fs; neutral = old.neutral ++ flat_text z }) (sym forms);
-            },
-          )
+      go None e (PartValue p forced) takes = (
+        takes.stands,
+        record {
+          valued = subst (λ t. Valued f args old.forms t forced old.forms) (sym takes.text)
+              (subst (λ b. Valued f args old.forms z b old.forms) (sym takes.is_forced) (valued-of f args old.forms old.forms z true (means-at None e) by.builds));
+          long = length-part old.neutral p.0 p.1 takes.stands;
+          fits = takes.fits;
+          same = takes.same;
+        },
+      )
       go (Some p) e Value takes =
           let forms : new.forms ≡ moved old.forms k p.pointer = ap (λ (w : Contents). w.forms) takes.stands in
           let changes : changed name (λ form. record form { pointer = p.pointer }) old.forms ≡ moved old.forms k p.pointer = changed-at name (λ form. record form { pointer = p.pointer }) old.forms k sound.forms at in (
@@ -92,7 +94,9 @@ module _ (f : Function) (args : List Text) (name : Text) (part : Form → Option
             },
           )
       go None e Value takes = absurd takes
-      go (Some p) e Forced takes = absurd takes
+      go (Some q) e (PartValue p forced) takes = absurd takes
+      go None e (Body form p) takes = absurd takes
+      go (Some q) e (Body form p) takes = absurd takes
       go None e (Defined cells) takes = absurd takes
       go (Some p) e (Defined cells) takes = absurd takes
       go None e (Over fate) takes = absurd takes

@@ -1,18 +1,20 @@
 -- The arguments of a call, and what a function makes of it.
-use Rattle.std.specs.Prelude.{◌≡◌, ℕ, ◌+◌, ◌<◌, ◌≤◌, Bool, true, false, List, [], ◌∷◌}
+use Rattle.std.specs.Prelude.{◌≡◌, ℕ, ◌+◌, ◌-◌, ◌<◌, ◌≤◌, Bool, true, false, List, [], ◌∷◌, All}
 use Rattle.std.specs.Prelude.{◌++◌, length, Some, slice_range, nat_le, if◌then◌else◌}
 use Rattle.trac_language.specs.declared.function.Function.{Function}
 use Rattle.trac_language.specs.Text.{Text}
-use Rattle.trac_language.specs.Form.{Form}
+use Rattle.trac_language.specs.declared.item.Item.{Item}
+use Rattle.trac_language.specs.Form.{Form, is_character, text_of}
 use Rattle.trac_language.specs.State.{Input}
 use Rattle.trac_language.specs.Meaning.{World, Gives, meaning_of, built}
 use Rattle.trac_space.specs.declared.cell.Cell.{Cell}
 use Rattle.trac_space.specs.Cells.{NoCall, NoComma}
 use Rattle.trac_space.specs.Texts.{flat_text}
-use Rattle.trac_forms.specs.Contents.{Contents, used, IsSound}
+use Rattle.trac_forms.specs.Contents.{Contents, used, IsSound, IsTextPart, part_text, body_at}
+use Rattle.trac_forms.specs.Contents.{form_place}
 use Rattle.trac_functions.specs.declared.arguments.Arguments.{Arguments}
 use Rattle.trac_functions.specs.declared.arguments.Made.{Made}
-use Rattle.trac_functions.specs.declared.arguments.Made.TheVariants.{Full, Value, Forced, Defined}
+use Rattle.trac_functions.specs.declared.arguments.Made.TheVariants.{Full, Value, Part, Body, Defined}
 use Rattle.trac_functions.specs.declared.arguments.Made.TheVariants.{Over}
 use Rattle.trac_functions.specs.Flat.{texts_of}
 
@@ -69,6 +71,24 @@ pub record IsValue (function : Function) (args : List Text) (old new : Contents)
   pub fits : used old + length value ≤ old.room
   pub stands : new ≡ record old { forms = new.forms; neutral = old.neutral ++ flat_text value }
 
+-- the items of a body from a place up to another are characters
+pub record AreCharacters (body : List Item) (from to : ℕ) : Type 0 where
+  pub order : from ≤ to
+  pub within : to ≤ length body
+  pub characters : All (λ item. is_character item ≡ true) (slice_range body from to)
+
+-- their text, of the body of the form at a place
+abbrev pub body_text : List Form → ℕ → ℕ × ℕ → Text
+body_text forms k part = text_of (slice_range (body_at forms k) part.0 part.1)
+
+-- the value of a call, of so many characters, stands there already; nothing is changed
+pub record IsThere (function : Function) (args : List Text) (old new : Contents) (forced : Bool)
+    (value : Text) (size : ℕ) : Type 0 where
+  pub valued : Valued function args old.forms value forced old.forms
+  pub long : length value ≡ size
+  pub fits : used old + size ≤ old.room
+  pub same : new ≡ old
+
 -- a call with a null value built so many cells of forms
 pub record IsDefined (function : Function) (args : List Text) (old new : Contents)
     (cells : ℕ) : Type 0 where
@@ -84,7 +104,15 @@ Makes function args old Full new =
     (meta : ℕ) (input : Input) →
     old.room < used old + built (Some function) args (world old.forms meta input)
 Makes function args old Value new = (value : Text) × IsValue function args old new false value
-Makes function args old Forced new = (value : Text) × IsValue function args old new true value
+Makes function args old (Part part forced) new =
+    let value = part_text old.neutral part.0 part.1 in
+    IsTextPart old.neutral part.0 part.1
+    × IsThere function args old new forced value (part.1 - part.0)
+Makes function args old (Body form part) new =
+    let value = body_text old.forms (form_place form) part in
+    (form_place form < length old.forms)
+    × AreCharacters (body_at old.forms (form_place form)) part.0 part.1
+    × IsThere function args old new false value (part.1 - part.0)
 Makes function args old (Defined cells) new = IsDefined function args old new cells
 Makes function args old (Over fate) new = ⊥
 

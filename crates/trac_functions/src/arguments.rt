@@ -1,5 +1,5 @@
 //! The arguments of a call, taken one after the other, and the value that is put behind them.
-ghost use Rattle.std.specs.Prelude.{◌≡◌, ◌↔◌, ◌+◌, ◌≤◌, ◌++◌, ℕ, true, false, length, drop};
+ghost use Rattle.std.specs.Prelude.{◌≡◌, ◌↔◌, ◌+◌, ◌<◌, ◌≤◌, ◌++◌, ℕ, true, false, length, drop};
 ghost use Rattle.std.specs.Prelude.{IsTrue, IsSome, slice_range};
 ghost use Rattle.std.specs.Bool.{OnTrue, OnFalse};
 ghost use Rattle.trac_language.specs.Function.{function_named};
@@ -7,13 +7,15 @@ ghost use Rattle.trac_language.specs.State.{argument};
 ghost use Rattle.trac_space.specs.Texts.{flat_text, text_of_cells};
 ghost use Rattle.trac_values.specs.Cells.{IsText};
 ghost use Rattle.trac_forms.specs.Arguments.{before_comma};
-ghost use Rattle.trac_forms.specs.Contents.{used, part_text, IsTextPart, IsSound};
-ghost use Rattle.trac_functions.specs.Calls.{MakesValue, AreArguments, texts};
+ghost use Rattle.trac_forms.specs.Contents.{used, part_text, IsTextPart, IsSound, body_at};
+ghost use Rattle.trac_forms.specs.Contents.{form_place};
+ghost use Rattle.trac_functions.specs.Calls.{MakesValue, AreArguments, texts, AreCharacters};
+ghost use Rattle.trac_functions.specs.Calls.{body_text};
 ghost use Rattle.trac_functions.specs.Taking.{TakesPart};
 ghost use Rattle.trac_functions.specs.Calls.{KeepsRoom};
 
 use crate::function::function_before_comma;
-use trac_forms::{Cell, Work, before_comma};
+use trac_forms::{Cell, FormId, Work, before_comma};
 use trac_language::{Fate, Function};
 
 /// The arguments of a call that are left to take: those in the neutral string from a place up to
@@ -34,8 +36,11 @@ pub enum Made {
     Full,
     /// Its value stands at the end of the neutral string.
     Value,
-    /// The same, and the value goes to the active string whatever the call's mode.
-    Forced,
+    /// Its value is the text of this part of the neutral string, and goes to the active string
+    /// whatever the call's mode where that is told.
+    Part((u32, u32), bool),
+    /// Its value is the characters of the form's body from a place up to another.
+    Body(FormId, (u32, u32)),
     /// A null value; it built so many cells of forms.
     Defined(u32),
     /// The run is over, by the language or because a device failed.
@@ -128,17 +133,28 @@ pub fn put_part(work: &mut Work, part: (u32, u32)) -> bool
 
 /// A part of the neutral string is the value of a call, which goes to the active string whatever
 /// the call's mode where it is forced.
-pub fn give(work: &mut Work, part: (u32, u32), forced: bool) -> Made
-    requires part { IsTextPart work.old.neutral part.0 part.1 }
-    ensures makes { let text = part_text work.old.neutral part.0 part.1 in
-        MakesValue text forced work.old result work.new }
-    ensures takes { let text = part_text work.old.neutral part.0 part.1 in
-        forced ≡ true → (k : ℕ) → TakesPart None text k work.old result work.new }
-    ensures unmade { result ≡ Made.Full → work.new.forms ≡ work.old.forms }
-    ensures keeps { KeepsRoom work.old work.new }
+pub fn give(work: &Work, part: (u32, u32), forced: bool) -> Made
+    requires part { IsTextPart work.now.neutral part.0 part.1 }
+    ensures makes { let text = part_text work.now.neutral part.0 part.1 in
+        MakesValue text forced work.now result work.now }
+    ensures takes { let text = part_text work.now.neutral part.0 part.1 in
+        forced ≡ true → (k : ℕ) → TakesPart None text k work.now result work.now }
 {
-    if !put_part(work, part) {
+    if work.free() < part.1 - part.0 {
         return Made::Full;
     }
-    if forced { Made::Forced } else { Made::Value }
+    Made::Part(part, forced)
+}
+
+/// The characters of the form's body from a place up to another are the value of a call.
+pub fn give_body(work: &Work, form: FormId, part: (u32, u32)) -> Made
+    requires known { form_place form < length work.now.forms }
+    requires part { AreCharacters (body_at work.now.forms (form_place form)) part.0 part.1 }
+    ensures { let text = body_text work.now.forms (form_place form) part in
+        MakesValue text false work.now result work.now }
+{
+    if work.free() < part.1 - part.0 {
+        return Made::Full;
+    }
+    Made::Body(form, part)
 }

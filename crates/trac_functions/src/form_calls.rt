@@ -17,7 +17,7 @@ ghost use Rattle.trac_forms.specs.Contents.{IsSound, form_place};
 ghost use Rattle.trac_functions.specs.Calls.{AreArguments, texts, Makes, Performs};
 ghost use Rattle.trac_functions.specs.Calls.{KeepsRoom};
 
-use crate::arguments::{Arguments, Made, put_part};
+use crate::arguments::{Arguments, Made, give_body, put_part};
 use trac_forms::{FormId, Work};
 
 // So many names of `dd` go one by one, since a form that stays is sooner brought forward twice in the
@@ -152,10 +152,16 @@ pub fn call_form(work: &mut Work, mut arguments: Arguments) -> Made
     let Some(form) = next_form(work, &mut arguments) else {
         return Made::Value;
     };
-    if work.fill_body(form, arguments.from, arguments.end) {
-        Made::Value
-    } else {
-        Made::Full
+    let from = work.pointer(form);
+    match work.next_gap(form, from) {
+        None => give_body(work, form, (from, work.body_len(form))),
+        Some(_) => {
+            if work.fill_body(form, arguments.from, arguments.end) {
+                Made::Value
+            } else {
+                Made::Full
+            }
+        }
     }
 }
 

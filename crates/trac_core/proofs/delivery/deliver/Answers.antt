@@ -1,4 +1,4 @@
-use Rattle.std.proofs.Common.{◌++◌, take, drop, sym, ap, ◌∙◌, arith}
+use Rattle.std.proofs.Common.{◌++◌, false, take, drop, sym, ap, ◌∙◌, arith}
 use Rattle.std.proofs.lemmas.List.{take-take}
 use Rattle.trac_space.specs.Texts.{flat_text, text_of_cells}
 use Rattle.trac_forms.specs.Contents.{Contents}
@@ -15,7 +15,7 @@ returns-then-is_scanned_again-clause-delivered c =
     c.cut_neutral.ensures.cut
     ∙ ap (λ (w : Contents). record w { neutral = take place w.neutral }) c.neutral_to_active.ensures.moved
     ∙ ap (λ cells. record old { neutral = take place (take from old.neutral); active = cells ++ old.active }) (sym (flat-bytes (drop from old.neutral) c.requires.value))
-    ∙ sym (delivered-active (mode_at old.neutral place) c.args.forced (text_of_cells (drop from old.neutral)) place (record old { neutral = take from old.neutral }) (sym c.is_scanned_again.ensures ∙ c.if-is_scanned_again.true))
+    ∙ sym (delivered-active (mode_at old.neutral place) false (text_of_cells (drop from old.neutral)) place (record old { neutral = take from old.neutral }) (sym c.is_scanned_again.ensures ∙ c.if-is_scanned_again.true))
 
 pub returns-else-is_scanned_again-clause-delivered : goal.returns-else-is_scanned_again-clause-delivered
 returns-else-is_scanned_again-clause-delivered c =
@@ -25,4 +25,4 @@ returns-else-is_scanned_again-clause-delivered c =
     c.drop_neutral.ensures.dropped
     ∙ ap (λ cells. record old { neutral = take place old.neutral ++ cells }) (sym (flat-bytes (drop from old.neutral) c.requires.value))
     ∙ ap (λ cells. record old { neutral = cells ++ flat_text (text_of_cells (drop from old.neutral)) }) (sym (take-take place from old.neutral (omega arith)))
-    ∙ sym (delivered-neutral (mode_at old.neutral place) c.args.forced (text_of_cells (drop from old.neutral)) place (record old { neutral = take from old.neutral }) (sym c.is_scanned_again.ensures ∙ c.if-is_scanned_again.false))
+    ∙ sym (delivered-neutral (mode_at old.neutral place) false (text_of_cells (drop from old.neutral)) place (record old { neutral = take from old.neutral }) (sym c.is_scanned_again.ensures ∙ c.if-is_scanned_again.false))

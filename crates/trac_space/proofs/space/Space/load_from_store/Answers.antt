@@ -1,0 +1,29 @@
+use Rattle.std.proofs.Common.{◌-◌, ◌++◌, ◌∙◌, ap, arith, refl, map, take, slice_range}
+use Rattle.std.proofs.lemmas.List.Edits.{length-between}
+use Rattle.trac_space.specs.Block.{seen_lists}
+use Rattle.trac_space.specs.Cells.{seen}
+use Rattle.trac_space.proofs.BlockChanges.{sizes, shown, maps, laid, parts-before, store-part, parts_of}
+use Rattle.trac_space.proofs.Seen.{seen-more_active}
+use Rattle.trac_space.proofs.space.Space.load_from_store.Goals as goal
+
+pub returns : goal.returns
+returns c =
+    let s = c.self.inside in
+    let h = c.self.invariant in
+    let size = sizes s h c.self.view_is in
+    let moved = parts-before s h c.args.a c.args.b (c.args.b - c.args.a) _ (omega arith) (omega arith) (omega arith) c.copy_few.ensures.after in
+    let part = slice_range s.cells.now c.args.a c.args.b in
+    let seen_part = ap (map seen) (store-part s h c.args.a c.args.b (omega arith) (omega arith)) in
+    rw (← c.self.view_is)
+    (shown _ moved ∙ seen-more_active (parts_of s) s.active (c.args.b - c.args.a) part (length-between s.cells.now c.args.a c.args.b (omega arith) ∙ omega arith)
+    ∙ ap (λ cells. record (seen_lists s.active (parts_of s)) { active = cells ++ take s.active (map seen (parts_of s).right) }) seen_part
+    ∙ simp maps)
+
+-- neutral is as it was
+pub invariant_of-self : goal.invariant_of-self
+invariant_of-self c =
+    let s = c.self.inside in
+    let h = c.self.invariant in
+    let size = sizes s h c.self.view_is in
+    let moved = parts-before s h c.args.a c.args.b (c.args.b - c.args.a) _ (omega arith) (omega arith) (omega arith) c.copy_few.ensures.after in
+    laid s _ h moved refl (omega arith) (omega arith) h.calls h.linked
