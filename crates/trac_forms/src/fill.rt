@@ -3,12 +3,15 @@ ghost use Rattle.std.specs.Prelude.{◌≡◌, ◌+◌, ◌≤◌, ◌<◌, ◌�
 ghost use Rattle.std.specs.Prelude.{length, IsTrue, Some};
 ghost use Rattle.std.specs.Bool.{OnTrue, OnFalse};
 ghost use Rattle.trac_language.specs.Text.{Text};
+ghost use Rattle.trac_language.specs.Store.{IsStore};
 ghost use Rattle.trac_space.specs.Lists.{used as cells_used, HasWay};
 ghost use Rattle.trac_space.specs.Texts.{flat_text, byte_cell_at};
 ghost use Rattle.trac_forms.specs.Contents.{used, IsSound, form_place};
 ghost use Rattle.trac_forms.specs.Arguments.{AreParted, HasList, filled_body, filled_cells};
+ghost use Rattle.trac_forms.specs.FlatForms.{flat_forms};
 ghost use Rattle.trac_forms.specs.Gaps.{gap_number, gap_ordinal};
 ghost use Rattle.trac_forms.specs.Index.{IsKept};
+ghost use Rattle.trac_forms.specs.Stored.{forms_in, shown, start_of};
 
 use crate::arguments::{Arguments, list_parts};
 use crate::item::FormId;
@@ -32,16 +35,87 @@ impl<'a> Work<'a> {
         ensures full { OnFalse result (self.new ≡ self.old) }
         ensures sound { IsSound self.new }
     {
-        let start = place_of(&self.space, self.last, self.start, form.0);
-        let (name, body, pointer) = heads(&self.space, start);
-        let place = start + 3 + name;
-        fill_items(&mut self.space, place + pointer, place + body, first, end)
+        if self.last != form.0 {
+            return self.fill_other(form, first, end);
+        }
+        fill_form(&mut self.space, form.0, self.start, first, end)
     }
+
+    // The same, where another form was used last.
+    #[inline(never)]
+    fn fill_other(&mut self, form: FormId, first: u32, end: u32) -> bool
+        requires known { form.0 < length self.old.forms }
+        requires arguments { AreParted self.old.neutral first end }
+        ensures put { let text = filled_body self.old form.0 first end in
+            IsTrue result ↔ (used self.old + length text ≤ self.old.room) }
+        ensures last { let text = filled_body self.old form.0 first end in
+            OnTrue result (self.new ≡ record self.old {
+              neutral = self.old.neutral ++ flat_text text;
+            }) }
+        ensures full { OnFalse result (self.new ≡ self.old) }
+        ensures sound { IsSound self.new }
+    {
+        let start = place_of(&self.space, self.last, self.start, form.0);
+        fill_form(&mut self.space, form.0, start, first, end)
+    }
+}
+
+// The same of form `k`, which begins at a place of the store.
+#[inline(always)]
+fn fill_form(space: &mut Space, k: u32, start: u32, first: u32, end: u32) -> bool
+    requires whole { flat_forms (forms_in space.old.store) ≡ space.old.store }
+    requires bounded { length space.old.store ≤ 16777216 }
+    requires forms { IsStore (forms_in space.old.store) }
+    requires known { k < length (forms_in space.old.store) }
+    requires begins { start ≡ start_of (forms_in space.old.store) k }
+    requires arguments { AreParted space.old.neutral first end }
+    ensures put { let text = filled_body (shown space.old) k first end in
+        IsTrue result ↔ (cells_used space.old + length text ≤ space.old.room) }
+    ensures last { let text = filled_body (shown space.old) k first end in
+        OnTrue result (space.new ≡ record space.old {
+          neutral = space.old.neutral ++ flat_text text;
+          spare = space.new.spare;
+        }) }
+    ensures full { OnFalse result (space.new ≡ record space.old { spare = space.new.spare }) }
+    ensures kept { IsKept space.old.spare space.new.spare }
+{
+    let (name, body, pointer) = heads(space, start);
+    let place = start + 3 + name;
+    fill_items(space, place + pointer, place + body, first, end)
 }
 
 // The same with the items in the store from place `from` up to `stop`.
 #[inline(always)]
 fn fill_items(space: &mut Space, from: u32, stop: u32, first: u32, end: u32) -> bool
+    requires order { from ≤ stop }
+    requires within { stop ≤ length space.old.store }
+    requires bounded { length space.old.store ≤ 16777216 }
+    requires arguments { AreParted space.old.neutral first end }
+    ensures put { let text = filled_cells space.old from stop first end in
+        IsTrue result ↔ (cells_used space.old + length text ≤ space.old.room) }
+    ensures last { let text = filled_cells space.old from stop first end in
+        OnTrue result (space.new ≡ record space.old {
+          neutral = space.old.neutral ++ flat_text text;
+          spare = space.new.spare;
+        }) }
+    ensures full { OnFalse result (space.new ≡ record space.old { spare = space.new.spare }) }
+    ensures kept { IsKept space.old.spare space.new.spare }
+{
+    // hands on that the lists fit
+    let _way = space.way();
+    if from == stop {
+        return true;
+    }
+    let gap = from + space.characters_from(from, stop);
+    if gap == stop {
+        return space.copy_short(from, stop);
+    }
+    fill_gaps(space, from, stop, first, end)
+}
+
+// The same, where there may be gaps among them.
+#[inline(never)]
+fn fill_gaps(space: &mut Space, from: u32, stop: u32, first: u32, end: u32) -> bool
     requires order { from ≤ stop }
     requires within { stop ≤ length space.old.store }
     requires bounded { length space.old.store ≤ 16777216 }
@@ -62,7 +136,7 @@ fn fill_items(space: &mut Space, from: u32, stop: u32, first: u32, end: u32) -> 
 
 // The same where a list of the arguments and the text fit into cells that are in no list. False
 // where they don't.
-#[inline(never)]
+#[inline(always)]
 fn fill_beside_list(space: &mut Space, from: u32, stop: u32, first: u32, end: u32) -> bool
     requires order { from ≤ stop }
     requires within { stop ≤ length space.old.store }

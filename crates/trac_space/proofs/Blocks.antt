@@ -1,5 +1,5 @@
 -- Characters that are put once more by blocks, before they are looked at.
-use Rattle.std.proofs.Common.{◌≡◌, ℕ, ◌+◌, ◌<◌, ◌≤◌, false, All, List, ◌++◌, length, take, drop, get_or, sym, ap, ◌∙◌, arith, rules}
+use Rattle.std.proofs.Common.{◌≡◌, ℕ, ◌+◌, ◌-◌, ◌<◌, ◌≤◌, false, All, List, ◌++◌, length, take, drop, get_or, sym, ap, ◌∙◌, arith, rules}
 use Rattle.std.specs.List.{copy_within}
 use Rattle.std.proofs.Math.Seq.{take-add}
 use Rattle.std.proofs.lemmas.List.{places, same_lists}
@@ -37,3 +37,13 @@ stop-on was now start to n k j long is apart stop =
     let place : start + k + j ≡ start + (k + j) = omega arith in
     let at : get_or now (start + k + j) Comma ≡ get_or was (start + k + j) Comma = rw is (grind (arith, places)) in
     rw place at (sym (ap is_byte_cell at) ∙ stop)
+
+-- to a place behind: k cells are there, and the last m follow, of which some may be there
+pub copied-last : {X : Type 0} (was now after : List X) (start to k m n : ℕ) → k ≤ n → m ≤ n → n ≤ k + m → start + n ≤ to → to + n ≤ length was → now ≡ paste was to (drop start was) k → after ≡ copy_within now (start + (n - m)) (start + (n - m) + m) (to + (n - m)) → after ≡ copy_within was start (start + n) to
+copied-last was now after start to k m n front last all apart within is moved =
+    rw (moved, is) (same_lists _ _ (search (rules, places)) (λ i d less. grind (arith, places)))
+
+-- the first k cells are there
+pub copied-first : {X : Type 0} (was after : List X) (start to k : ℕ) → start + k ≤ to → to + k ≤ length was → after ≡ copy_within was start (start + k) to → after ≡ paste was to (drop start was) k
+copied-first was after start to k apart within moved =
+    rw moved (same_lists _ _ (search (rules, places)) (λ i d less. grind (arith, places)))

@@ -1,7 +1,8 @@
 -- Characters that are put once more at a place behind, one after the other.
 use Rattle.std.proofs.Common.{◌≡◌, ℕ, ◌+◌, ◌<◌, ◌≤◌, true, false, All, List, ◌++◌, length, take, drop, map, get_or, slice_range, refl, ◌-◌, ap, ◌∙◌, arith, rules}
-use Rattle.std.proofs.lemmas.List.{places, same_lists, length-drop, length-take-le, get_or-take, get_or-map, get_or-drop, take_more, take-map, drop-map}
-use Rattle.std.proofs.lemmas.List.Elements.{All-push, All-map}
+use Rattle.std.proofs.lemmas.List.{places, same_lists, length-drop, length-take-le, get_or-take, get_or-map, get_or-drop, take_more, take-map, drop-map, drop-drop}
+use Rattle.std.proofs.Math.Seq.{take-add}
+use Rattle.std.proofs.lemmas.List.Elements.{All-append, All-push, All-map}
 use Rattle.trac_space.specs.declared.cell.Cell.{Cell}
 use Rattle.trac_space.specs.declared.cell.Cell.TheVariants.{Byte, Call, Comma, Gap, Head}
 use Rattle.trac_space.specs.Cells.{seen, IsNoCall, NoCall}
@@ -20,6 +21,11 @@ tested-byte cell is = rw is tt
 pub bytes-more : (was : List Cell) (start k : ℕ) (d : Cell) → start + k < length was → All IsByte (take k (drop start was)) → IsByte (get_or was (start + k) d) → All IsByte (take (k + 1) (drop start was))
 bytes-more was start k d within bytes next =
     rw (take_more (drop start was) k d (omega (arith, length-drop start was))) (All-push IsByte _ _ bytes (rw get_or-drop next))
+
+-- characters, and others behind them
+pub bytes-join : (cells : List Cell) (start k j : ℕ) → All IsByte (take k (drop start cells)) → All IsByte (take j (drop (start + k) cells)) → All IsByte (take (k + j) (drop start cells))
+bytes-join cells start k j bytes more =
+    rw take-add (All-append IsByte _ _ bytes (rw drop-drop more))
 
 -- links don't count
 pub tested-seen : (cell : Cell) → is_byte_cell (seen cell) ≡ is_byte_cell cell

@@ -266,6 +266,40 @@ pub(crate) fn copy_characters(
     count + copy_characters_each(cells, start + count, to + count, most - count)
 }
 
+// How many characters stand from a place on, at most so many.
+#[inline(always)]
+pub(crate) fn characters_from(cells: &[Cell], start: usize, most: usize) -> usize
+    requires { start + most ≤ length cells.now }
+    ensures few { result ≤ most }
+    ensures bytes { All IsByte (take result (drop start cells.now)) }
+    ensures stop { result < most → byte_cell_at cells.now (start + result) ≡ false }
+{
+    let mut count = 0;
+    while most - count >= BLOCK {
+        let more = characters_in_block(cells, start + count);
+        count += more;
+        if more < BLOCK {
+            return count;
+        }
+    }
+    count + characters_each(cells, start + count, most - count)
+}
+
+// The same, one by one.
+#[inline]
+fn characters_each(cells: &[Cell], start: usize, most: usize) -> usize
+    requires { start + most ≤ length cells.now }
+    ensures few { result ≤ most }
+    ensures bytes { All IsByte (take result (drop start cells.now)) }
+    ensures stop { result < most → byte_cell_at cells.now (start + result) ≡ false }
+{
+    let mut count = 0;
+    while count < most && is_character(&cells[start + count]) {
+        count += 1;
+    }
+    count
+}
+
 // How many characters begin the block of cells at a place.
 #[inline]
 fn characters_in_block(cells: &[Cell], at: usize) -> usize
@@ -292,6 +326,77 @@ fn copy_block(cells: &mut [Cell], start: usize, distance: usize)
 {
     let to = start + distance;
     let end = start + BLOCK;
+    let n = end - start;
+    let (front, back) = cells.split_at_mut(to);
+    back[..n].copy_from_slice(&front[start..end]);
+}
+
+// As `copy_within`, to a place so far behind that the places are apart. A move of eight cells or
+// more goes by blocks, of which the last may begin in the one before it; a shorter one by two
+// halves, which may do so too.
+#[inline(always)]
+pub(crate) fn copy_behind(cells: &mut [Cell], start: usize, distance: usize, n: usize)
+    requires apart { n ≤ distance }
+    requires room { start + distance + n ≤ length cells.old }
+    ensures len { length cells.new ≡ length cells.old }
+    ensures after { (to : ℕ) → to ≡ start + distance →
+        cells.new ≡ copy_within cells.old start (start + n) to }
+{
+    if n >= BLOCK {
+        copy_blocks(cells, start, distance, n);
+    } else if n >= 4 {
+        copy_halves(cells, start, distance, n, 4);
+    } else if n >= 2 {
+        copy_halves(cells, start, distance, n, 2);
+    } else if n == 1 {
+        cells[start + distance] = cells[start];
+    }
+}
+
+// The same, of a block or more.
+#[inline(always)]
+fn copy_blocks(cells: &mut [Cell], start: usize, distance: usize, n: usize)
+    requires some { 8 ≤ n }
+    requires apart { n ≤ distance }
+    requires room { start + distance + n ≤ length cells.old }
+    ensures len { length cells.new ≡ length cells.old }
+    ensures after { (to : ℕ) → to ≡ start + distance →
+        cells.new ≡ copy_within cells.old start (start + n) to }
+{
+    let mut done = 0;
+    while n - done > BLOCK {
+        copy_block(cells, start + done, distance);
+        done += BLOCK;
+    }
+    copy_block(cells, start + (n - BLOCK), distance);
+}
+
+// The same, of as many as a half has or twice as many at most.
+#[inline(always)]
+fn copy_halves(cells: &mut [Cell], start: usize, distance: usize, n: usize, half: usize)
+    requires some { half ≤ n }
+    requires few { n ≤ half + half }
+    requires apart { n ≤ distance }
+    requires room { start + distance + n ≤ length cells.old }
+    ensures len { length cells.new ≡ length cells.old }
+    ensures after { (to : ℕ) → to ≡ start + distance →
+        cells.new ≡ copy_within cells.old start (start + n) to }
+{
+    copy_half(cells, start, distance, half);
+    copy_half(cells, start + (n - half), distance, half);
+}
+
+// Makes so many cells the same as others that stand so far before, and apart.
+#[inline(always)]
+fn copy_half(cells: &mut [Cell], start: usize, distance: usize, n: usize)
+    requires apart { n ≤ distance }
+    requires room { start + distance + n ≤ length cells.old }
+    ensures len { length cells.new ≡ length cells.old }
+    ensures after { (to : ℕ) → to ≡ start + distance →
+        cells.new ≡ copy_within cells.old start (start + n) to }
+{
+    let to = start + distance;
+    let end = start + n;
     let n = end - start;
     let (front, back) = cells.split_at_mut(to);
     back[..n].copy_from_slice(&front[start..end]);
