@@ -25,12 +25,12 @@ use Rattle.trac_space.specs.declared.cell.Cell.TheVariants.{Byte, Call, Comma, G
 use Rattle.trac_space.specs.Texts.{flat_text, text_of_cells, character_of, IsByte}
 use Rattle.trac_space.specs.Calls.{IsLastCall}
 use Rattle.trac_space.proofs.Texts.{text_of_cells-append}
-use Rattle.trac_forms.specs.Contents.{Contents, used, IsSound, part_text, form_place}
+use Rattle.trac_forms.specs.Contents.{Contents, used, IsSound}
 use Rattle.trac_devices.specs.Devices.{Stream}
 use Rattle.trac_functions.specs.declared.arguments.Made.{Made}
-use Rattle.trac_functions.specs.declared.arguments.Made.TheVariants.{Full, Value, Part, Body, Defined, Over}
+use Rattle.trac_functions.specs.declared.arguments.Made.TheVariants.{Full, Value, Placed, Defined, Over}
 use Rattle.trac_functions.specs.Flat.{texts_of, Neutral, no_neutral, neutral_of, memory_with, memory_of, mode_of, mode_at, is_active_mode, arguments_at}
-use Rattle.trac_functions.specs.Calls.{texts_from, world, IsValue, IsThere, IsDefined, Makes, body_text}
+use Rattle.trac_functions.specs.Calls.{texts_from, world, IsValue, IsPlaced, IsDefined, Makes}
 use Rattle.trac_functions.proofs.FlatLemmas.{with_cells-append, with_cells-text, text_of-flat, neutral_of-innermost, call_at, opened, texts_of-some, grown-mode, arguments-call_at, size-used}
 use Rattle.trac_functions.proofs.ArgumentLemmas.{bytes-flat}
 use Rattle.trac_core.specs.Performed.{is_plain, performed_by, performs}
@@ -278,7 +278,7 @@ delivered-value w mid new place end value forced forms innermost stands end_is n
     ∙ ap (λ n. delivered (mode_at w.neutral place) forced value place (record mid { neutral = n })) before
     ∙ ap (λ (c : Contents). delivered (mode_at w.neutral place) forced value place (record c { neutral = w.neutral })) stands
 
-module _ (w mid : Contents) (place : ℕ) (f : Function) (rest : List Text) (names : function_named (argument (arguments_at w.neutral place) 0) ≡ Some f) (innermost : IsLastCall w.neutral place) (plain : is_plain f ≡ true) (rest_is : rest ≡ drop 1 (arguments_at w.neutral place)) where
+module _ (w mid : Contents) (place : ℕ) (f : Function) (rest : List Text) (scanned : Bool) (names : function_named (argument (arguments_at w.neutral place) 0) ≡ Some f) (innermost : IsLastCall w.neutral place) (plain : is_plain f ≡ true) (rest_is : rest ≡ drop 1 (arguments_at w.neutral place)) (mode_is : scanned ≡ is_active_mode (mode_at w.neutral place)) where
   -- a call that builds a value which stands at the end of neutral
   pub tried-value : (new : Contents) (end needed : ℕ) (value : Text) (forced : Bool) → IsValue f (argument (arguments_at w.neutral place) 0 ∷ rest) w mid forced value → end ≡ length w.neutral → new ≡ delivered (mode_at mid.neutral place) forced (text_of_cells (drop end mid.neutral)) place (record mid { neutral = take end mid.neutral }) → needed ≡ used w + (length mid.neutral - end) → (meta : ℕ) (source : Stream) (written : Text) → TriedCall place (scene w meta source written) None needed (scene new meta source written)
   tried-value new end needed value forced is end_is new_is needs meta source written =
@@ -299,17 +299,18 @@ module _ (w mid : Contents) (place : ℕ) (f : Function) (rest : List Text) (nam
         read_all = λ reads. absurd (let no_reading = plain-reads f plain in let none = ap (λ b. b && not (list_any (λ c. c == meta) source.bytes)) no_reading in cc);
       })
 
-  -- a call whose value stands there already
-  pub tried-there : (new : Contents) (value : Text) (forced : Bool) (size : ℕ) → IsThere f (argument (arguments_at w.neutral place) 0 ∷ rest) w mid forced value size → new ≡ delivered (mode_at w.neutral place) forced value place w → (meta : ℕ) (source : Stream) (written : Text) → TriedCall place (scene w meta source written) None (used w + size) (scene new meta source written)
-  tried-there new value forced size is new_is meta source written =
+  -- a call whose value stands before the active string already
+  pub tried-placed : (value : Text) (forced : Bool) (size : ℕ) → IsPlaced f (argument (arguments_at w.neutral place) 0 ∷ rest) scanned w mid forced value size → (meta : ℕ) (source : Stream) (written : Text) → TriedCall place (scene w meta source written) None (used w + size) (scene (closed mid place) meta source written)
+  tried-placed value forced size is meta source written =
       let all = whole-arguments w.neutral place rest rest_is in
       let here = world w.forms meta (ending source.bytes) in
       let built_is = sym (ap (λ args. built (Some f) args here) (sym all) ∙ is.valued.builds meta (ending source.bytes)) in
+      let goes : (forced || is_active_mode (mode_at w.neutral place)) ≡ true = ap (λ b. forced || b) (sym mode_is) ∙ is.goes in
       let fits = is.fits in
-      tried-quiet w new place (Some f) meta meta source source written (used w + size) value forced w.forms names
+      tried-quiet w (closed mid place) place (Some f) meta meta source source written (used w + size) value forced mid.forms names
       (record {
         means = ap (λ args. meaning_of f args here) (sym all) ∙ is.valued.means meta (ending source.bytes);
-        stands = new_is;
+        stands = ap (λ (c : Contents). closed c place) is.stands ∙ sym (delivered-active (mode_at w.neutral place) forced value place (record w { forms = mid.forms }) goes);
         needs = ap (λ n. used w + n) (sym is.long ∙ built_is);
         fits = omega arith;
         stays_ended = λ e. e;
@@ -334,7 +335,7 @@ module _ (w mid : Contents) (place : ℕ) (f : Function) (rest : List Text) (nam
       })
 
   -- a call that doesn't fit
-  pub tried-too-much : (new : Contents) → Makes f (argument (arguments_at w.neutral place) 0 ∷ rest) w Full mid → (meta : ℕ) (source : Stream) (written : Text) → TriedCall place (scene w meta source written) (Some Workspace) 0 (scene new meta source written)
+  pub tried-too-much : (new : Contents) → Makes f (argument (arguments_at w.neutral place) 0 ∷ rest) scanned w Full mid → (meta : ℕ) (source : Stream) (written : Text) → TriedCall place (scene w meta source written) (Some Workspace) 0 (scene new meta source written)
   tried-too-much new is meta source written =
       let all = whole-arguments w.neutral place rest rest_is in
       let here = world w.forms meta (ending source.bytes) in
@@ -343,11 +344,10 @@ module _ (w mid : Contents) (place : ℕ) (f : Function) (rest : List Text) (nam
       tried-full w new place (Some f) meta source source written 0 names (omega arith)
 
   -- whatever the function makes of the call
-  pub answers-made : (made : Made) → Makes f (argument (arguments_at w.neutral place) 0 ∷ rest) w made mid → (meta : ℕ) (source : Stream) (written : Text) → AnswersCall place (scene w meta source written) made (scene mid meta source written)
+  pub answers-made : (made : Made) → Makes f (argument (arguments_at w.neutral place) 0 ∷ rest) scanned w made mid → (meta : ℕ) (source : Stream) (written : Text) → AnswersCall place (scene w meta source written) made (scene mid meta source written)
   answers-made Full is meta source written = tried-too-much mid is meta source written
   answers-made Value is meta source written = tried-value (settled Value place (length w.neutral) mid) (length w.neutral) (used w + (length mid.neutral - length w.neutral)) is.0 false is.1 refl refl refl meta source written
-  answers-made (Part part forced) is meta source written = tried-there (settled (Part part forced) place (length w.neutral) mid) (part_text w.neutral part.0 part.1) forced (part.1 - part.0) is.1 (ap (settled (Part part forced) place (length w.neutral)) is.1.same) meta source written
-  answers-made (Body form part) is meta source written = tried-there (settled (Body form part) place (length w.neutral) mid) (body_text w.forms (form_place form) part) false (part.1 - part.0) is.2 (ap (settled (Body form part) place (length w.neutral)) is.2.same) meta source written
+  answers-made (Placed size) is meta source written = tried-placed is.0 is.1.0 size is.1.1 meta source written
   answers-made (Defined cells) is meta source written = tried-defined (closed mid place) (used w + cells) cells is refl refl meta source written
   answers-made (Over fate) is meta source written = absurd is
 
@@ -366,12 +366,8 @@ answers-nothing w place names sound meta source written =
     })
 
 -- no cell stands at the place
-pub mode-none : (forced : Bool) (neutral : List Cell) (place : ℕ) → None ≡ slice_get neutral place → true ≡ (forced || is_active_mode (mode_at neutral place))
-mode-none forced neutral place e = sym (ap (λ m. forced || is_active_mode (mode_of m)) (sym (unwrap_or-slice_get neutral place (Byte 0)) ∙ ap (λ o. unwrap_or o (Byte 0)) (sym e)) ∙ go forced)
-  where
-    go : (b : Bool) → (b || true) ≡ true
-    go true = refl
-    go false = refl
+pub mode-none : (neutral : List Cell) (place : ℕ) → None ≡ slice_get neutral place → true ≡ is_active_mode (mode_at neutral place)
+mode-none neutral place e = sym (ap (λ m. is_active_mode (mode_of m)) (sym (unwrap_or-slice_get neutral place (Byte 0)) ∙ ap (λ o. unwrap_or o (Byte 0)) (sym e)))
 
 -- a text that was put behind what was there
 pub text-stands : (w mid : Contents) (forms : List Form) (text : Text) → mid ≡ record w { forms = forms; neutral = w.neutral ++ flat_text text } → used w + length text ≤ w.room → IsValueFrom (used w) (length w.neutral) mid
@@ -390,46 +386,43 @@ value-stands : (f : Function) (args : List Text) (w mid : Contents) (forced : Bo
 value-stands f args w mid forced value is = text-stands w mid mid.forms value is.stands is.fits
 
 -- what stands there, whatever a function makes of its call
-pub stands-made : (f : Function) (args : List Text) (w mid : Contents) (made : Made) → Makes f args w made mid → Stands made (used w) (length w.neutral) mid
-stands-made f args w mid Full is = tt
-stands-made f args w mid Value is = value-stands f args w mid false is.0 is.1
-stands-made f args w mid (Part part forced) is =
-    let there = is.1 in
-    rw there.same (is.0, record { end = refl; fits = there.fits; room = there.fits })
-stands-made f args w mid (Body form part) is =
-    let there = is.2 in
-    rw there.same (is.0, is.1, record { end = refl; fits = there.fits; room = there.fits })
-stands-made f args w mid (Defined cells) is =
+pub stands-made : (f : Function) (args : List Text) (scanned : Bool) (w mid : Contents) (made : Made) → Makes f args scanned w made mid → Stands made (used w) (length w.neutral) mid
+stands-made f args scanned w mid Full is = tt
+stands-made f args scanned w mid Value is = value-stands f args w mid false is.0 is.1
+stands-made f args scanned w mid (Placed size) is =
+    let placed = is.1.1 in
+    let fits = placed.fits in
+    let neutral = ap (λ (w : Contents). length w.neutral) placed.stands in
+    let room = ap (λ (w : Contents). w.room) placed.stands in
+    record { within = omega arith; fits = omega arith }
+stands-made f args scanned w mid (Defined cells) is =
     let fits = is.fits in
     let neutral = ap (λ (w : Contents). length w.neutral) is.stands in
     let room = ap (λ (w : Contents). w.room) is.stands in
     record { within = omega arith; fits = omega arith }
-stands-made f args w mid (Over fate) is = tt
+stands-made f args scanned w mid (Over fate) is = tt
 
 -- a function without devices ends no run
-pub no-failure-made : (f : Function) (args : List Text) (w mid : Contents) (made : Made) → Makes f args w made mid → (input_failures None (fate_after made) ≡ 0) × ((output_failures None (fate_after made) ≡ 0) × (made ≢ Over Steps))
-no-failure-made f args w mid Full is = (refl, (refl, λ e. absurd cc))
-no-failure-made f args w mid Value is = (refl, (refl, λ e. absurd cc))
-no-failure-made f args w mid (Part part forced) is = (refl, (refl, λ e. absurd cc))
-no-failure-made f args w mid (Body form part) is = (refl, (refl, λ e. absurd cc))
-no-failure-made f args w mid (Defined cells) is = (refl, (refl, λ e. absurd cc))
-no-failure-made f args w mid (Over fate) is = absurd is
+pub no-failure-made : (f : Function) (args : List Text) (scanned : Bool) (w mid : Contents) (made : Made) → Makes f args scanned w made mid → (input_failures None (fate_after made) ≡ 0) × ((output_failures None (fate_after made) ≡ 0) × (made ≢ Over Steps))
+no-failure-made f args scanned w mid Full is = (refl, (refl, λ e. absurd cc))
+no-failure-made f args scanned w mid Value is = (refl, (refl, λ e. absurd cc))
+no-failure-made f args scanned w mid (Placed size) is = (refl, (refl, λ e. absurd cc))
+no-failure-made f args scanned w mid (Defined cells) is = (refl, (refl, λ e. absurd cc))
+no-failure-made f args scanned w mid (Over fate) is = absurd is
 
 -- what ends the run, or isn't done, was made of nothing but too few cells
-pub only-full : (f : Function) (args : List Text) (w mid : Contents) (made : Made) → Makes f args w made mid → fate_after made ≢ None → made ≡ Full
-only-full f args w mid Full is some = refl
-only-full f args w mid Value is some = absurd (some refl)
-only-full f args w mid (Part part forced) is some = absurd (some refl)
-only-full f args w mid (Body form part) is some = absurd (some refl)
-only-full f args w mid (Defined cells) is some = absurd (some refl)
-only-full f args w mid (Over fate) is some = absurd is
+pub only-full : (f : Function) (args : List Text) (scanned : Bool) (w mid : Contents) (made : Made) → Makes f args scanned w made mid → fate_after made ≢ None → made ≡ Full
+only-full f args scanned w mid Full is some = refl
+only-full f args scanned w mid Value is some = absurd (some refl)
+only-full f args scanned w mid (Placed size) is some = absurd (some refl)
+only-full f args scanned w mid (Defined cells) is some = absurd (some refl)
+only-full f args scanned w mid (Over fate) is some = absurd is
 
 -- and then nothing is settled
 pub unsettled : (made : Made) (place from : ℕ) (w : Contents) → fate_after made ≢ None → settled made place from w ≡ w
 unsettled Full place from w some = refl
 unsettled Value place from w some = absurd (some refl)
-unsettled (Part part forced) place from w some = absurd (some refl)
-unsettled (Body form part) place from w some = absurd (some refl)
+unsettled (Placed cells) place from w some = absurd (some refl)
 unsettled (Defined cells) place from w some = absurd (some refl)
 unsettled (Over fate) place from w some = refl
 

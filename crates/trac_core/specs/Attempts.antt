@@ -17,15 +17,14 @@ use Rattle.trac_space.specs.declared.cell.Cell.{Cell}
 use Rattle.trac_space.specs.declared.cell.Cell.TheVariants.{Byte}
 use Rattle.trac_space.specs.Calls.{IsLastCall}
 use Rattle.trac_space.specs.Texts.{flat_text, text_of_cells, IsByte}
-use Rattle.trac_forms.specs.Contents.{Contents, used, IsSound, IsTextPart, part_text, body_at}
-use Rattle.trac_forms.specs.Contents.{form_place}
+use Rattle.trac_forms.specs.Contents.{Contents, used, IsSound}
 use Rattle.trac_devices.specs.Devices.{Stream, Sent}
 use Rattle.trac_functions.specs.declared.arguments.Arguments.{Arguments}
 use Rattle.trac_functions.specs.declared.arguments.Made.{Made}
-use Rattle.trac_functions.specs.declared.arguments.Made.TheVariants.{Full, Value, Part, Body, Defined}
+use Rattle.trac_functions.specs.declared.arguments.Made.TheVariants.{Full, Value, Placed, Defined}
 use Rattle.trac_functions.specs.declared.arguments.Made.TheVariants.{Over}
 use Rattle.trac_functions.specs.Flat.{memory_of, mode_at, arguments_at}
-use Rattle.trac_functions.specs.Calls.{texts, AreCharacters, body_text}
+use Rattle.trac_functions.specs.Calls.{texts}
 use Rattle.trac_core.specs.Performed.{reads_input, prints_output}
 use Rattle.trac_core.specs.Machine.{MachineState, moment, state_with, Answers, counted}
 use Rattle.trac_core.specs.Machine.{input_failures, output_failures}
@@ -107,21 +106,18 @@ delivered Neutral false value place w =
 
 -- the same where the value stands in the neutral string from a place on, and the call's mark, whose
 -- mode counts, at another
-abbrev pub value_delivered : (place from : ℕ) → Bool → Contents → Contents
-value_delivered place from forced w =
-    delivered (mode_at w.neutral place) forced (text_of_cells (drop from w.neutral)) place
+abbrev pub value_delivered : (place from : ℕ) → Contents → Contents
+value_delivered place from w =
+    delivered (mode_at w.neutral place) false (text_of_cells (drop from w.neutral)) place
     (record w { neutral = take from w.neutral })
 
 -- what a function's answer comes to: the call whose mark stands at the place leaves, and the value,
--- which stands from another place on or is a part that is told, is delivered; a step that isn't
+-- which stands from another place on if it isn't placed already, is delivered; a step that isn't
 -- done, or that ends the run, leaves all as it is
 abbrev pub settled : Made → (place from : ℕ) → Contents → Contents
 settled Full place from w = w
-settled Value place from w = value_delivered place from false w
-settled (Part part forced) place from w =
-    delivered (mode_at w.neutral place) forced (part_text w.neutral part.0 part.1) place w
-settled (Body form part) place from w =
-    delivered (mode_at w.neutral place) false (body_text w.forms (form_place form) part) place w
+settled Value place from w = value_delivered place from w
+settled (Placed cells) place from w = record w { neutral = take place w.neutral }
 settled (Defined cells) place from w = record w { neutral = take place w.neutral }
 settled (Over fate) place from w = w
 
@@ -129,18 +125,15 @@ settled (Over fate) place from w = w
 abbrev pub fate_after : Made → Option Fate
 fate_after Full = Some Workspace
 fate_after Value = None
-fate_after (Part part forced) = None
-fate_after (Body form part) = None
+fate_after (Placed cells) = None
 fate_after (Defined cells) = None
 fate_after (Over fate) = Some fate
 
--- the cells that it needed, where so many were used before and the value stands from a place on or
--- is a part that is told
+-- the cells that it needed, where so many were used before and the value stands from a place on
 abbrev pub need_after : Made → (before from : ℕ) → Contents → ℕ
 need_after Full before from w = 0
 need_after Value before from w = before + (length w.neutral - from)
-need_after (Part part forced) before from w = before + (part.1 - part.0)
-need_after (Body form part) before from w = before + (part.1 - part.0)
+need_after (Placed cells) before from w = before + cells
 need_after (Defined cells) before from w = before + cells
 need_after (Over fate) before from w = used w
 
@@ -150,14 +143,7 @@ pub record IsValueFrom (before from : ℕ) (w : Contents) : Type 0 where
   pub text : All IsByte (drop from w.neutral)
   pub fits : before + (length w.neutral - from) ≤ w.room
 
--- a value of so many characters fits, with the cells that were used before, which are those that
--- are used, and neutral reaches to a place
-pub record HasRoomFor (before from size : ℕ) (w : Contents) : Type 0 where
-  pub end : from ≡ length w.neutral
-  pub fits : before + size ≤ w.room
-  pub room : used w + size ≤ w.room
-
--- what was built of forms fits, and neutral is no shorter than a place
+-- what was built fits, and neutral is no shorter than a place
 pub record IsBuilt (before from cells : ℕ) (w : Contents) : Type 0 where
   pub within : from ≤ length w.neutral
   pub fits : before + cells ≤ w.room
@@ -166,12 +152,7 @@ pub record IsBuilt (before from cells : ℕ) (w : Contents) : Type 0 where
 abbrev pub Stands : Made → (before from : ℕ) → Contents → Type 0
 Stands Full before from w = ⊤
 Stands Value before from w = IsValueFrom before from w
-Stands (Part part forced) before from w =
-    IsTextPart w.neutral part.0 part.1 × HasRoomFor before from (part.1 - part.0) w
-Stands (Body form part) before from w =
-    (form_place form < length w.forms)
-    × AreCharacters (body_at w.forms (form_place form)) part.0 part.1
-    × HasRoomFor before from (part.1 - part.0) w
+Stands (Placed cells) before from w = IsBuilt before from cells w
 Stands (Defined cells) before from w = IsBuilt before from cells w
 Stands (Over fate) before from w = ⊤
 

@@ -1,12 +1,14 @@
 //! Whole forms, their gaps filled, put at the end of neutral (Mooers 1966).
 ghost use Rattle.std.specs.Prelude.{◌≡◌, ◌+◌, ◌≤◌, ◌<◌, ◌↔◌, ◌++◌, [], true, false};
-ghost use Rattle.std.specs.Prelude.{length, IsTrue, Some};
+ghost use Rattle.std.specs.Prelude.{length, IsTrue, MatchOption, Some};
 ghost use Rattle.std.specs.Bool.{OnTrue, OnFalse};
 ghost use Rattle.trac_language.specs.Text.{Text};
 ghost use Rattle.trac_language.specs.Store.{IsStore};
-ghost use Rattle.trac_space.specs.Lists.{used as cells_used, HasWay};
+ghost use Rattle.trac_language.specs.Form.{text_of};
+ghost use Rattle.trac_space.specs.Lists.{used as cells_used, HasWay, with_way};
 ghost use Rattle.trac_space.specs.Texts.{flat_text, byte_cell_at};
 ghost use Rattle.trac_forms.specs.Contents.{used, IsSound, form_place};
+ghost use Rattle.trac_forms.specs.Loading.{called_part, AreCharacters, IsLoaded};
 ghost use Rattle.trac_forms.specs.Arguments.{AreParted, HasList, filled_body, filled_cells};
 ghost use Rattle.trac_forms.specs.FlatForms.{flat_forms};
 ghost use Rattle.trac_forms.specs.Gaps.{gap_number, gap_ordinal};
@@ -60,7 +62,51 @@ impl<'a> Work<'a> {
     }
 }
 
+impl<'a> Work<'a> {
+    /// Puts the characters of the form's body from its pointer on before active, where no gap stands
+    /// among them and they fit, and gives how many they are. None where it does not put them.
+    #[inline(always)]
+    pub fn load_body(&mut self, form: FormId) -> Option<u32>
+        requires known { form_place form < length self.old.forms }
+        ensures loaded { let body = called_part self.old.forms (form_place form) in
+            MatchOption result (self.new ≡ self.old)
+            (λ n. IsLoaded self.old self.new body n) }
+        ensures sound { IsSound self.new }
+    {
+        let start = place_of(&self.space, self.last, self.start, form.0);
+        load_form(&mut self.space, form.0, start)
+    }
+}
+
 // The same of form `k`, which begins at a place of the store.
+#[inline(always)]
+fn load_form(space: &mut Space, k: u32, start: u32) -> Option<u32>
+    requires whole { flat_forms (forms_in space.old.store) ≡ space.old.store }
+    requires bounded { length space.old.store ≤ 16777216 }
+    requires forms { IsStore (forms_in space.old.store) }
+    requires known { k < length (forms_in space.old.store) }
+    requires begins { start ≡ start_of (forms_in space.old.store) k }
+    ensures { let body = called_part (forms_in space.old.store) k in
+        MatchOption result (space.new ≡ space.old)
+        (λ n. AreCharacters body × (length body ≡ n)
+        × (cells_used space.old + n ≤ space.old.room)
+        × (space.new ≡ record (with_way n space.old) {
+          active = flat_text (text_of body) ++ space.old.active;
+        })) }
+{
+    let (name, body, pointer) = heads(space, start);
+    let place = start + 3 + name;
+    let (from, stop) = (place + pointer, place + body);
+    let size = stop - from;
+    if space.characters_from(from, stop) < size || space.free() < size {
+        return None;
+    }
+    space.make_way(size);
+    space.load_from_store(from, stop);
+    Some(size)
+}
+
+// As `fill_body`, of form `k`, which begins at a place of the store.
 #[inline(always)]
 fn fill_form(space: &mut Space, k: u32, start: u32, first: u32, end: u32) -> bool
     requires whole { flat_forms (forms_in space.old.store) ≡ space.old.store }

@@ -276,7 +276,7 @@ text_of-gaps body a b within none =
     no-character (slice_range body a b) (λ k lt. let long = length-range body a b within in ap is_character (range-at body a b k (omega arith)) ∙ none (a + k) (omega arith) (omega arith))
 
 -- characters alone are as many as their text
-all-characters : (items : List Item) → All (λ item. is_character item ≡ true) items → length (text_of items) ≡ length items
+pub all-characters : (items : List Item) → All (λ item. is_character item ≡ true) items → length (text_of items) ≡ length items
 all-characters [] all = refl
 all-characters (Byte c ∷ items) all = ap suc (all-characters items (λ k d lt. all (suc k) d (omega arith)))
 all-characters (Gap g ∷ items) all = absurd (let wrong = all 0 (Byte 0) (omega arith) in cc)

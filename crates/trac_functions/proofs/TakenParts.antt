@@ -23,12 +23,11 @@ use Rattle.trac_forms.specs.Search.{character_at, is_gap, gap_at, text_at, NoneP
 use Rattle.trac_forms.specs.Contents.{Contents, form_at, IsNamedAt, IsSound, part_text}
 use Rattle.trac_forms.proofs.Stores.{form_named-at, form_named-none, changed-at}
 use Rattle.trac_functions.specs.declared.arguments.Made.{Made}
-use Rattle.trac_functions.specs.declared.arguments.Made.TheVariants.{Full, Value, Part as PartValue, Body, Defined}
+use Rattle.trac_functions.specs.declared.arguments.Made.TheVariants.{Full, Value, Placed, Defined}
 use Rattle.trac_functions.specs.declared.arguments.Made.TheVariants.{Over}
 use Rattle.trac_functions.specs.Calls.{world, Valued, Makes}
 use Rattle.trac_functions.specs.Taking.{part_value, moved, TakesPart}
 use Rattle.trac_functions.proofs.CountLimits.{counted}
-use Rattle.trac_functions.proofs.FormLemmas.{length-part}
 use Rattle.trac_functions.proofs.MadeValues.{valued-of}
 use Rattle.trac_functions.proofs.TakenItems.{first-character, forward-all, forward-last, forward-more, forward-none, length-text_of, text_of-first, taken-forward, taken-backward, length-text_of-reverse}
 
@@ -39,12 +38,12 @@ pub record TakesBy (f : Function) (args : List Text) (name : Text) (part : Form 
   pub means : (w : World) → meaning_of f args w ≡ on_form (form_named name w.forms) (λ form. take_part name (part form) z w) w
   pub builds : (w : World) → built (Some f) args w ≡ value_length (meaning_of f args w)
 
-module _ (f : Function) (args : List Text) (name : Text) (part : Form → Option Part) (z : Text) (by : TakesBy f args name part z) where
+module _ (f : Function) (args : List Text) (name : Text) (part : Form → Option Part) (z : Text) (by : TakesBy f args name part z) (scanned : Bool) where
   -- no form has the name
-  pub makes-none : (old new : Contents) → IsSound old → NoneNamed name old.forms → new ≡ old → Makes f args old Value new
+  pub makes-none : (old new : Contents) → IsSound old → NoneNamed name old.forms → new ≡ old → Makes f args scanned old Value new
   makes-none old new sound none same =
       let fits = sound.fits in
-      let at : Contents → Type 0 = λ w. Makes f args old Value w in
+      let at : Contents → Type 0 = λ w. Makes f args scanned old Value w in
       subst at (sym same) (
         [],
         record {
@@ -58,7 +57,7 @@ module _ (f : Function) (args : List Text) (name : Text) (part : Form → Option
       )
 
   -- what the form at a place gives
-  pub makes-part : (old new : Contents) (k : ℕ) (made : Made) → IsSound old → IsNamedAt old.forms name k → TakesPart (part (form_at old.forms k)) z k old made new → Makes f args old made new
+  pub makes-part : (old new : Contents) (k : ℕ) (made : Made) → IsSound old → IsNamedAt old.forms name k → TakesPart (part (form_at old.forms k)) z k old made new → Makes f args scanned old made new
   makes-part old new k made sound at takes = go (part (form_at old.forms k)) refl made takes
     where
       means-at : (o : Option Part) → part (form_at old.forms k) ≡ o → (meta : ℕ) (input : Input) → meaning_of f args (world old.forms meta input) ≡ take_part name o z (world old.forms meta input)
@@ -67,22 +66,26 @@ module _ (f : Function) (args : List Text) (name : Text) (part : Form → Option
           ∙ ap (λ o. on_form o (λ form. take_part name (part form) z (world old.forms meta input)) (world old.forms meta input)) (form_named-at name old.forms k sound.forms at)
           ∙ ap (λ o. take_part name o z (world old.forms meta input)) e
 
-      go : (o : Option Part) → part (form_at old.forms k) ≡ o → (made : Made) → TakesPart o z k old made new → Makes f args old made new
+      go : (o : Option Part) → part (form_at old.forms k) ≡ o → (made : Made) → TakesPart o z k old made new → Makes f args scanned old made new
       go o e Full takes = λ meta input. let size = by.builds (world old.forms meta input) ∙ ap value_length (means-at o e meta input) ∙ long o (world old.forms meta input) in omega arith
         where
           long : (o : Option Part) (w : World) → value_length (take_part name o z w) ≡ length (part_value o z)
           long None w = refl
           long (Some p) w = refl
-      go None e (PartValue p forced) takes = (
-        takes.stands,
-        record {
-          valued = subst (λ t. Valued f args old.forms t forced old.forms) (sym takes.text)
-              (subst (λ b. Valued f args old.forms z b old.forms) (sym takes.is_forced) (valued-of f args old.forms old.forms z true (means-at None e) by.builds));
-          long = length-part old.neutral p.0 p.1 takes.stands;
-          fits = takes.fits;
-          same = takes.same;
-        },
-      )
+      go None e (Placed size) takes =
+          let forms : new.forms ≡ old.forms = ap (λ (w : Contents). w.forms) takes.stands in (
+            z,
+            (
+              true,
+              record {
+                valued = subst (λ fs. Valued f args old.forms z true fs) (sym forms) (valued-of f args old.forms old.forms z true (means-at None e) by.builds);
+                goes = refl;
+                long = takes.long;
+                fits = takes.fits;
+                stands = takes.stands ∙ ap (λ fs. record old { forms = fs; active = flat_text z ++ old.active }) (sym forms);
+              },
+            ),
+          )
       go (Some p) e Value takes =
           let forms : new.forms ≡ moved old.forms k p.pointer = ap (λ (w : Contents). w.forms) takes.stands in
           let changes : changed name (λ form. record form { pointer = p.pointer }) old.forms ≡ moved old.forms k p.pointer = changed-at name (λ form. record form { pointer = p.pointer }) old.forms k sound.forms at in (
@@ -94,21 +97,19 @@ module _ (f : Function) (args : List Text) (name : Text) (part : Form → Option
             },
           )
       go None e Value takes = absurd takes
-      go (Some q) e (PartValue p forced) takes = absurd takes
-      go None e (Body form p) takes = absurd takes
-      go (Some q) e (Body form p) takes = absurd takes
+      go (Some p) e (Placed size) takes = absurd takes
       go None e (Defined cells) takes = absurd takes
       go (Some p) e (Defined cells) takes = absurd takes
       go None e (Over fate) takes = absurd takes
       go (Some p) e (Over fate) takes = absurd takes
 
   -- the same, by what the code knows
-  pub makes-found : (old found new : Contents) (k : ℕ) (made : Made) (named : Text) (a b : ℕ) → IsSound old → found ≡ old → IsNamedAt old.forms named k → named ≡ name → TakesPart (part (form_at found.forms k)) (part_text found.neutral a b) k found made new → part_text old.neutral a b ≡ z → Makes f args old made new
+  pub makes-found : (old found new : Contents) (k : ℕ) (made : Made) (named : Text) (a b : ℕ) → IsSound old → found ≡ old → IsNamedAt old.forms named k → named ≡ name → TakesPart (part (form_at found.forms k)) (part_text found.neutral a b) k found made new → part_text old.neutral a b ≡ z → Makes f args scanned old made new
   makes-found old found new k made named a b sound same at is takes text =
       let here = subst (λ (w : Contents). TakesPart (part (form_at w.forms k)) (part_text w.neutral a b) k w made new) same takes in
       makes-part old new k made sound (subst (λ n. IsNamedAt old.forms n k) is at) (subst (λ t. TakesPart (part (form_at old.forms k)) t k old made new) text here)
 
-  pub makes-missing : (old found : Contents) (named : Text) → IsSound old → found ≡ old → NoneNamed named old.forms → named ≡ name → Makes f args old Value found
+  pub makes-missing : (old found : Contents) (named : Text) → IsSound old → found ≡ old → NoneNamed named old.forms → named ≡ name → Makes f args scanned old Value found
   makes-missing old found named sound same none is = makes-none old found sound (subst (λ n. NoneNamed n old.forms) is none) same
 
 -- ---- a form that is changed
@@ -118,8 +119,8 @@ pub record ChangesBy (f : Function) (args : List Text) (name : Text) (change : F
   pub means : (w : World) → meaning_of f args w ≡ on_form (form_named name w.forms) (λ form. silent (with_form name change w)) w
   pub builds : (w : World) → built (Some f) args w ≡ value_length (meaning_of f args w)
 
-module _ (f : Function) (args : List Text) (name : Text) (change : Form → Form) (by : ChangesBy f args name change) where
-  pub changes-found : (old found new : Contents) (k : ℕ) (named : Text) → IsSound old → found ≡ old → IsNamedAt old.forms named k → named ≡ name → new ≡ record found { forms = set found.forms k (change (form_at found.forms k)) } → Makes f args old Value new
+module _ (f : Function) (args : List Text) (name : Text) (change : Form → Form) (by : ChangesBy f args name change) (scanned : Bool) where
+  pub changes-found : (old found new : Contents) (k : ℕ) (named : Text) → IsSound old → found ≡ old → IsNamedAt old.forms named k → named ≡ name → new ≡ record found { forms = set found.forms k (change (form_at found.forms k)) } → Makes f args scanned old Value new
   changes-found old found new k named sound same at is changed_is =
       let fits = sound.fits in
       let here = subst (λ n. IsNamedAt old.forms n k) is at in
@@ -138,10 +139,10 @@ module _ (f : Function) (args : List Text) (name : Text) (change : Form → Form
         },
       )
 
-  pub changes-missing : (old found : Contents) (named : Text) → IsSound old → found ≡ old → NoneNamed named old.forms → named ≡ name → Makes f args old Value found
+  pub changes-missing : (old found : Contents) (named : Text) → IsSound old → found ≡ old → NoneNamed named old.forms → named ≡ name → Makes f args scanned old Value found
   changes-missing old found named sound same none is =
       let fits = sound.fits in
-      let at : Contents → Type 0 = λ w. Makes f args old Value w in
+      let at : Contents → Type 0 = λ w. Makes f args scanned old Value w in
       subst at (sym same) (
         [],
         record {

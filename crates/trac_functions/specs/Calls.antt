@@ -1,20 +1,18 @@
 -- The arguments of a call, and what a function makes of it.
-use Rattle.std.specs.Prelude.{◌≡◌, ℕ, ◌+◌, ◌-◌, ◌<◌, ◌≤◌, Bool, true, false, List, [], ◌∷◌, All}
+use Rattle.std.specs.Prelude.{◌≡◌, ℕ, ◌+◌, ◌<◌, ◌≤◌, Bool, true, false, ◌||◌, List, [], ◌∷◌}
 use Rattle.std.specs.Prelude.{◌++◌, length, Some, slice_range, nat_le, if◌then◌else◌}
 use Rattle.trac_language.specs.declared.function.Function.{Function}
 use Rattle.trac_language.specs.Text.{Text}
-use Rattle.trac_language.specs.declared.item.Item.{Item}
-use Rattle.trac_language.specs.Form.{Form, is_character, text_of}
+use Rattle.trac_language.specs.Form.{Form}
 use Rattle.trac_language.specs.State.{Input}
 use Rattle.trac_language.specs.Meaning.{World, Gives, meaning_of, built}
 use Rattle.trac_space.specs.declared.cell.Cell.{Cell}
 use Rattle.trac_space.specs.Cells.{NoCall, NoComma}
 use Rattle.trac_space.specs.Texts.{flat_text}
-use Rattle.trac_forms.specs.Contents.{Contents, used, IsSound, IsTextPart, part_text, body_at}
-use Rattle.trac_forms.specs.Contents.{form_place}
+use Rattle.trac_forms.specs.Contents.{Contents, used, IsSound}
 use Rattle.trac_functions.specs.declared.arguments.Arguments.{Arguments}
 use Rattle.trac_functions.specs.declared.arguments.Made.{Made}
-use Rattle.trac_functions.specs.declared.arguments.Made.TheVariants.{Full, Value, Part, Body, Defined}
+use Rattle.trac_functions.specs.declared.arguments.Made.TheVariants.{Full, Value, Placed, Defined}
 use Rattle.trac_functions.specs.declared.arguments.Made.TheVariants.{Over}
 use Rattle.trac_functions.specs.Flat.{texts_of}
 
@@ -71,23 +69,15 @@ pub record IsValue (function : Function) (args : List Text) (old new : Contents)
   pub fits : used old + length value ≤ old.room
   pub stands : new ≡ record old { forms = new.forms; neutral = old.neutral ++ flat_text value }
 
--- the items of a body from a place up to another are characters
-pub record AreCharacters (body : List Item) (from to : ℕ) : Type 0 where
-  pub order : from ≤ to
-  pub within : to ≤ length body
-  pub characters : All (λ item. is_character item ≡ true) (slice_range body from to)
-
--- their text, of the body of the form at a place
-abbrev pub body_text : List Form → ℕ → ℕ × ℕ → Text
-body_text forms k part = text_of (slice_range (body_at forms k) part.0 part.1)
-
--- the value of a call, of so many characters, stands there already; nothing is changed
-pub record IsThere (function : Function) (args : List Text) (old new : Contents) (forced : Bool)
-    (value : Text) (size : ℕ) : Type 0 where
-  pub valued : Valued function args old.forms value forced old.forms
+-- the value of a call, of so many characters, goes to the active string, since it is forced or the
+-- call's is scanned, and stands before that; and the forms are changed
+pub record IsPlaced (function : Function) (args : List Text) (scanned : Bool) (old new : Contents)
+    (forced : Bool) (value : Text) (size : ℕ) : Type 0 where
+  pub valued : Valued function args old.forms value forced new.forms
+  pub goes : (forced || scanned) ≡ true
   pub long : length value ≡ size
   pub fits : used old + size ≤ old.room
-  pub same : new ≡ old
+  pub stands : new ≡ record old { forms = new.forms; active = flat_text value ++ old.active }
 
 -- a call with a null value built so many cells of forms
 pub record IsDefined (function : Function) (args : List Text) (old new : Contents)
@@ -98,32 +88,29 @@ pub record IsDefined (function : Function) (args : List Text) (old new : Content
   pub fits : used old + cells ≤ old.room
   pub stands : new ≡ record old { forms = new.forms }
 
--- what a function without devices makes of a call: its value, or more than there is room for
-abbrev pub Makes : Function → List Text → Contents → Made → Contents → Type 0
-Makes function args old Full new =
+-- what a function without devices makes of a call, whose value is scanned or not unless it is
+-- forced: its value, or more than there is room for
+abbrev pub Makes : Function → List Text → Bool → Contents → Made → Contents → Type 0
+Makes function args scanned old Full new =
     (meta : ℕ) (input : Input) →
     old.room < used old + built (Some function) args (world old.forms meta input)
-Makes function args old Value new = (value : Text) × IsValue function args old new false value
-Makes function args old (Part part forced) new =
-    let value = part_text old.neutral part.0 part.1 in
-    IsTextPart old.neutral part.0 part.1
-    × IsThere function args old new forced value (part.1 - part.0)
-Makes function args old (Body form part) new =
-    let value = body_text old.forms (form_place form) part in
-    (form_place form < length old.forms)
-    × AreCharacters (body_at old.forms (form_place form)) part.0 part.1
-    × IsThere function args old new false value (part.1 - part.0)
-Makes function args old (Defined cells) new = IsDefined function args old new cells
-Makes function args old (Over fate) new = ⊥
+Makes function args scanned old Value new =
+    (value : Text) × IsValue function args old new false value
+Makes function args scanned old (Placed size) new =
+    (value : Text) × ((forced : Bool) × IsPlaced function args scanned old new forced value size)
+Makes function args scanned old (Defined cells) new = IsDefined function args old new cells
+Makes function args scanned old (Over fate) new = ⊥
 
 -- the same of a call whose arguments, but for the function's name, are those that are left
 abbrev pub Performs : Function → Contents → Arguments → Made → Contents → Type 0
 Performs function old arguments made new =
-    (name : Text) → Makes function (name ∷ texts old arguments) old made new
+    (name : Text) → Makes function (name ∷ texts old arguments) arguments.scanned old made new
 
--- whatever call has this value and changes no form, this is what its function makes of it
+-- whatever call has this value, which goes to the active string or not, and changes no form, this
+-- is what its function makes of it
 abbrev pub MakesValue : Text → Bool → Contents → Made → Contents → Type 0
-MakesValue value forced old made new =
-    (function : Function) (args : List Text) →
+MakesValue value goes old made new =
+    (function : Function) (args : List Text) (forced scanned : Bool) →
+    (forced || scanned) ≡ goes →
     Valued function args old.forms value forced old.forms →
-    Makes function args old made new
+    Makes function args scanned old made new

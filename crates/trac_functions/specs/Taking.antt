@@ -1,18 +1,18 @@
 -- What is taken of a form by a call.
-use Rattle.std.specs.Prelude.{◌≡◌, ℕ, Bool, true, ◌+◌, ◌-◌, ◌<◌, ◌≤◌, List, ◌++◌, length, set}
+use Rattle.std.specs.Prelude.{◌≡◌, ℕ, Bool, true, ◌+◌, ◌<◌, ◌≤◌, List, ◌++◌, length, set}
 use Rattle.std.specs.Prelude.{Option, Some, None}
 use Rattle.trac_language.specs.Text.{Text}
 use Rattle.trac_language.specs.Form.{Form}
-use Rattle.trac_language.specs.Part.{Part as FormPart}
+use Rattle.trac_language.specs.Part.{Part}
 use Rattle.trac_space.specs.Texts.{flat_text}
-use Rattle.trac_forms.specs.Contents.{Contents, used, part_text, form_at, IsTextPart}
+use Rattle.trac_forms.specs.Contents.{Contents, used, part_text, form_at}
 use Rattle.trac_forms.specs.Search.{NonePasses}
 use Rattle.trac_functions.specs.declared.arguments.Made.{Made}
-use Rattle.trac_functions.specs.declared.arguments.Made.TheVariants.{Full, Value, Part, Body, Defined}
+use Rattle.trac_functions.specs.declared.arguments.Made.TheVariants.{Full, Value, Placed, Defined}
 use Rattle.trac_functions.specs.declared.arguments.Made.TheVariants.{Over}
 
 -- the value of a call that takes a part, or z where there is none
-abbrev pub part_value : Option FormPart → Text → Text
+abbrev pub part_value : Option Part → Text → Text
 part_value None z = z
 part_value (Some part) z = part.text
 
@@ -25,30 +25,26 @@ pub record Puts (old new : Contents) (forms : List Form) (text : Text) : Type 0 
   pub fits : used old + length text ≤ old.room
   pub stands : new ≡ record old { forms = forms; neutral = old.neutral ++ flat_text text }
 
--- the text of a part of neutral is the value, forced; nothing is changed
-pub record IsDefault (old new : Contents) (z : Text) (part : ℕ × ℕ) (forced : Bool)
-    : Type 0 where
-  pub is_forced : forced ≡ true
-  pub stands : IsTextPart old.neutral part.0 part.1
-  pub text : part_text old.neutral part.0 part.1 ≡ z
-  pub fits : used old + (part.1 - part.0) ≤ old.room
-  pub same : new ≡ old
+-- a text of so many characters stands before active
+pub record Loads (old new : Contents) (text : Text) (size : ℕ) : Type 0 where
+  pub long : length text ≡ size
+  pub fits : used old + size ≤ old.room
+  pub stands : new ≡ record old { active = flat_text text ++ old.active }
 
 -- the part of the form at place k is the value, and its
 -- pointer is moved; or z is the value; or that doesn't fit
-abbrev pub TakesPart : Option FormPart → Text → ℕ → Contents → Made → Contents → Type 0
+abbrev pub TakesPart : Option Part → Text → ℕ → Contents → Made → Contents → Type 0
 TakesPart part z k old Full new = old.room < used old + length (part_value part z)
-TakesPart None z k old (Part part forced) new = IsDefault old new z part forced
+TakesPart None z k old (Placed size) new = Loads old new z size
 TakesPart (Some part) z k old Value new = Puts old new (moved old.forms k part.pointer) part.text
 TakesPart None z k old Value new = ⊥
-TakesPart (Some part) z k old (Part _ forced) new = ⊥
-TakesPart part z k old (Body form _) new = ⊥
+TakesPart (Some part) z k old (Placed size) new = ⊥
 TakesPart part z k old (Defined cells) new = ⊥
 TakesPart part z k old (Over fate) new = ⊥
 
 -- the part of the form at place k that a call takes is the value, and its pointer is moved; or the
 -- text of z, a part of the neutral string, is the value; or that doesn't fit
-abbrev pub TakesOrDefault : (Form → Option FormPart) → ℕ → ℕ × ℕ → Contents → Made → Contents → Type 0
+abbrev pub TakesOrDefault : (Form → Option Part) → ℕ → ℕ × ℕ → Contents → Made → Contents → Type 0
 TakesOrDefault part k z old made new =
     TakesPart (part (form_at old.forms k)) (part_text old.neutral z.0 z.1) k old made new
 

@@ -1,5 +1,5 @@
 //! The arguments of a call, taken one after the other, and the value that is put behind them.
-ghost use Rattle.std.specs.Prelude.{◌≡◌, ◌↔◌, ◌+◌, ◌<◌, ◌≤◌, ◌++◌, ℕ, true, false, length, drop};
+ghost use Rattle.std.specs.Prelude.{◌≡◌, ◌↔◌, ◌+◌, ◌≤◌, ◌++◌, ℕ, true, false, length, drop};
 ghost use Rattle.std.specs.Prelude.{IsTrue, IsSome, slice_range};
 ghost use Rattle.std.specs.Bool.{OnTrue, OnFalse};
 ghost use Rattle.trac_language.specs.Function.{function_named};
@@ -7,15 +7,13 @@ ghost use Rattle.trac_language.specs.State.{argument};
 ghost use Rattle.trac_space.specs.Texts.{flat_text, text_of_cells};
 ghost use Rattle.trac_values.specs.Cells.{IsText};
 ghost use Rattle.trac_forms.specs.Arguments.{before_comma};
-ghost use Rattle.trac_forms.specs.Contents.{used, part_text, IsTextPart, IsSound, body_at};
-ghost use Rattle.trac_forms.specs.Contents.{form_place};
-ghost use Rattle.trac_functions.specs.Calls.{MakesValue, AreArguments, texts, AreCharacters};
-ghost use Rattle.trac_functions.specs.Calls.{body_text};
+ghost use Rattle.trac_forms.specs.Contents.{used, part_text, IsTextPart, IsSound};
+ghost use Rattle.trac_functions.specs.Calls.{MakesValue, AreArguments, texts};
 ghost use Rattle.trac_functions.specs.Taking.{TakesPart};
 ghost use Rattle.trac_functions.specs.Calls.{KeepsRoom};
 
 use crate::function::function_before_comma;
-use trac_forms::{Cell, FormId, Work, before_comma};
+use trac_forms::{Cell, Work, before_comma};
 use trac_language::{Fate, Function};
 
 /// The arguments of a call that are left to take: those in the neutral string from a place up to
@@ -27,6 +25,8 @@ pub struct Arguments {
     /// From this place on no comma mark stands before the end, as the caller knows: the last
     /// argument is found without a search if it begins there or later.
     pub plain: u32,
+    /// Whether the value goes to the active string, as that of an active call does.
+    pub scanned: bool,
 }
 
 /// What a function answers to a call.
@@ -36,11 +36,8 @@ pub enum Made {
     Full,
     /// Its value stands at the end of the neutral string.
     Value,
-    /// Its value is the text of this part of the neutral string, and goes to the active string
-    /// whatever the call's mode where that is told.
-    Part((u32, u32), bool),
-    /// Its value is the characters of the form's body from a place up to another.
-    Body(FormId, (u32, u32)),
+    /// Its value, of so many characters, goes to the active string, and stands before it already.
+    Placed(u32),
     /// A null value; it built so many cells of forms.
     Defined(u32),
     /// The run is over, by the language or because a device failed.
@@ -89,6 +86,7 @@ impl Arguments {
         ensures named { result ≡ function_named (argument (texts work.now self.old) 0) }
         ensures rest { IsSome result → texts work.now self.new ≡ drop 1 (texts work.now self.old) }
         ensures left { AreArguments work.now self.new }
+        ensures scanned { self.new.scanned ≡ self.old.scanned }
     {
         let Some(function) = function_before_comma(work.neutral_part(self.from, self.end)) else {
             return None;
@@ -131,30 +129,25 @@ pub fn put_part(work: &mut Work, part: (u32, u32)) -> bool
     work.copy_neutral(part.0, part.1)
 }
 
-/// A part of the neutral string is the value of a call, which goes to the active string whatever
-/// the call's mode where it is forced.
-pub fn give(work: &Work, part: (u32, u32), forced: bool) -> Made
-    requires part { IsTextPart work.now.neutral part.0 part.1 }
-    ensures makes { let text = part_text work.now.neutral part.0 part.1 in
-        MakesValue text forced work.now result work.now }
-    ensures takes { let text = part_text work.now.neutral part.0 part.1 in
-        forced ≡ true → (k : ℕ) → TakesPart None text k work.now result work.now }
+/// A part of the neutral string is the value of a call, which goes to the active string where it
+/// is scanned again.
+pub fn give(work: &mut Work, part: (u32, u32), scanned: bool) -> Made
+    requires part { IsTextPart work.old.neutral part.0 part.1 }
+    ensures makes { let text = part_text work.old.neutral part.0 part.1 in
+        MakesValue text scanned work.old result work.new }
+    ensures takes { let text = part_text work.old.neutral part.0 part.1 in
+        scanned ≡ true → (k : ℕ) → TakesPart None text k work.old result work.new }
+    ensures unmade { result ≡ Made.Full → work.new.forms ≡ work.old.forms }
+    ensures keeps { KeepsRoom work.old work.new }
 {
-    if work.free() < part.1 - part.0 {
+    let size = part.1 - part.0;
+    if work.free() < size {
         return Made::Full;
     }
-    Made::Part(part, forced)
-}
-
-/// The characters of the form's body from a place up to another are the value of a call.
-pub fn give_body(work: &Work, form: FormId, part: (u32, u32)) -> Made
-    requires known { form_place form < length work.now.forms }
-    requires part { AreCharacters (body_at work.now.forms (form_place form)) part.0 part.1 }
-    ensures { let text = body_text work.now.forms (form_place form) part in
-        MakesValue text false work.now result work.now }
-{
-    if work.free() < part.1 - part.0 {
-        return Made::Full;
+    if scanned {
+        work.load_part(part.0, part.1);
+        return Made::Placed(size);
     }
-    Made::Body(form, part)
+    work.copy_neutral(part.0, part.1);
+    Made::Value
 }

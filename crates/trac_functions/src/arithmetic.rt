@@ -1,5 +1,5 @@
 //! The functions of arithmetic: `ad`, `su`, `ml` and `dv`.
-ghost use Rattle.std.specs.Prelude.{◌≡◌, ◌+◌, ◌-◌, ◌≤◌, ◌∷◌, ◌++◌, false, List};
+ghost use Rattle.std.specs.Prelude.{◌≡◌, ◌+◌, ◌-◌, ◌≤◌, ◌∷◌, ◌++◌, Bool, false, List};
 ghost use Rattle.std.specs.Fmt.{signed_decimal};
 ghost use Rattle.trac_language.specs.declared.function.Function.{Function};
 ghost use Rattle.trac_language.specs.declared.function.Function.TheVariants.{Arithmetic};
@@ -23,7 +23,8 @@ use trac_language::Arith;
 pub fn arithmetic(work: &mut Work, operation: Arith, mut arguments: Arguments) -> Made
     requires { AreArguments work.old arguments }
     ensures makes { (name : Text) →
-        Makes (Arithmetic operation) (name ∷ texts work.old arguments) work.old result work.new }
+        let args = name ∷ texts work.old arguments in
+        Makes (Arithmetic operation) args arguments.scanned work.old result work.new }
     ensures unmade { result ≡ Made.Full → work.new.forms ≡ work.old.forms }
     ensures keeps { KeepsRoom work.old work.new }
 {
@@ -43,11 +44,11 @@ pub fn arithmetic(work: &mut Work, operation: Arith, mut arguments: Arguments) -
 /// A part of the neutral string, and a number in decimal behind it, are the value of a call.
 fn give_number(work: &mut Work, prefix: (u32, u32), number: i128) -> Made
     requires prefix { IsTextPart work.old.neutral prefix.0 prefix.1 }
-    ensures makes { (function : Function) (args : List Text) →
+    ensures makes { (function : Function) (args : List Text) (scanned : Bool) →
         let before = part_text work.old.neutral prefix.0 prefix.1 in
         let value = before ++ signed_decimal number in
         Valued function args work.old.forms value false work.old.forms →
-        Makes function args work.old result work.new }
+        Makes function args scanned work.old result work.new }
     ensures unmade { result ≡ Made.Full → work.new.forms ≡ work.old.forms }
     ensures keeps { KeepsRoom work.old work.new }
 {

@@ -1,5 +1,5 @@
 //! The functions of bit strings: `bu`, `bi`, `bc`, `bs` and `br`.
-ghost use Rattle.std.specs.Prelude.{◌≡◌, ◌+◌, ◌-◌, ◌≤◌, ◌++◌, false, List, length, slice_get};
+ghost use Rattle.std.specs.Prelude.{◌≡◌, ◌+◌, ◌-◌, ◌≤◌, ◌++◌, Bool, false, List, length, slice_get};
 ghost use Rattle.trac_language.specs.declared.function.Function.{Function};
 ghost use Rattle.trac_language.specs.declared.function.Function.TheVariants.{Union, Intersection};
 ghost use Rattle.trac_language.specs.declared.function.Function.TheVariants.{Complement, Shift};
@@ -195,11 +195,11 @@ fn put_digits(work: &mut Work, bits: BitResult)
 fn give_bits(work: &mut Work, prefix: (u32, u32), bits: BitResult) -> Made
     requires prefix { IsTextPart work.old.neutral prefix.0 prefix.1 }
     requires parts { AreFor work.old.neutral bits }
-    ensures makes { (function : Function) (args : List Text) →
+    ensures makes { (function : Function) (args : List Text) (scanned : Bool) →
         let before = part_text work.old.neutral prefix.0 prefix.1 in
         let value = before ++ octal_made work.old.neutral bits in
         Valued function args work.old.forms value false work.old.forms →
-        Makes function args work.old result work.new }
+        Makes function args scanned work.old result work.new }
     ensures unmade { result ≡ Made.Full → work.new.forms ≡ work.old.forms }
     ensures keeps { KeepsRoom work.old work.new }
 {

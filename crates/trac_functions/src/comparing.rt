@@ -14,6 +14,7 @@ pub fn equal(work: &mut Work, mut arguments: Arguments) -> Made
     ensures unmade { result ≡ Made.Full → work.new.forms ≡ work.old.forms }
     ensures keeps { KeepsRoom work.old work.new }
 {
+    let scanned = arguments.scanned;
     let first = arguments.next(work);
     let second = arguments.next(work);
     let same = arguments.next(work);
@@ -23,7 +24,7 @@ pub fn equal(work: &mut Work, mut arguments: Arguments) -> Made
     } else {
         other
     };
-    give(work, value, false)
+    give(work, value, scanned)
 }
 
 /// `gr,N1,N2,X,Y`: X where the number of N1 is greater than that of N2, else Y (Mooers 1966). That
@@ -34,6 +35,7 @@ pub fn greater(work: &mut Work, mut arguments: Arguments) -> Made
     ensures unmade { result ≡ Made.Full → work.new.forms ≡ work.old.forms }
     ensures keeps { KeepsRoom work.old work.new }
 {
+    let scanned = arguments.scanned;
     let first = arguments.next(work);
     let second = arguments.next(work);
     let larger = arguments.next(work);
@@ -43,5 +45,5 @@ pub fn greater(work: &mut Work, mut arguments: Arguments) -> Made
     } else {
         other
     };
-    give(work, value, false)
+    give(work, value, scanned)
 }

@@ -1,7 +1,7 @@
 //! The functions that make, remove and list forms, and that call a whole form: `ds`, `ss`, `ln`,
 //! `dd`, `da`, `cl`.
 ghost use Rattle.std.specs.Prelude.{◌≡◌, ◌↔◌, ◌+◌, ◌<◌, ◌≤◌, List, ◌++◌, length, drop};
-ghost use Rattle.std.specs.Prelude.{IsTrue, MatchOption};
+ghost use Rattle.std.specs.Prelude.{Bool, true, IsTrue, MatchOption};
 ghost use Rattle.std.specs.Bool.{OnTrue};
 ghost use Rattle.trac_language.specs.declared.function.Function.TheVariants.{DefineString};
 ghost use Rattle.trac_language.specs.declared.function.Function.TheVariants.{SegmentString};
@@ -14,10 +14,11 @@ ghost use Rattle.trac_language.specs.State.{argument};
 ghost use Rattle.trac_space.specs.Texts.{flat_text};
 ghost use Rattle.trac_forms.specs.Contents.{used, name_at, part_text, IsTextPart, IsNamedAt};
 ghost use Rattle.trac_forms.specs.Contents.{IsSound, form_place};
+ghost use Rattle.trac_forms.specs.Loading.{called_part, IsLoaded};
 ghost use Rattle.trac_functions.specs.Calls.{AreArguments, texts, Makes, Performs};
 ghost use Rattle.trac_functions.specs.Calls.{KeepsRoom};
 
-use crate::arguments::{Arguments, Made, give_body, put_part};
+use crate::arguments::{Arguments, Made, put_part};
 use trac_forms::{FormId, Work};
 
 // So many names of `dd` go one by one, since a form that stays is sooner brought forward twice in the
@@ -27,7 +28,8 @@ const FEW: u32 = 2;
 /// `da`: all forms are removed (Mooers 1966).
 pub fn delete_all(work: &mut Work) -> Made
     requires { IsSound work.old }
-    ensures makes { (args : List Text) → Makes DeleteAll args work.old result work.new }
+    ensures makes { (args : List Text) (scanned : Bool) →
+        Makes DeleteAll args scanned work.old result work.new }
     ensures unmade { result ≡ Made.Full → work.new.forms ≡ work.old.forms }
     ensures keeps { KeepsRoom work.old work.new }
 {
@@ -149,20 +151,33 @@ pub fn call_form(work: &mut Work, mut arguments: Arguments) -> Made
     ensures unmade { result ≡ Made.Full → work.new.forms ≡ work.old.forms }
     ensures keeps { KeepsRoom work.old work.new }
 {
+    let scanned = arguments.scanned;
     let Some(form) = next_form(work, &mut arguments) else {
         return Made::Value;
     };
-    let from = work.pointer(form);
-    match work.next_gap(form, from) {
-        None => give_body(work, form, (from, work.body_len(form))),
-        Some(_) => {
-            if work.fill_body(form, arguments.from, arguments.end) {
-                Made::Value
-            } else {
-                Made::Full
-            }
-        }
+    if let Some(size) = place_body(work, form, scanned) {
+        return Made::Placed(size);
     }
+    if work.fill_body(form, arguments.from, arguments.end) {
+        Made::Value
+    } else {
+        Made::Full
+    }
+}
+
+/// The characters of the form's body from its pointer on are placed before the active string, where
+/// no gap stands among them, they fit, and the value is scanned. Gives how many they are; None where
+/// they are not placed.
+#[inline(always)]
+fn place_body(work: &mut Work, form: FormId, scanned: bool) -> Option<u32>
+    requires known { form_place form < length work.old.forms }
+    requires sound { IsSound work.old }
+    ensures placed { let body = called_part work.old.forms (form_place form) in
+        MatchOption result (work.new ≡ work.old)
+        (λ n. (scanned ≡ true) × IsLoaded work.old work.new body n) }
+    ensures sound { IsSound work.new }
+{
+    if scanned { work.load_body(form) } else { None }
 }
 
 /// The form that the next argument names, None where no form has the name.

@@ -353,6 +353,22 @@ pub(crate) fn copy_behind(cells: &mut [Cell], start: usize, distance: usize, n: 
     }
 }
 
+// The same, told where the move ends and where it goes; a long one by a call.
+#[inline(always)]
+pub(crate) fn copy_ahead(cells: &mut [Cell], start: usize, end: usize, to: usize)
+    requires order { start ≤ end }
+    requires apart { end ≤ to }
+    requires room { to + (end - start) ≤ length cells.old }
+    ensures len { length cells.new ≡ length cells.old }
+    ensures after { cells.new ≡ copy_within cells.old start end to }
+{
+    if end - start > FEW {
+        copy_long(cells, start, end, to);
+    } else {
+        copy_behind(cells, start, to - start, end - start);
+    }
+}
+
 // The same, of a block or more.
 #[inline(always)]
 fn copy_blocks(cells: &mut [Cell], start: usize, distance: usize, n: usize)

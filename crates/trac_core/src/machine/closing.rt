@@ -44,6 +44,7 @@ pub(super) fn named_at(work: &Work, place: u32) -> (Option<Function>, Arguments)
         from: place + 1,
         end,
         plain: end,
+        scanned: false,
     };
     let name = arguments.next(work);
     (function_named(text(work, name)), arguments)

@@ -33,22 +33,22 @@ returns-in_default-function-clause-answers g c = λ told_source told_sink.
     let all = ap (texts_from w.neutral (place + 1)) c.neutral_len.ensures.value ∙ texts-all w.neutral place c.requires.innermost.mark.0 in
     let name = ap (λ l. argument l 0) all in
     let plain = plain-rest c.in-Some.function d.not-ReadString d.not-ReadCharacter d.not-ChangeMeta d.not-PrintString d.not-PrintForm d.not-Halt in
-    answers-made w c.value_of.new.work place c.in-Some.function (texts w c.function.new.self) (sym (sym c.in-Some.is ∙ c.function.ensures.named ∙ ap function_named name)) c.requires.innermost plain
-    (c.in-Some.ensures.rest refl ∙ ap (drop 1) all) c.value_of.result (c.value_of.ensures.makes plain (argument (arguments_at w.neutral place) 0)) c.args.meta.now _ _
+    answers-made w c.value_of.new.work place c.in-Some.function (texts w c.function.new.self) c.function.new.self.scanned (sym (sym c.in-Some.is ∙ c.function.ensures.named ∙ ap function_named name)) c.requires.innermost plain
+    (c.in-Some.ensures.rest refl ∙ ap (drop 1) all) (c.in-Some.ensures.scanned ∙ c.is_scanned_again.ensures) c.value_of.result (c.value_of.ensures.makes plain (argument (arguments_at w.neutral place) 0)) c.args.meta.now _ _
 
 pub returns-in_default-function-clause-stands : goal.returns-in_default-function-clause-stands
 returns-in_default-function-clause-stands g c =
     let w = c.args.work.now in
     let d = c.in_default-function in
     let plain = plain-rest c.in-Some.function d.not-ReadString d.not-ReadCharacter d.not-ChangeMeta d.not-PrintString d.not-PrintForm d.not-Halt in
-    stands-made c.in-Some.function _ w c.value_of.new.work c.value_of.result (c.value_of.ensures.makes plain (argument (arguments_at w.neutral c.args.call.place) 0))
+    stands-made c.in-Some.function _ _ w c.value_of.new.work c.value_of.result (c.value_of.ensures.makes plain (argument (arguments_at w.neutral c.args.call.place) 0))
 
 pub returns-in_default-function-clause-source : goal.returns-in_default-function-clause-source
 returns-in_default-function-clause-source g c =
     let w = c.args.work.now in
     let d = c.in_default-function in
     let plain = plain-rest c.in-Some.function d.not-ReadString d.not-ReadCharacter d.not-ChangeMeta d.not-PrintString d.not-PrintForm d.not-Halt in
-    let none = no-failure-made c.in-Some.function _ w c.value_of.new.work c.value_of.result (c.value_of.ensures.makes plain (argument (arguments_at w.neutral c.args.call.place) 0)) in
+    let none = no-failure-made c.in-Some.function _ _ w c.value_of.new.work c.value_of.result (c.value_of.ensures.makes plain (argument (arguments_at w.neutral c.args.call.place) 0)) in
     (λ told. told, omega (arith, none.0), λ unread. refl)
 
 pub returns-in_default-function-clause-sink : goal.returns-in_default-function-clause-sink
@@ -56,7 +56,7 @@ returns-in_default-function-clause-sink g c =
     let w = c.args.work.now in
     let d = c.in_default-function in
     let plain = plain-rest c.in-Some.function d.not-ReadString d.not-ReadCharacter d.not-ChangeMeta d.not-PrintString d.not-PrintForm d.not-Halt in
-    let none = no-failure-made c.in-Some.function _ w c.value_of.new.work c.value_of.result (c.value_of.ensures.makes plain (argument (arguments_at w.neutral c.args.call.place) 0)) in
+    let none = no-failure-made c.in-Some.function _ _ w c.value_of.new.work c.value_of.result (c.value_of.ensures.makes plain (argument (arguments_at w.neutral c.args.call.place) 0)) in
     (λ told. told, omega (arith, none.1.0), λ unprinted. refl, refl, λ other. inl refl)
 
 pub returns-in_default-function-clause-unspent : goal.returns-in_default-function-clause-unspent
@@ -64,7 +64,7 @@ returns-in_default-function-clause-unspent g c =
     let w = c.args.work.now in
     let d = c.in_default-function in
     let plain = plain-rest c.in-Some.function d.not-ReadString d.not-ReadCharacter d.not-ChangeMeta d.not-PrintString d.not-PrintForm d.not-Halt in
-    let none = no-failure-made c.in-Some.function _ w c.value_of.new.work c.value_of.result (c.value_of.ensures.makes plain (argument (arguments_at w.neutral c.args.call.place) 0)) in
+    let none = no-failure-made c.in-Some.function _ _ w c.value_of.new.work c.value_of.result (c.value_of.ensures.makes plain (argument (arguments_at w.neutral c.args.call.place) 0)) in
     none.1.1
 
 pub returns-in_default-function-clause-stay : goal.returns-in_default-function-clause-stay
@@ -72,5 +72,5 @@ returns-in_default-function-clause-stay g c = λ some.
     let w = c.args.work.now in
     let d = c.in_default-function in
     let plain = plain-rest c.in-Some.function d.not-ReadString d.not-ReadCharacter d.not-ChangeMeta d.not-PrintString d.not-PrintForm d.not-Halt in
-    let full = only-full c.in-Some.function _ w c.value_of.new.work c.value_of.result (c.value_of.ensures.makes plain (argument (arguments_at w.neutral c.args.call.place) 0)) some in
+    let full = only-full c.in-Some.function _ _ w c.value_of.new.work c.value_of.result (c.value_of.ensures.makes plain (argument (arguments_at w.neutral c.args.call.place) 0)) some in
     (c.value_of.ensures.unmade full, refl)

@@ -1,39 +1,7 @@
-use Rattle.std.proofs.Common.{◌≡◌, ℕ, ◌+◌, ◌<◌, ◌≤◌, length, drop, map, slice_range, refl, ap, ◌∙◌, arith}
-use Rattle.trac_language.specs.Store.{IsStore}
-use Rattle.trac_space.specs.Lists.{Lists}
-use Rattle.trac_forms.specs.Contents.{form_at, body_at, pointer_at}
-use Rattle.trac_forms.specs.FlatForms.{flat_forms}
-use Rattle.trac_forms.specs.Stored.{forms_in, item_of, start_of, head_at}
-use Rattle.trac_forms.proofs.Places.{stands}
-use Rattle.trac_forms.proofs.Stores.{pointer-within}
-use Rattle.trac_forms.proofs.Filling.{body-items}
+use Rattle.std.proofs.Common.{refl, arith}
+use Rattle.trac_forms.proofs.Filling.{AreItems, items}
 use Rattle.trac_forms.proofs.fill.fill_form.Goals as goal
 use Rattle.trac_forms.proofs.fill.fill_form.Goals.{After-heads-name}
-
--- where the items of a form's body from its pointer on stand in the store
-record AreItems (s : Lists) (k place name body from : ℕ) : Type 0 where
-  behind : place + 3 + name + body ≤ length s.store
-  order : from ≤ body
-  are : map item_of (slice_range s.store (place + 3 + name + from) (place + 3 + name + body)) ≡ drop (pointer_at (forms_in s.store) k) (body_at (forms_in s.store) k)
-
-items : (s : Lists) (k place name body from : ℕ) → flat_forms (forms_in s.store) ≡ s.store → IsStore (forms_in s.store) → k < length (forms_in s.store) → place ≡ start_of (forms_in s.store) k → name ≡ head_at s.store place → body ≡ head_at s.store (place + 1) → from ≡ head_at s.store (place + 2) → AreItems s k place name body from
-items s k place name body from whole is_store within begins name_is body_is from_is =
-    let forms = forms_in s.store in
-    let form = form_at forms k in
-    let f = stands forms s.store k place whole within begins in
-    let inside = pointer-within forms k is_store in
-    let name_at : place + 3 + name ≡ place + 3 + length form.name = omega (arith, name_is, f.name_len) in
-    let end : place + 3 + name + body ≡ place + 3 + length form.name + length form.body = omega (arith, name_is, body_is, f.name_len, f.body_len) in
-    let pointer : from ≡ form.pointer = from_is ∙ f.pointer in
-    let here : form.pointer ≤ length form.body = omega (arith, inside) in
-    record {
-      behind = omega (arith, end, f.end);
-      order = omega (arith, body_is, f.body_len, pointer, here);
-      are = ap (λ i. map item_of (slice_range s.store (i + from) (place + 3 + name + body))) name_at
-          ∙ ap (λ i. map item_of (slice_range s.store (place + 3 + length form.name + from) i)) end
-          ∙ ap (λ i. map item_of (slice_range s.store (place + 3 + length form.name + i) (place + 3 + length form.name + length form.body))) pointer
-          ∙ body-items s.store form.body (place + 3 + length form.name) form.pointer here f.body_part;
-    }
 
 -- those that are called, once the heads are read
 called : (c : After-heads-name) → AreItems c.args.space.now c.args.k c.args.start c.heads-name.result.0 c.heads-name.result.1 c.heads-name.result.2

@@ -51,7 +51,7 @@ returns-in-Some-clause-makes c = λ name.
     (c.tail_number-left.ensures.value ∙ ap (λ t. if_in_range (Some (number t))) left)
     (c.tail_number-right.ensures.value ∙ ap (λ t. if_in_range (Some (number t))) right) in
     let kept = arith-passed operation (number (argument ts 0)) (number (argument ts 1)) c.in-Some.number (sym result) in
-    c.give_number.ensures.makes (Arithmetic operation) (name ∷ ts)
+    c.give_number.ensures.makes (Arithmetic operation) (name ∷ ts) c.args.arguments.scanned
     (valued-of (Arithmetic operation) (name ∷ ts) w.forms w.forms _ false
     (λ meta input. ap (λ r. result_or r (prefix (argument ts 0)) (argument ts 2) (world w.forms meta input)) (sym result)
     ∙ ap (λ p. result_or (Some c.in-Some.number) p (argument ts 2) (world w.forms meta input)) (sym before)
@@ -71,7 +71,7 @@ returns-in-None-clause-makes c = λ name.
     c.in-None.ensures (number (argument ts 0)) (number (argument ts 1))
     (c.tail_number-left.ensures.value ∙ ap (λ t. if_in_range (Some (number t))) left)
     (c.tail_number-right.ensures.value ∙ ap (λ t. if_in_range (Some (number t))) right) in
-    c.give.ensures.makes (Arithmetic operation) (name ∷ ts)
+    c.give.ensures.makes (Arithmetic operation) (name ∷ ts) true c.args.arguments.scanned refl
     (valued-of (Arithmetic operation) (name ∷ ts) w.forms w.forms _ true
     (λ meta input. ap (λ r. result_or r (prefix (argument ts 0)) (argument ts 2) (world w.forms meta input)) (sym result)
     ∙ ap (λ t. forced t (world w.forms meta input)) (sym third))

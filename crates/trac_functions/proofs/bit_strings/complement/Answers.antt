@@ -17,5 +17,5 @@ returns-clause-makes c = λ name.
     let ts = texts w c.args.arguments in
     let before : part_text w.neutral c.next-first.result.0 c.digits_of-digits.result.0 ≡ octal_prefix (argument ts 0) = c.digits_of-digits.ensures.prefix ∙ ap (λ t. octal_prefix t) c.next-first.ensures.text in
     let made : complement (bits_at w.neutral c.digits_of-digits.result) ≡ complement (bits (argument ts 0)) = ap (λ l. complement l) (c.digits_of-digits.ensures.bits ∙ ap (λ t. bits t) c.next-first.ensures.text) in
-    c.give_bits.ensures.makes Complement (name ∷ ts)
+    c.give_bits.ensures.makes Complement (name ∷ ts) c.args.arguments.scanned
     (valued-of Complement (name ∷ ts) w.forms w.forms _ false (λ meta input. bits-means _ _ _ _ (world w.forms meta input) before made) (λ _. refl))

@@ -18,7 +18,7 @@ overflow_add-prefix c =
     omega arith
 
 pub returns-clause-makes : goal.returns-clause-makes
-returns-clause-makes c = λ function args valued.
+returns-clause-makes c = λ function args scanned valued.
     let w = c.args.work.now in
     let long = length-part_text w.neutral c.args.prefix.0 c.args.prefix.1 c.requires.prefix.order c.requires.prefix.within in
     let text = part_text w.neutral c.args.prefix.0 c.args.prefix.1 in

@@ -29,5 +29,5 @@ returns-clause-makes c = λ name.
     let made : rotated (pos by) l ≡ rotated (number (argument ts 0)) (bits (argument ts 1)) =
     rotation-any d by c.max-bits.result l bits_is c.rotation_of-by.ensures
     ∙ ap (λ n. rotated n l) number_is ∙ ap (λ l. rotated (number (argument ts 0)) l) same in
-    c.give_bits.ensures.makes Rotate (name ∷ ts)
+    c.give_bits.ensures.makes Rotate (name ∷ ts) c.args.arguments.scanned
     (valued-of Rotate (name ∷ ts) w.forms w.forms _ false (λ meta input. bits-means _ _ _ _ (world w.forms meta input) before made) (λ _. refl))

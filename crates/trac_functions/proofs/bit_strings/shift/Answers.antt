@@ -34,5 +34,5 @@ returns-clause-makes c = λ name.
     let made : shifted (signed by.negative by.size) l ≡ shifted (number (argument ts 0)) (bits (argument ts 1)) =
     shift_same d by.negative by.size 50331648 l room c.shift_of-by.ensures.negative c.shift_of-by.ensures.size
     ∙ ap (λ n. shifted n l) number_is ∙ ap (λ l. shifted (number (argument ts 0)) l) same in
-    c.give_bits.ensures.makes Shift (name ∷ ts)
+    c.give_bits.ensures.makes Shift (name ∷ ts) c.args.arguments.scanned
     (valued-of Shift (name ∷ ts) w.forms w.forms _ false (λ meta input. bits-means _ _ _ _ (world w.forms meta input) before made) (λ _. refl))

@@ -21,5 +21,5 @@ returns-clause-makes c = λ name.
     let right : bits_at w.neutral c.digits_of-right.result ≡ bits (argument ts 1) = c.digits_of-right.ensures.bits ∙ ap (λ t. bits t) second in
     let made : union (bits_at w.neutral c.digits_of-left.result) (bits_at w.neutral c.digits_of-right.result) ≡ union (bits (argument ts 0)) (bits (argument ts 1)) =
     ap (λ l. union l (bits_at w.neutral c.digits_of-right.result)) left ∙ ap (λ l. union (bits (argument ts 0)) l) right in
-    c.give_bits.ensures.makes Union (name ∷ ts)
+    c.give_bits.ensures.makes Union (name ∷ ts) c.args.arguments.scanned
     (valued-of Union (name ∷ ts) w.forms w.forms _ false (λ meta input. bits-means _ _ _ _ (world w.forms meta input) before made) (λ _. refl))

@@ -26,5 +26,5 @@ returns-clause-makes c = λ name.
     let value = chosen c.equal.result (bytes_eq (argument ts 0) (argument ts 1)) (argument ts 2) (argument ts 3) (part_text w.neutral c.if-equal.value.0 c.if-equal.value.1) test
     (λ is. elim c.if-equal.branch [ then-equal w ↦ rw w.value-is third | else-equal w ↦ absurd cc ])
     (λ is. elim c.if-equal.branch [ then-equal w ↦ absurd cc | else-equal w ↦ rw w.value-is fourth ]) in
-    c.give.ensures.makes Equal (name ∷ ts)
+    c.give.ensures.makes Equal (name ∷ ts) false c.args.arguments.scanned refl
     (valued-of Equal (name ∷ ts) w.forms w.forms _ false (λ meta input. ap (λ t. valued t (world w.forms meta input)) value) (λ _. refl))

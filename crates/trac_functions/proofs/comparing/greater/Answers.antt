@@ -27,5 +27,5 @@ returns-clause-makes c = λ name.
     let value = chosen c.greater.result (int_lt (number (argument ts 1)) (number (argument ts 0))) (argument ts 2) (argument ts 3) (part_text w.neutral c.if-greater.value.0 c.if-greater.value.1) test
     (λ is. elim c.if-greater.branch [ then-greater w ↦ rw w.value-is third | else-greater w ↦ absurd cc ])
     (λ is. elim c.if-greater.branch [ then-greater w ↦ absurd cc | else-greater w ↦ rw w.value-is fourth ]) in
-    c.give.ensures.makes Greater (name ∷ ts)
+    c.give.ensures.makes Greater (name ∷ ts) false c.args.arguments.scanned refl
     (valued-of Greater (name ∷ ts) w.forms w.forms _ false (λ meta input. ap (λ t. valued t (world w.forms meta input)) value) (λ _. refl))

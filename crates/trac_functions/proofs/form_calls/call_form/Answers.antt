@@ -1,7 +1,6 @@
 use Rattle.std.proofs.lemmas.Bool.{false≢true, cases_lt}
-use Rattle.std.proofs.lemmas.List.{take_rest}
 use Rattle.std.proofs.lemmas.List.Elements.{All-head, All-tail}
-use Rattle.std.proofs.Common.{⊎_elim, ◌≡◌, ℕ, ◌+◌, ◌<◌, ◌≤◌, ◌∷◌, ◌++◌, [], List, length, drop, refl, sym, ap, ◌∙◌, subst, arith, false, true, Some, All, slice_range}
+use Rattle.std.proofs.Common.{⊎_elim, ◌≡◌, ℕ, ◌+◌, ◌<◌, ◌≤◌, ◌∷◌, ◌++◌, [], List, length, drop, refl, sym, ap, ◌∙◌, subst, arith, false, true, Some}
 use Rattle.trac_language.specs.declared.function.Function.TheVariants.{CallForm}
 use Rattle.trac_language.specs.Text.{Text}
 use Rattle.trac_language.specs.declared.item.Item.{Item}
@@ -12,12 +11,12 @@ use Rattle.trac_language.specs.Meaning.{meaning_of, built, value_length}
 use Rattle.trac_space.specs.Texts.{flat_text}
 use Rattle.trac_forms.specs.Arguments.{texts_between}
 use Rattle.trac_forms.specs.Contents.{Contents, used, body_at, pointer_at, IsNamedAt, IsSound}
-use Rattle.trac_forms.specs.Search.{gap_at, NonePasses}
-use Rattle.trac_forms.proofs.Copies.{characters-between}
+use Rattle.trac_forms.specs.Loading.{AreCharacters, IsLoaded, called_part}
 use Rattle.trac_forms.proofs.Stores.{form_named-at, form_named-none}
 use Rattle.trac_functions.specs.declared.arguments.Arguments.{Arguments}
-use Rattle.trac_functions.specs.Calls.{world, texts, AreArguments, Means, IsValue, Makes, Valued, AreCharacters, body_text}
+use Rattle.trac_functions.specs.Calls.{world, texts, AreArguments, Means, IsValue, Valued}
 use Rattle.trac_functions.proofs.MadeValues.{valued-of}
+use Rattle.trac_functions.proofs.TakenItems.{all-characters}
 use Rattle.trac_functions.proofs.FormLemmas.{unchanged, parted, parted-texts}
 use Rattle.trac_functions.proofs.form_calls.call_form.Goals as goal
 
@@ -76,68 +75,63 @@ module _ (old mid : Contents) (same : mid ≡ old) (a : Arguments) (left : AreAr
 
 pub fill_body-requires-clause-arguments : goal.fill_body-requires-clause-arguments
 fill_body-requires-clause-arguments c =
-    let mid = c.next_form.new.work in
-    parted mid c.next_form.new.arguments (are c.args.work.now mid c.next_form.ensures.same c.next_form.new.arguments c.next_form.ensures.left)
+    let mid = c.place_body.new.work in
+    let same = c.in_default-place_body.ensures.placed ∙ c.next_form.ensures.same in
+    parted mid c.next_form.new.arguments (are c.args.work.now mid same c.next_form.new.arguments c.next_form.ensures.left)
 
 pub returns-then-fill_body-clause-makes : goal.returns-then-fill_body-clause-makes
 returns-then-fill_body-clause-makes c = λ name.
     let old = c.args.work.now in
-    let mid = c.next_form.new.work in
+    let mid = c.place_body.new.work in
+    let same = c.in_default-place_body.ensures.placed ∙ c.next_form.ensures.same in
     let a = c.next_form.new.arguments in
     let ts = texts old c.args.arguments in
-    let rest = given_is old mid c.next_form.ensures.same a c.next_form.ensures.left ts c.next_form.ensures.rest in
-    (_, value old mid c.next_form.ensures.same c.in-Some.form.0 (pointer_at mid.forms c.in-Some.form.0) (texts_between mid.neutral a.from a.end) ts rest refl name c.fill_body.new.self c.requires.sound c.in-Some.ensures.found c.if-fill_body.ensures.last (c.if-fill_body.ensures.put.0 refl))
+    let rest = given_is old mid same a c.next_form.ensures.left ts c.next_form.ensures.rest in
+    (_, value old mid same c.in-Some.form.0 (pointer_at mid.forms c.in-Some.form.0) (texts_between mid.neutral a.from a.end) ts rest refl name c.fill_body.new.self c.requires.sound c.in-Some.ensures.found c.if-fill_body.ensures.last (c.if-fill_body.ensures.put.0 refl))
 
 pub returns-else-fill_body-clause-makes : goal.returns-else-fill_body-clause-makes
 returns-else-fill_body-clause-makes c = λ name.
     let old = c.args.work.now in
-    let mid = c.next_form.new.work in
+    let mid = c.place_body.new.work in
+    let same = c.in_default-place_body.ensures.placed ∙ c.next_form.ensures.same in
     let a = c.next_form.new.arguments in
     let ts = texts old c.args.arguments in
-    let rest = given_is old mid c.next_form.ensures.same a c.next_form.ensures.left ts c.next_form.ensures.rest in
+    let rest = given_is old mid same a c.next_form.ensures.left ts c.next_form.ensures.rest in
     let given = texts_between mid.neutral a.from a.end in
-    let long = size old mid c.next_form.ensures.same c.in-Some.form.0 (pointer_at mid.forms c.in-Some.form.0) given ts rest refl in
-    let same_room = room old mid c.next_form.ensures.same c.in-Some.form.0 (pointer_at mid.forms c.in-Some.form.0) given ts rest refl in
+    let long = size old mid same c.in-Some.form.0 (pointer_at mid.forms c.in-Some.form.0) given ts rest refl in
+    let same_room = room old mid same c.in-Some.form.0 (pointer_at mid.forms c.in-Some.form.0) given ts rest refl in
     let text = fill given (drop (pointer_at mid.forms c.in-Some.form.0) (body_at mid.forms c.in-Some.form.0)) in
     let full : mid.room < used mid + length text =
     ⊎_elim (λ lt. lt) (λ fits. absurd (false≢true (c.if-fill_body.ensures.put.1 fits))) (cases_lt mid.room (used mid + length text)) in
     too_long old name ts c.in-Some.form.0 c.requires.sound c.in-Some.ensures.found (omega (arith, full, long, same_room))
 
--- a body in which no gap stands from a place on is filled by no text
-plain : (texts : List Text) (items : List Item) → All (λ i. is_character i ≡ true) items → fill texts items ≡ text_of items
+-- items that are all characters are filled by no text
+plain : (texts : List Text) (items : List Item) → AreCharacters items → fill texts items ≡ text_of items
 plain texts [] h = refl
 plain texts (Byte c ∷ items) h = ap (λ t. c ∷ t) (plain texts items (All-tail (λ i. is_character i ≡ true) (Byte c) items h))
 plain texts (Gap k ∷ items) h = absurd (false≢true (All-head (λ i. is_character i ≡ true) (Gap k) items h))
 
-module _ (body : List Item) (from end : ℕ) (order : from ≤ end) (end_is : end ≡ length body) (none : NonePasses (gap_at body) from (length body)) where
-  are_characters : AreCharacters body from end
-  are_characters =
-      record { order = order; within = omega arith; characters = characters-between body from end (omega arith) (subst (NonePasses (gap_at body) from) (sym end_is) none) }
-
-  filled : (texts : List Text) → fill texts (drop from body) ≡ text_of (slice_range body from end)
-  filled texts =
-      let rest : slice_range body from end ≡ drop from body = ap (slice_range body from) end_is ∙ take_rest body from in
-      ap (fill texts) (sym rest) ∙ plain texts (slice_range body from end) are_characters.characters
-
-pub give_body-requires-clause-part : goal.give_body-requires-clause-part
-give_body-requires-clause-part c =
-    let body = body_at c.next_form.new.work.forms c.in-Some.form.0 in
-    are_characters body c.pointer-from.result c.body_len.result (omega (arith, c.pointer-from.ensures.within, c.body_len.ensures.value)) c.body_len.ensures.value c.in-None.ensures
-
-pub returns-in-None-clause-makes : goal.returns-in-None-clause-makes
-returns-in-None-clause-makes c = λ name.
+pub returns-in-Some-place_body-clause-makes : goal.returns-in-Some-place_body-clause-makes
+returns-in-Some-place_body-clause-makes c = λ name.
     let old = c.args.work.now in
-    let mid = c.next_form.new.work in
-    let same = c.next_form.ensures.same in
+    let new = c.place_body.new.work in
     let k = c.in-Some.form.0 in
     let ts = texts old c.args.arguments in
-    let part : ℕ × ℕ = (c.pointer-from.result, c.body_len.result) in
-    let whole = fill (drop 1 ts) (drop (pointer_at mid.forms k) (body_at mid.forms k)) in
-    let text : whole ≡ body_text mid.forms k part =
-    ap (λ i. fill (drop 1 ts) (drop i (body_at mid.forms k))) (sym c.pointer-from.ensures.value)
-    ∙ filled (body_at mid.forms k) part.0 part.1 (omega (arith, c.pointer-from.ensures.within, c.body_len.ensures.value)) c.body_len.ensures.value c.in-None.ensures (drop 1 ts) in
-    let called_here : Valued CallForm (name ∷ ts) old.forms (fill (drop 1 ts) (drop (pointer_at old.forms k) (body_at old.forms k))) false old.forms =
-    valued-of CallForm (name ∷ ts) old.forms old.forms _ false (called old name ts k c.requires.sound c.in-Some.ensures.found) (λ _. refl) in
-    let valued = subst (λ t. Valued CallForm (name ∷ ts) mid.forms t false mid.forms) text
-    (subst (λ (w : Contents). Valued CallForm (name ∷ ts) w.forms (fill (drop 1 ts) (drop (pointer_at w.forms k) (body_at w.forms k))) false w.forms) (sym same) called_here) in
-    subst (λ (w : Contents). Makes CallForm (name ∷ ts) w c.give_body.result mid) same (c.give_body.ensures CallForm (name ∷ ts) valued)
+    let placed = c.in-Some-place_body.ensures.placed in
+    let items = called_part old.forms k in
+    let loaded = subst (λ (w : Contents). IsLoaded w new (called_part w.forms k) c.in-Some-place_body.size) c.next_form.ensures.same placed.1 in
+    let forms = ap (λ (w : Contents). w.forms) loaded.stands in
+    let means = valued-of CallForm (name ∷ ts) old.forms old.forms (fill (drop 1 ts) items) false (called old name ts k c.requires.sound c.in-Some.ensures.found) (λ _. refl) in
+    let valued = subst (λ t. Valued CallForm (name ∷ ts) old.forms t false old.forms) (plain (drop 1 ts) items loaded.characters) means in (
+      text_of items,
+      (
+        false,
+        record {
+          valued = subst (λ fs. Valued CallForm (name ∷ ts) old.forms (text_of items) false fs) (sym forms) valued;
+          goes = placed.0;
+          long = all-characters items loaded.characters ∙ loaded.size;
+          fits = loaded.fits;
+          stands = loaded.stands ∙ ap (λ fs. record old { forms = fs; active = flat_text (text_of items) ++ old.active }) (sym forms);
+        },
+      ),
+    )

@@ -12,7 +12,7 @@ unfolding meaning_of
 returns-in-Some-clause-makes c = λ name.
     let w = c.args.work.now in
     let ts = texts w c.args.arguments in
-    makes-found CallSegment (name ∷ ts) (argument ts 0) next_segment (argument ts 1) (record { means = λ w. refl; builds = λ w. refl })
+    makes-found CallSegment (name ∷ ts) (argument ts 0) next_segment (argument ts 1) (record { means = λ w. refl; builds = λ w. refl }) c.args.arguments.scanned
     w c.find.new.self c.take_segment.new.work c.in-Some.form.0 c.take_segment.result _ c.next-default.result.0 c.next-default.result.1
     c.requires.sound c.in-Some.ensures.same c.in-Some.ensures.found c.next-name.ensures.text c.take_segment.ensures.takes (c.next-default.ensures.text ∙ c.next-name.ensures.later 0)
 
@@ -21,5 +21,5 @@ unfolding meaning_of
 returns-in-None-clause-makes c = λ name.
     let w = c.args.work.now in
     let ts = texts w c.args.arguments in
-    makes-missing CallSegment (name ∷ ts) (argument ts 0) next_segment (argument ts 1) (record { means = λ w. refl; builds = λ w. refl })
+    makes-missing CallSegment (name ∷ ts) (argument ts 0) next_segment (argument ts 1) (record { means = λ w. refl; builds = λ w. refl }) c.args.arguments.scanned
     w c.find.new.self _ c.requires.sound c.in-None.ensures.same c.in-None.ensures.found c.next-name.ensures.text

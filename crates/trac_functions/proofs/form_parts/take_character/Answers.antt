@@ -9,7 +9,7 @@ pub returns-in-None-clause-takes : goal.returns-in-None-clause-takes
 returns-in-None-clause-takes c =
     let form = form_at c.args.work.now.forms c.args.form.0 in
     let z = part_text c.args.work.now.neutral c.args.default.0 c.args.default.1 in
-    subst (λ (o : Option Part). TakesPart o z c.args.form.0 c.args.work.now c.give.result c.args.work.now)
+    subst (λ (o : Option Part). TakesPart o z c.args.form.0 c.args.work.now c.give.result c.give.new.work)
     (sym (one-none form c.pointer-from.result c.pointer-from.ensures.value c.pointer-from.ensures.within c.in-None.ensures))
     (c.give.ensures.takes refl c.args.form.0)
 

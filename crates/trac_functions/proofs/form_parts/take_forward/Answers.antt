@@ -9,7 +9,7 @@ pub returns-then-to-from-clause-takes : goal.returns-then-to-from-clause-takes
 returns-then-to-from-clause-takes c =
     let form = form_at c.args.work.now.forms c.args.form.0 in
     let z = part_text c.args.work.now.neutral c.args.default.0 c.args.default.1 in
-    subst (λ (o : Option Part). TakesPart o z c.args.form.0 c.args.work.now c.give.result c.args.work.now)
+    subst (λ (o : Option Part). TakesPart o z c.args.form.0 c.args.work.now c.give.result c.give.new.work)
     (sym (next-none form c.args.count c.pointer-from.result c.place_after-to.result c.pointer-from.ensures.value c.place_after-to.ensures.place c.if-to-from.true))
     (c.give.ensures.takes refl c.args.form.0)
 

@@ -1,6 +1,6 @@
-use Rattle.std.proofs.Common.{Option, None, refl, sym, ◌∙◌, subst, arith}
+use Rattle.std.proofs.Common.{Option, refl, sym, ◌∙◌, subst, arith}
 use Rattle.trac_language.specs.Part.{Part}
-use Rattle.trac_forms.specs.Contents.{Contents, form_at, part_text}
+use Rattle.trac_forms.specs.Contents.{form_at, part_text}
 use Rattle.trac_functions.specs.Taking.{TakesPart}
 use Rattle.trac_functions.proofs.ArgumentLemmas.{part-long}
 use Rattle.trac_functions.proofs.TakenParts.{part-null, initial-null, initial-some, initial-none}
@@ -42,7 +42,6 @@ returns-in-None-clause-takes c =
     let other = c.if-sought.false in
     let made = c.give.ensures.takes refl c.args.form.0 in
     let takes = rw c.occurrence.ensures.same at made in
-    let there = subst (λ (w : Contents). TakesPart None z c.args.form.0 c.args.work.now c.give.result w) (sym c.occurrence.ensures.same) takes in
-    subst (λ (o : Option Part). TakesPart o z c.args.form.0 c.args.work.now c.give.result c.occurrence.new.self)
+    subst (λ (o : Option Part). TakesPart o z c.args.form.0 c.args.work.now c.give.result c.give.new.work)
     (sym (initial-none text form c.pointer-pointer.result c.pointer-pointer.ensures.value c.pointer-pointer.ensures.within (omega arith) c.in-None.ensures.found))
-    there
+    takes

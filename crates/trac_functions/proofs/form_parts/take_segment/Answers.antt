@@ -9,7 +9,7 @@ pub returns-then-from-end-clause-takes : goal.returns-then-from-end-clause-takes
 returns-then-from-end-clause-takes c =
     let form = form_at c.args.work.now.forms c.args.form.0 in
     let z = part_text c.args.work.now.neutral c.args.default.0 c.args.default.1 in
-    subst (λ (o : Option Part). TakesPart o z c.args.form.0 c.args.work.now c.give.result c.args.work.now)
+    subst (λ (o : Option Part). TakesPart o z c.args.form.0 c.args.work.now c.give.result c.give.new.work)
     (sym (segment-none form c.pointer-from.result c.pointer-from.ensures.value (c.if-from-end.true ∙ c.body_len-end.ensures.value)))
     (c.give.ensures.takes refl c.args.form.0)
 

@@ -11,7 +11,7 @@ returns c =
     let s = c.self.inside in
     let h = c.self.invariant in
     let size = sizes s h c.self.view_is in
-    let moved = parts-before s h (s.store + c.args.a) (s.store + c.args.b) (c.args.b - c.args.a) _ (omega arith) (omega arith) (omega arith) c.copy_few.ensures.after in
+    let moved = parts-before s h (s.store + c.args.a) (s.store + c.args.b) (c.args.b - c.args.a) _ (omega arith) (omega arith) (omega arith) c.copy_ahead.ensures.after in
     let part = slice_range s.cells.now (s.store + c.args.a) (s.store + c.args.b) in
     let seen_part = ap (map seen) (neutral-part s h c.args.a c.args.b (omega arith) (omega arith)) in
     rw (← c.self.view_is)
@@ -25,5 +25,5 @@ invariant_of-self c =
     let s = c.self.inside in
     let h = c.self.invariant in
     let size = sizes s h c.self.view_is in
-    let moved = parts-before s h (s.store + c.args.a) (s.store + c.args.b) (c.args.b - c.args.a) _ (omega arith) (omega arith) (omega arith) c.copy_few.ensures.after in
+    let moved = parts-before s h (s.store + c.args.a) (s.store + c.args.b) (c.args.b - c.args.a) _ (omega arith) (omega arith) (omega arith) c.copy_ahead.ensures.after in
     laid s _ h moved refl (omega arith) (omega arith) h.calls h.linked
