@@ -24,14 +24,9 @@ is_special c = is_layout c || (c == 35) || (c == 40) || (c == 41) || (c == 44)
 abbrev pub IsOrdinary : ℕ → Type 0
 IsOrdinary c = is_special c ≡ false
 
--- a parenthesis
-abbrev pub is_parenthesis : ℕ → Bool
-is_parenthesis c = (c == 40) || (c == 41)
-
--- 17 for a parenthesis, 1 for a comma, 2 for another character that has a rule of its own, 0 for
--- the rest
+-- 1 for a comma, 2 for another character that has a rule of its own, 0 for the rest
 abbrev pub kind_of : ℕ → ℕ
-kind_of c = if is_parenthesis c then 17 else (if c == 44 then 1 else (if is_special c then 2 else 0))
+kind_of c = if c == 44 then 1 else (if is_special c then 2 else 0)
 
 -- the same of a cell's
 abbrev pub kind_in : Cell → ℕ

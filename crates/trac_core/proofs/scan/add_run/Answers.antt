@@ -1,6 +1,5 @@
 use Rattle.std.proofs.Common.{◌≡◌, ◌≤◌, ◌<◌, ◌+◌, ◌++◌, length, take, drop, map, sym, ap, ◌∙◌, subst, arith}
 use Rattle.std.specs.List.{range_with_len}
-use Rattle.std.proofs.lemmas.List.{length-drop}
 use Rattle.trac_space.specs.Cells.{NoComma}
 use Rattle.trac_space.specs.Runs.{turned}
 use Rattle.trac_core.specs.StepsInRow.{IsPlainFrom, kind_of}
