@@ -1,12 +1,10 @@
 -- Runs of characters without a rule of their own, in blocks.
-use Rattle.std.proofs.Common.{◌≡◌, ℕ, zero, suc, get_or, ◌<◌, ◌+◌, ◌≤◌, Bool, true, false, List, [], ◌∷◌, length, take, drop, All, refl, sym, ap, ◌∙◌, subst, arith, sum_by}
+use Rattle.std.proofs.Common.{◌≡◌, ℕ, ◌+◌, ◌≤◌, Bool, true, false, List, [], ◌∷◌, take, drop, All, refl, sym, subst, arith, sum_by}
 use Rattle.std.specs.Prelude.{◌==◌, if◌then◌else◌}
 use Rattle.std.proofs.Math.Seq.{take-add}
-use Rattle.std.proofs.lemmas.List.{drop_more, get_or-map, length-map}
 use Rattle.std.proofs.lemmas.List.Elements.{All-append, All-cons}
 use Rattle.std.proofs.lemmas.List.Sums.{sum_by-cons}
 use Rattle.trac_space.specs.declared.cell.Cell.{Cell}
-use Rattle.trac_space.specs.declared.cell.Cell.TheVariants.{Byte}
 use Rattle.trac_space.specs.Texts.{text_of_cells, character_of}
 use Rattle.trac_core.specs.StepsInRow.{is_special, kind_of, kind_in, IsOrdinary}
 use Rattle.trac_core.proofs.Scanning.{take-text, drop-text}
