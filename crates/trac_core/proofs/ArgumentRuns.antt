@@ -16,7 +16,7 @@ use Rattle.trac_space.specs.Runs.{IsInRun, number_in, turned, turned_by}
 use Rattle.trac_forms.specs.Contents.{Contents, used}
 use Rattle.trac_functions.specs.Flat.{memory_of}
 use Rattle.trac_core.specs.Attempts.{Scans}
-use Rattle.trac_core.specs.StepsInRow.{is_special, is_parenthesis, kind_of, IsOrdinary, IsPlainFrom, PassesTimes}
+use Rattle.trac_core.specs.StepsInRow.{is_special, kind_of, IsOrdinary, IsPlainFrom, PassesTimes}
 use Rattle.trac_core.proofs.Scanning.{scans-other, scans-comma}
 use Rattle.trac_core.proofs.StepsInRow.{passes-scans, ordinary-layout, ordinary-not}
 
@@ -32,18 +32,17 @@ number-kind c =
     (λ past. get_or_past (map kind_of (range_with_len 0 256)) c 0 (omega (arith, past, length-map-range_with_len kind_of 0 256)) ∙ sym (kind-past c past))
     (cases_lt c 256)
 
-abbrev kind_by : Bool → Bool → Bool → ℕ
-kind_by a b d = if a then 17 else (if b then 1 else (if d then 2 else 0))
+abbrev kind_by : Bool → Bool → ℕ
+kind_by b d = if b then 1 else (if d then 2 else 0)
 
 -- the characters of a run are ordinary ones and commas
 kind-run : (c : ℕ) → kind_of c ≤ 1 → (IsOrdinary c × (kind_of c ≡ 0)) ⊎ ((c ≡ 44) × (kind_of c ≡ 1))
-kind-run c = go (is_parenthesis c) (c == 44) (is_special c) (eqb-true c 44)
+kind-run c = go (c == 44) (is_special c) (eqb-true c 44)
   where
-    go : (a b d : Bool) → (b ≡ true → c ≡ 44) → kind_by a b d ≤ 1 → ((d ≡ false) × (kind_by a b d ≡ 0)) ⊎ ((c ≡ 44) × (kind_by a b d ≡ 1))
-    go true b d comma less = absurd (omega arith)
-    go false true d comma less = inr (comma refl, refl)
-    go false false true comma less = absurd (omega arith)
-    go false false false comma less = inl (refl, refl)
+    go : (b d : Bool) → (b ≡ true → c ≡ 44) → kind_by b d ≤ 1 → ((d ≡ false) × (kind_by b d ≡ 0)) ⊎ ((c ≡ 44) × (kind_by b d ≡ 1))
+    go true d comma less = inr (comma refl, refl)
+    go false true comma less = absurd (omega arith)
+    go false false comma less = inl (refl, refl)
 
 -- one of them is scanned
 scans-run : (w : Contents) (c place : ℕ) → slice_get (text_of_cells w.active) 0 ≡ Some c → IsLastCall w.neutral place → kind_of c ≤ 1 → Scans w (record w { active = drop 1 w.active; neutral = w.neutral ++ turned_by (map kind_of (range_with_len 0 256)) (Byte c) ∷ [] }) (used w)

@@ -9,6 +9,7 @@ pub mod Printing
 pub mod Outputs
 pub mod Moments
 pub mod Reported
+pub mod RunningOn
 pub mod Displaying
 pub mod RuleRows
 pub mod ReadTexts

@@ -1,42 +1,29 @@
 -- Runs of characters without a rule of their own, in blocks.
-use Rattle.std.proofs.Common.{◌≡◌, ℕ, zero, suc, get_or, ◌<◌, ◌+◌, ◌≤◌, Bool, true, false, List, [], ◌∷◌, length, take, drop, All, refl, sym, ap, ◌∙◌, subst, arith, sum_by}
+use Rattle.std.proofs.Common.{◌≡◌, ℕ, ◌+◌, ◌≤◌, Bool, true, false, List, [], ◌∷◌, take, drop, All, refl, sym, subst, arith, sum_by}
 use Rattle.std.specs.Prelude.{◌==◌, if◌then◌else◌}
 use Rattle.std.proofs.Math.Seq.{take-add}
-use Rattle.std.proofs.lemmas.List.{drop_more, get_or-map, length-map}
 use Rattle.std.proofs.lemmas.List.Elements.{All-append, All-cons}
 use Rattle.std.proofs.lemmas.List.Sums.{sum_by-cons}
 use Rattle.trac_space.specs.declared.cell.Cell.{Cell}
-use Rattle.trac_space.specs.declared.cell.Cell.TheVariants.{Byte}
 use Rattle.trac_space.specs.Texts.{text_of_cells, character_of}
-use Rattle.trac_core.specs.StepsInRow.{is_parenthesis, is_special, kind_of, kind_in, IsOrdinary}
-use Rattle.trac_core.specs.Matching.{IsAt, GoesBy}
-use Rattle.trac_core.proofs.Matching.{goes-by}
+use Rattle.trac_core.specs.StepsInRow.{is_special, kind_of, kind_in, IsOrdinary}
 use Rattle.trac_core.proofs.Scanning.{take-text, drop-text}
 
-pub kind-small : (c : ℕ) → kind_of c ≤ 17
-kind-small c = go (is_parenthesis c) (c == 44) (is_special c)
+pub kind-small : (c : ℕ) → kind_of c ≤ 2
+kind-small c = go (c == 44) (is_special c)
   where
-    go : (a b d : Bool) → (if a then 17 else (if b then 1 else (if d then 2 else 0))) ≤ 17
-    go true b d = omega arith
-    go false true d = omega arith
-    go false false true = omega arith
-    go false false false = omega arith
+    go : (b d : Bool) → (if b then 1 else (if d then 2 else 0)) ≤ 2
+    go true d = omega arith
+    go false true = omega arith
+    go false false = omega arith
 
 pub kind-none : (c : ℕ) → kind_of c ≡ 0 → IsOrdinary c
-kind-none c = go (is_parenthesis c) (c == 44) (is_special c)
+kind-none c = go (c == 44) (is_special c)
   where
-    go : (a b d : Bool) → ◌≡◌ {A = ℕ} (if a then 17 else (if b then 1 else (if d then 2 else 0))) 0 → d ≡ false
-    go true b d e = absurd cc
-    go false true d e = absurd cc
-    go false false true e = absurd cc
-    go false false false e = refl
-
-kind-other : (c : ℕ) → kind_of c < 17 → is_parenthesis c ≡ false
-kind-other c = go (is_parenthesis c) (c == 44) (is_special c)
-  where
-    go : (a b d : Bool) → (if a then 17 else (if b then 1 else (if d then 2 else 0))) < 17 → a ≡ false
-    go true b d less = absurd (omega arith)
-    go false b d less = refl
+    go : (b d : Bool) → ◌≡◌ {A = ℕ} (if b then 1 else (if d then 2 else 0)) 0 → d ≡ false
+    go true d e = absurd cc
+    go false true e = absurd cc
+    go false false e = refl
 
 -- where the kinds come to nothing each character is ordinary
 ordinary-block : (cells : List Cell) → sum_by kind_in cells ≡ 0 → All IsOrdinary (text_of_cells cells)
@@ -55,17 +42,3 @@ ordinary-more cells i n first more =
 pub ordinary-eight : (cells : List Cell) (i kinds : ℕ) → kinds ≡ sum_by kind_in (take 8 (drop i cells)) → kinds ≤ 0 → All IsOrdinary (take i (text_of_cells cells)) → All IsOrdinary (take (i + 8) (text_of_cells cells))
 ordinary-eight cells i kinds is none first =
     ordinary-more cells i 8 first (subst (All IsOrdinary) (take-text 8 (drop i cells)) (ordinary-block (take 8 (drop i cells)) (omega (arith, is, none))))
-
--- where the kinds come to less than a parenthesis the search for one goes by
-pub others-pass : (cells : List Cell) (n i : ℕ) → i + n ≤ length cells → sum_by kind_in (take n (drop i cells)) < 17 → GoesBy (text_of_cells cells) i (i + n)
-others-pass cells zero i within less depth at = let same : i + 0 ≡ i = omega arith in subst (λ k. IsAt (text_of_cells cells) k depth) (sym same) at
-others-pass cells (suc n) i within less depth at =
-    let cell = get_or cells i (Byte 0) in
-    let first = ap (take (suc n)) (drop_more cells i (Byte 0) (omega arith)) in
-    let sum = ap (sum_by kind_in) first ∙ sum_by-cons kind_in cell (take n (drop (i + 1) cells)) in
-    let other = kind-other (character_of cell) (omega (arith, less, sum)) in
-    let here : character_of cell ≡ get_or (text_of_cells cells) i 0 = sym (get_or-map character_of cells i (Byte 0) 0 (omega arith)) in
-    let long : length (text_of_cells cells) ≡ length cells = length-map cells character_of in
-    let next : i + 1 + n ≡ i + suc n = omega arith in
-    subst (λ k. IsAt (text_of_cells cells) k depth) next
-    (others-pass cells n (i + 1) (omega arith) (omega (arith, less, sum)) depth (goes-by (text_of_cells cells) i (character_of cell) (omega arith) here other depth at))

@@ -1,11 +1,11 @@
 -- Steps in a row: ordinary characters are added one by one, layout characters deleted, and the steps of any rule that
 -- performs no call follow one another.
-use Rattle.std.proofs.Common.{◌≡◌, ◌≢◌, ℕ, zero, suc, ◌<◌, ◌≤◌, ◌+◌, ◌-◌, Bool, true, false, ◌||◌, List, [], ◌∷◌, ◌++◌, length, take, drop, All, Some, None, slice_get, refl, sym, ap, ◌∙◌, subst, arith, append_assoc, append-nil, length-append}
+use Rattle.std.proofs.Common.{◌≡◌, ◌≢◌, ℕ, zero, suc, ◌<◌, ◌≤◌, ◌+◌, ◌-◌, max, ◌⊎◌, inl, inr, Bool, true, false, ◌||◌, List, [], ◌∷◌, ◌++◌, length, take, drop, All, Some, None, slice_get, refl, sym, ap, ◌∙◌, subst, arith, append_assoc, append-nil, length-append}
 use Rattle.std.specs.Prelude.{◌==◌}
 use Rattle.std.proofs.lemmas.List.{length-drop, take-take}
 use Rattle.std.proofs.lemmas.List.Elements.{All-head, All-tail, All-cons}
 use Rattle.trac_language.specs.Text.{Text}
-use Rattle.trac_language.specs.State.{Memory}
+use Rattle.trac_language.specs.State.{Memory, size}
 use Rattle.trac_language.specs.Rule.{is_layout}
 use Rattle.trac_language.specs.Step.{step, need}
 use Rattle.trac_laws.specs.LastRead.{reads_to_end}
@@ -18,7 +18,7 @@ use Rattle.trac_functions.specs.Flat.{memory_of}
 use Rattle.trac_functions.proofs.FlatLemmas.{size-used}
 use Rattle.trac_core.specs.Machine.{moment, ending, state_with, state_of}
 use Rattle.trac_core.specs.Attempts.{Scans, scene, Tried}
-use Rattle.trac_core.specs.StepsInRow.{is_special, IsOrdinary, IsLayout, Passes, PassesTimes, Advances, SomeSteps}
+use Rattle.trac_core.specs.StepsInRow.{is_special, IsOrdinary, IsLayout, Passes, PassesTimes, Advances, SomeSteps, peak_after}
 use Rattle.trac_core.proofs.Scanning.{scans-other, scans-layout, first-rest}
 
 -- no rule of its own
@@ -160,3 +160,17 @@ step-run old middle new n most scans same shorter some passes few less =
       few = omega arith;
       shorter = omega arith;
     }
+
+-- steps that perform no call leave a memory no larger
+pub passes-smaller : (n : ℕ) (old new : Memory) → PassesTimes n old new → size new ≤ size old
+passes-smaller zero old new passes = let same = ap size passes in omega arith
+passes-smaller (suc n) old new passes =
+    let later = passes-smaller n passes.0 new passes.1.1 in
+    let here = passes.1.0.no_larger in
+    omega arith
+
+-- after some steps the peak is what it was or the need of the first, which has not to be this one
+pub peak-some : (n cells need peak : ℕ) → 0 < n → (need ≡ cells) ⊎ ((cells ≤ peak) × (need ≤ peak)) → peak_after n cells peak ≡ max peak need
+peak-some zero cells need peak some known = absurd (omega arith)
+peak-some (suc n) cells need peak some (inl same) = omega arith
+peak-some (suc n) cells need peak some (inr known) = let a = known.0 in let b = known.1 in omega arith

@@ -1,5 +1,7 @@
 -- The search for the right parenthesis that matches.
-use Rattle.std.specs.Prelude.{◌≡◌, ℕ, ◌+◌, [], take, drop}
+use Rattle.std.specs.Prelude.{◌≡◌, ℕ, ◌+◌, [], take, drop, ◌==◌, if◌then◌else◌}
+use Rattle.trac_space.specs.declared.cell.Cell.{Cell}
+use Rattle.trac_space.specs.Texts.{character_of}
 use Rattle.trac_language.specs.Text.{Text}
 use Rattle.trac_language.specs.Protected.{count, split_at_match}
 
@@ -8,6 +10,10 @@ pub record IsAt (text : Text) (i depth : ℕ) : Type 0 where
   pub none : split_at_match [] text ≡ split_at_match (take i text) (drop i text)
   pub open_is : depth + count 41 (take i text) ≡ count 40 (take i text)
 
--- no parenthesis stands between two places: the search goes from the one to the other
-abbrev pub GoesBy : Text → (from to : ℕ) → Type 0
-GoesBy text from to = (depth : ℕ) → IsAt text from depth → IsAt text to depth
+-- 1 for a left parenthesis, 16 for a right one, 0 for the rest
+abbrev pub side_of : ℕ → ℕ
+side_of c = if c == 40 then 1 else (if c == 41 then 16 else 0)
+
+-- the same of a cell's
+abbrev pub side_in : Cell → ℕ
+side_in cell = side_of (character_of cell)

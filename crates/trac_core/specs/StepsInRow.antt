@@ -1,6 +1,6 @@
 -- Steps that perform no call in a row, which are done at once.
 use Rattle.std.specs.Prelude.{◌≡◌, ℕ, zero, suc, max, Bool, true, false, ◌||◌, ◌==◌, ◌+◌, ◌<◌, ◌≤◌}
-use Rattle.std.specs.Prelude.{if◌then◌else◌, length, List, [], drop, Option, Some, None, Result, Ok, Err, slice_get}
+use Rattle.std.specs.Prelude.{if◌then◌else◌, length, List, [], drop, Some, None, Result, Ok, Err, slice_get}
 use Rattle.trac_language.specs.Text.{Text}
 use Rattle.trac_language.specs.State.{Input, Memory, size}
 use Rattle.trac_language.specs.Rule.{is_layout}
@@ -14,6 +14,7 @@ use Rattle.trac_forms.specs.Contents.{Contents}
 use Rattle.trac_functions.specs.Flat.{memory_of}
 use Rattle.trac_core.specs.declared.scan.Front.{Front}
 use Rattle.trac_core.specs.declared.scan.Front.TheVariants.{Empty, Closes}
+use Rattle.trac_core.specs.declared.machine.Counters.{Counters}
 use Rattle.trac_core.specs.Machine.{MachineState, state_with}
 
 -- a character that has a rule of its own
@@ -24,14 +25,9 @@ is_special c = is_layout c || (c == 35) || (c == 40) || (c == 41) || (c == 44)
 abbrev pub IsOrdinary : ℕ → Type 0
 IsOrdinary c = is_special c ≡ false
 
--- a parenthesis
-abbrev pub is_parenthesis : ℕ → Bool
-is_parenthesis c = (c == 40) || (c == 41)
-
--- 17 for a parenthesis, 1 for a comma, 2 for another character that has a rule of its own, 0 for
--- the rest
+-- 1 for a comma, 2 for another character that has a rule of its own, 0 for the rest
 abbrev pub kind_of : ℕ → ℕ
-kind_of c = if is_parenthesis c then 17 else (if c == 44 then 1 else (if is_special c then 2 else 0))
+kind_of c = if c == 44 then 1 else (if is_special c then 2 else 0)
 
 -- the same of a cell's
 abbrev pub kind_in : Cell → ℕ
@@ -89,12 +85,6 @@ abbrev pub ComesTo : Result ℕ Front → ℕ → Contents → Contents → Type
 ComesTo (Ok n) most old new = SomeSteps n most old new
 ComesTo (Err front) most old new = (new ≡ old) × AsksFor front old
 
--- so many of those steps were made of at most so many, all of
--- them or up to a step that asks for something else
-abbrev pub StopsAt : Option Front → ℕ → ℕ → Contents → Type 0
-StopsAt None n most w = n ≡ most
-StopsAt (Some front) n most w = (n < most) × AsksFor front w
-
 -- the peak after so many steps, of which the first needs this many cells and none needs more
 abbrev pub peak_after : ℕ → ℕ → ℕ → ℕ
 peak_after zero needed peak = peak
@@ -105,8 +95,14 @@ abbrev pub passed : ℕ → Memory → MachineState → MachineState
 passed n memory m =
     record m { memory = memory; steps = m.steps + n; peak = peak_after n (size m.memory) m.peak }
 
--- a machine did some steps that perform no call, which were allowed
-abbrev pub PassesSome : MachineState → MachineState → Type 0
-PassesSome old new =
-    (n : ℕ) × ((memory : Memory) × PassesTimes n old.memory memory × (new ≡ passed n memory old)
-    × (new.steps ≤ new.allowance))
+-- a machine over these contents, whose run isn't over, with these counters
+abbrev pub running : Contents → ℕ → Counters → MachineState
+running w meta at =
+    record {
+      memory = memory_of meta w;
+      room = w.room;
+      allowance = at.allowance;
+      steps = at.steps;
+      peak = at.peak;
+      fate = None;
+    }

@@ -1,17 +1,20 @@
 //! The machine: one step, and a run to the end.
 ghost use Rattle.std.specs.Prelude.{◌≡◌, ◌≢◌, ◌+◌, ◌-◌, ◌^◌, ◌<◌, ◌≤◌, ◌++◌};
-ghost use Rattle.std.specs.Prelude.{length, false, true, None, Some, IsSome};
+ghost use Rattle.std.specs.Prelude.{length, false, true, max, None, Some, IsSome};
 ghost use Rattle.trac_language.specs.Text.{Text};
+ghost use Rattle.trac_language.specs.State.{Memory};
 ghost use Rattle.trac_devices.specs.Devices.{Sent};
 ghost use Rattle.trac_core.specs.Performed.{performs, reads_input, prints_output};
 ghost use Rattle.trac_core.specs.Machine.{made, KeepsLimits, moment, Answers, Takes, StaysOver};
 ghost use Rattle.trac_core.specs.Machine.{input_failures, output_failures, reported_input_failures};
 ghost use Rattle.trac_core.specs.Machine.{reported_output_failures, Reports, course, counted};
-ghost use Rattle.trac_core.specs.Machine.{MachineState, counts_as_step};
-ghost use Rattle.trac_core.specs.StepsInRow.{peak_after, PassesSome};
+ghost use Rattle.trac_core.specs.Machine.{MachineState, Resumes, counts_as_step};
+ghost use Rattle.trac_core.specs.StepsInRow.{running};
+ghost use Rattle.trac_forms.specs.Contents.{IsSound};
+ghost use Rattle.trac_functions.specs.Calls.{KeepsRoom};
 
 use crate::call::carry_out;
-use crate::scan::{Attempt, scan_on};
+use crate::scan::{Attempt, pass, scan_once};
 use std::marker::Model;
 use trac_devices::{Sink, Source};
 use trac_forms::Work;
@@ -157,52 +160,11 @@ impl<'a> Machine<'a> {
             });
         }
         let need = self.work.used();
-        let Some(front) = scan_on(&mut self.work, 1).1 else {
+        let Some(front) = scan_once(&mut self.work) else {
             return self.count(Attempt { fate: None, need });
         };
         let attempt = carry_out(&mut self.work, front, &mut self.meta, source, sink);
         self.count(attempt)
-    }
-
-    /// Makes the steps that perform no call, as far as the allowance goes, and the step after them.
-    /// None: it was done, and the run goes on. Some: the run is over with this fate.
-    pub(crate) fn go_on<I: Source, O: Sink>(&mut self, source: &mut I, sink: &mut O) -> Option<Fate>
-        requires not_over { self.old.fate ≡ None }
-        requires source_counts { I.failure_count source.old < 2 ^ 64 - 1 }
-        requires sink_counts { O.failure_count sink.old < 2 ^ 64 - 1 }
-        ensures answers { (middle : MachineState) × (PassesSome self.old middle ×
-            (I.tells source.old → O.tells sink.old →
-            Answers (moment middle (I.stream source.old) (O.written sink.old)) result
-            (moment self.new (I.stream source.new) (O.written sink.new)))) }
-        ensures fate { self.new.fate ≡ result }
-        ensures proceeds { result ≡ None → self.old.steps < self.new.steps }
-        ensures input_failed { I.failure_count source.new ≡
-            I.failure_count source.old + input_failures None result }
-        ensures output_failed { O.failure_count sink.new ≡
-            O.failure_count sink.old + output_failures None result }
-        ensures sent { result ≢ Some Fate.OutputFailed →
-            Sent O.tells O.flushed O.written sink.old sink.new }
-        ensures takes { I.tells source.old → (taken : Text) ×
-            ((I.stream source.old).bytes ≡ taken ++ (I.stream source.new).bytes) }
-        ensures told_source { I.tells source.old → I.tells source.new }
-        ensures told_sink { O.tells sink.old → O.tells sink.new }
-        ensures kept { O.lent sink.new ≡ O.lent sink.old }
-        ensures room { self.new.room ≡ self.old.room }
-        ensures allowance { self.new.allowance ≡ self.old.allowance }
-        ensures limits { KeepsLimits self.new }
-    {
-        let need = self.work.used();
-        let (count, front) = scan_on(&mut self.work, self.allowance - self.steps);
-        self.steps += count;
-        self.peak = peak_after(count, need, self.peak);
-        let Some(front) = front else {
-            return self.count(Attempt {
-                fate: Some(Fate::Steps),
-                need: 0,
-            });
-        };
-        let last = carry_out(&mut self.work, front, &mut self.meta, source, sink);
-        self.count(last)
     }
 
     /// Counts a step that came to this, of a run that is not over.
@@ -261,9 +223,101 @@ impl<'a> Machine<'a> {
     }
 }
 
-/// The peak after so many steps, of which the first needs this many cells and none needs more.
-fn peak_after(count: u64, need: u32, peak: u32) -> u32
-    ensures { result ≡ peak_after count need peak }
+/// The counters of a run.
+#[derive(Clone, Copy, Debug, PartialEq, Eq)]
+struct Counters {
+    allowance: u64,
+    steps: u64,
+    peak: u32,
+}
+
+/// Makes steps to the end of a run that isn't over and has these counters, and reports what it came
+/// to. The counters are single values here, and no part of a machine, so that they need not stand
+/// in memory.
+fn run_to_end<I: Source, O: Sink>(
+    work: &mut Work,
+    meta: &mut u8,
+    at: Counters,
+    source: &mut I,
+    sink: &mut O,
+) -> Report
+    requires sound { IsSound work.old }
+    requires steps { at.steps ≤ at.allowance }
+    requires peak { at.peak ≤ work.old.room }
+    requires source_counts { I.failure_count source.old < 2 ^ 64 - 1 }
+    requires sink_counts { O.failure_count sink.old < 2 ^ 64 - 1 }
+    ensures reports { I.tells source.old → O.tells sink.old →
+        let m = running work.old meta.old at in
+        let course = course m (I.stream source.old) (O.written sink.old)
+        (I.stream source.new) (O.written sink.new) in
+        Resumes m result.fate course result }
+    ensures input_failed { I.failure_count source.new ≡
+        I.failure_count source.old + input_failures None (Some result.fate) }
+    ensures output_failed { O.failure_count sink.new ≡
+        O.failure_count sink.old + output_failures None (Some result.fate) }
+    ensures sent { result.fate ≢ Fate.OutputFailed →
+        Sent O.tells O.flushed O.written sink.old sink.new }
+    ensures told_source { I.tells source.old → I.tells source.new }
+    ensures told_sink { O.tells sink.old → O.tells sink.new }
+    ensures kept { O.lent sink.new ≡ O.lent sink.old }
+    ensures steps { result.steps ≤ at.allowance }
+    ensures peak { result.peak ≤ work.old.room }
+    ensures keeps { KeepsRoom work.old work.new }
 {
-    if count == 0 { peak } else { peak.max(need) }
+    let mut left = at.allowance - at.steps;
+    let mut peak = at.peak;
+    // The cells of the first step since a call: those that perform none need no more than it does.
+    let mut need = work.used();
+    let mut plain = work.neutral_len();
+    let mut long = false;
+    while left > 0 {
+        match pass(work, left, &mut plain, &mut long) {
+            Ok(done) => {
+                left -= done;
+                peak = peak.max(need);
+            }
+            Err(front) => {
+                let last = carry_out(work, front, meta, source, sink);
+                if let Some(fate) = last.fate {
+                    return ended(fate, last.need, at.allowance - left, peak);
+                }
+                left -= 1;
+                peak = peak.max(last.need);
+                need = work.used();
+                plain = work.neutral_len();
+                long = false;
+            }
+        }
+    }
+    Report {
+        fate: Fate::Steps,
+        steps: at.allowance,
+        peak,
+    }
+}
+
+/// What a run reports that ended so in a try of a step, which needed so many cells, after so many
+/// steps and with this peak.
+fn ended(fate: Fate, need: u32, steps: u64, peak: u32) -> Report
+    requires allowed { counts_as_step (Some fate) ≡ true → steps < 2 ^ 64 - 1 }
+    ensures counts { (m : MachineState) (after : Memory) → m.steps ≡ steps → m.peak ≡ peak →
+        let after = counted m after need (Some fate) in
+        result ≡ record { fate = fate; steps = after.steps; peak = after.peak } }
+    ensures fate { result.fate ≡ fate }
+    ensures steps { result.steps ≤ steps + 1 }
+    ensures peak { result.peak ≤ max peak need }
+{
+    match fate {
+        Fate::Halted | Fate::InputEnded => Report {
+            fate,
+            steps: steps + 1,
+            peak: peak.max(need),
+        },
+        Fate::InputFailed | Fate::OutputFailed => Report {
+            fate,
+            steps,
+            peak: peak.max(need),
+        },
+        Fate::Workspace | Fate::Steps => Report { fate, steps, peak },
+    }
 }

@@ -1,20 +1,18 @@
 //! Runs of characters that follow one rule, which are scanned at once.
-ghost use Rattle.std.specs.Prelude.{◌≡◌, ◌+◌, ◌≤◌, ◌<◌, All, drop, get_or, length, sum_by, take};
-ghost use Rattle.std.specs.Prelude.{MatchOption, None, Some, true};
+ghost use Rattle.std.specs.Prelude.{◌≡◌, ℕ, ◌+◌, ◌≤◌, ◌<◌, All, drop, length, sum_by, take};
+ghost use Rattle.std.specs.Prelude.{MatchOption, None, Some};
 ghost use Rattle.trac_language.specs.Protected.{protected};
 ghost use Rattle.trac_language.specs.Rule.{is_layout};
 ghost use Rattle.trac_space.specs.Texts.{IsByte, text_of_cells};
-ghost use Rattle.trac_core.specs.Matching.{GoesBy};
-ghost use Rattle.trac_core.specs.StepsInRow.{is_parenthesis, is_special, kind_in, IsLayout};
-ghost use Rattle.trac_core.specs.StepsInRow.{IsOrdinary};
+ghost use Rattle.trac_core.specs.Matching.{IsAt, side_in};
+ghost use Rattle.trac_core.specs.StepsInRow.{is_special, kind_in, IsLayout, IsOrdinary};
 
 use trac_space::{Cell, byte_in};
 
-/// For each byte 17 where it is a parenthesis, 1 where it is a comma, 2 where it has another rule
-/// of its own, and else 0.
+/// For each byte 1 where it is a comma, 2 where it has another rule of its own, and else 0.
 pub(crate) const KINDS: &[u8; 256] = b"\
     \0\0\0\0\0\0\0\0\0\x02\x02\0\0\x02\0\0\0\0\0\0\0\0\0\0\0\0\0\0\0\0\0\0\
-    \0\0\0\x02\0\0\0\0\x11\x11\0\0\x01\0\0\0\0\0\0\0\0\0\0\0\0\0\0\0\0\0\0\0\
+    \0\0\0\x02\0\0\0\0\x02\x02\0\0\x01\0\0\0\0\0\0\0\0\0\0\0\0\0\0\0\0\0\0\0\
     \0\0\0\0\0\0\0\0\0\0\0\0\0\0\0\0\0\0\0\0\0\0\0\0\0\0\0\0\0\0\0\0\
     \0\0\0\0\0\0\0\0\0\0\0\0\0\0\0\0\0\0\0\0\0\0\0\0\0\0\0\0\0\0\0\0\
     \0\0\0\0\0\0\0\0\0\0\0\0\0\0\0\0\0\0\0\0\0\0\0\0\0\0\0\0\0\0\0\0\
@@ -22,12 +20,23 @@ pub(crate) const KINDS: &[u8; 256] = b"\
     \0\0\0\0\0\0\0\0\0\0\0\0\0\0\0\0\0\0\0\0\0\0\0\0\0\0\0\0\0\0\0\0\
     \0\0\0\0\0\0\0\0\0\0\0\0\0\0\0\0\0\0\0\0\0\0\0\0\0\0\0\0\0\0\0\0";
 
-// How many characters are looked at one by one before that.
+/// For each byte 1 where it is a left parenthesis, 16 where it is a right one, and else 0.
+const SIDES: &[u8; 256] = b"\
+    \0\0\0\0\0\0\0\0\0\0\0\0\0\0\0\0\0\0\0\0\0\0\0\0\0\0\0\0\0\0\0\0\
+    \0\0\0\0\0\0\0\0\x01\x10\0\0\0\0\0\0\0\0\0\0\0\0\0\0\0\0\0\0\0\0\0\0\
+    \0\0\0\0\0\0\0\0\0\0\0\0\0\0\0\0\0\0\0\0\0\0\0\0\0\0\0\0\0\0\0\0\
+    \0\0\0\0\0\0\0\0\0\0\0\0\0\0\0\0\0\0\0\0\0\0\0\0\0\0\0\0\0\0\0\0\
+    \0\0\0\0\0\0\0\0\0\0\0\0\0\0\0\0\0\0\0\0\0\0\0\0\0\0\0\0\0\0\0\0\
+    \0\0\0\0\0\0\0\0\0\0\0\0\0\0\0\0\0\0\0\0\0\0\0\0\0\0\0\0\0\0\0\0\
+    \0\0\0\0\0\0\0\0\0\0\0\0\0\0\0\0\0\0\0\0\0\0\0\0\0\0\0\0\0\0\0\0\
+    \0\0\0\0\0\0\0\0\0\0\0\0\0\0\0\0\0\0\0\0\0\0\0\0\0\0\0\0\0\0\0\0";
+
+// How many characters of a run are looked at one by one before it is looked at by blocks.
 const FEW: usize = 8;
-// How many characters are looked at by one test of the table.
+// How many characters are looked at by one test of a table.
 const BLOCK: usize = 8;
-// What the table says of a parenthesis: more than of all others of a block together.
-const PARENTHESIS: u8 = 17;
+// What the table of parentheses says of a right one: more than of the left ones of a block together.
+const RIGHT: u8 = 16;
 
 /// How many layout characters begin the cells.
 pub(crate) fn layout_characters(cells: &[Cell]) -> u32
@@ -152,7 +161,7 @@ fn kinds(cells: &[Cell], i: usize) -> u8
 fn kind(cell: &Cell) -> u8
     requires { IsByte cell.now }
     ensures kind { result ≡ kind_in cell.now }
-    ensures small { result ≤ 17 }
+    ensures small { result ≤ 2 }
 {
     KINDS[usize::from(byte_in(cell))]
 }
@@ -168,130 +177,79 @@ pub(crate) fn matching(cells: &[Cell]) -> Option<u32>
         × (protected text ≡ Some (take place text, drop (place + 1) text))) }
 {
     let mut depth = 0u32;
-    let mut i = next_parenthesis(cells, 0);
-    while i < cells.len() {
-        let character = byte_in(&cells[i]);
-        if character == b'(' {
-            depth += 1;
-        } else if depth == 0 {
-            return Some(i as u32);
-        } else {
-            depth -= 1;
-        }
-        i = next_parenthesis(cells, i + 1);
-    }
-    None
-}
-
-/// Where the first parenthesis stands from a place on; the number of the cells where there is none.
-#[inline]
-fn next_parenthesis(cells: &[Cell], from: usize) -> usize
-    requires few { length cells.now ≤ 16777216 }
-    requires bytes { All IsByte cells.now }
-    requires order { from ≤ length cells.now }
-    ensures within { result ≤ length cells.now }
-    ensures order { from ≤ result }
-    ensures passes { GoesBy (text_of_cells cells.now) from result }
-    ensures found { result < length cells.now →
-        is_parenthesis (get_or (text_of_cells cells.now) result 0) ≡ true }
-{
-    if cells.len() - from < BLOCK {
-        return match parenthesis_before(cells, from, cells.len()) {
-            Some(i) => i,
-            None => cells.len(),
-        };
-    }
-    let passed = others_in_block(cells, from);
-    if passed < BLOCK {
-        from + passed
-    } else {
-        far_parenthesis(cells, from + BLOCK)
-    }
-}
-
-/// How many of the eight characters from a place on stand before the first parenthesis.
-#[inline]
-fn others_in_block(cells: &[Cell], at: usize) -> usize
-    requires within { at + 8 ≤ length cells.now }
-    requires bytes { All IsByte cells.now }
-    ensures few { result ≤ 8 }
-    ensures passes { GoesBy (text_of_cells cells.now) at (at + result) }
-    ensures found { result < 8 →
-        is_parenthesis (get_or (text_of_cells cells.now) (at + result) 0) ≡ true }
-{
-    let mut count = 0;
-    while count < BLOCK && !is_parenthesis(byte_in(&cells[at + count])) {
-        count += 1;
-    }
-    count
-}
-
-/// The same, farther on.
-#[inline(never)]
-fn far_parenthesis(cells: &[Cell], from: usize) -> usize
-    requires few { length cells.now ≤ 16777216 }
-    requires bytes { All IsByte cells.now }
-    requires order { from ≤ length cells.now }
-    ensures within { result ≤ length cells.now }
-    ensures order { from ≤ result }
-    ensures passes { GoesBy (text_of_cells cells.now) from result }
-    ensures found { result < length cells.now →
-        is_parenthesis (get_or (text_of_cells cells.now) result 0) ≡ true }
-{
-    let block = block_with_parenthesis(cells, from);
-    match parenthesis_before(cells, block, cells.len()) {
-        Some(i) => i,
-        None => cells.len(),
-    }
-}
-
-/// Where the first parenthesis stands from a place on and before an end.
-#[inline]
-fn parenthesis_before(cells: &[Cell], from: usize, end: usize) -> Option<usize>
-    requires few { length cells.now ≤ 16777216 }
-    requires bytes { All IsByte cells.now }
-    requires order { from ≤ end }
-    requires within { end ≤ length cells.now }
-    ensures { let text = text_of_cells cells.now in
-        MatchOption result
-        (GoesBy text from end)
-        (λ i. (from ≤ i) × (i < end) × GoesBy text from i
-        × (is_parenthesis (get_or text i 0) ≡ true)) }
-{
-    let mut i = from;
-    while i < end {
-        if is_parenthesis(byte_in(&cells[i])) {
-            return Some(i);
-        }
-        i += 1;
-    }
-    None
-}
-
-/// Whether a character is a parenthesis.
-#[inline]
-fn is_parenthesis(character: u8) -> bool
-    ensures { result ≡ is_parenthesis character }
-{
-    matches!(character, b'(' | b')')
-}
-
-/// How far no parenthesis stands from a place on, in whole blocks.
-#[inline]
-fn block_with_parenthesis(cells: &[Cell], from: usize) -> usize
-    requires few { length cells.now ≤ 16777216 }
-    requires bytes { All IsByte cells.now }
-    requires order { from ≤ length cells.now }
-    ensures within { result ≤ length cells.now }
-    ensures order { from ≤ result }
-    ensures passes { GoesBy (text_of_cells cells.now) from result }
-{
-    let mut i = from;
-    while i + BLOCK <= cells.len() {
-        if kinds(cells, i) >= PARENTHESIS {
-            return i;
+    let mut i = 0;
+    while cells.len() - i >= BLOCK {
+        let found = sides(cells, i);
+        if found > 0 {
+            let rights = u32::from(found / RIGHT);
+            // A block with no more right parentheses than are open has no match.
+            if rights > depth {
+                if let Some(place) = matching_among(cells, i, BLOCK, depth) {
+                    return Some(place);
+                }
+            }
+            depth = depth + u32::from(found % RIGHT) - rights;
         }
         i += BLOCK;
     }
-    i
+    matching_among(cells, i, cells.len() - i, depth)
+}
+
+/// The same among so many characters from a place on, before which so many left parentheses are
+/// open.
+#[inline]
+fn matching_among(cells: &[Cell], from: usize, number: usize, opened: u32) -> Option<u32>
+    requires few { length cells.now ≤ 16777216 }
+    requires bytes { All IsByte cells.now }
+    requires within { from + number ≤ length cells.now }
+    requires at { IsAt (text_of_cells cells.now) from opened }
+    requires few_opened { opened ≤ from }
+    ensures { let text = text_of_cells cells.now in
+        MatchOption result
+        ((depth : ℕ) × IsAt text (from + number) depth)
+        (λ place. (place < length cells.now)
+        × (protected text ≡ Some (take place text, drop (place + 1) text))) }
+{
+    let mut depth = opened;
+    let mut count = 0;
+    while count < number {
+        let character = byte_in(&cells[from + count]);
+        if character == b'(' {
+            depth += 1;
+        } else if character == b')' {
+            if depth == 0 {
+                return Some((from + count) as u32);
+            }
+            depth -= 1;
+        }
+        count += 1;
+    }
+    None
+}
+
+/// What the table of parentheses says of the eight characters from a place on, in all.
+#[inline]
+fn sides(cells: &[Cell], i: usize) -> u8
+    requires within { i + 8 ≤ length cells.now }
+    requires bytes { All IsByte cells.now }
+    ensures { result ≡ sum_by side_in (take 8 (drop i cells.now)) }
+{
+    side(&cells[i])
+        + side(&cells[i + 1])
+        + side(&cells[i + 2])
+        + side(&cells[i + 3])
+        + side(&cells[i + 4])
+        + side(&cells[i + 5])
+        + side(&cells[i + 6])
+        + side(&cells[i + 7])
+}
+
+/// What that table says of the character of a cell.
+#[inline]
+fn side(cell: &Cell) -> u8
+    requires { IsByte cell.now }
+    ensures side { result ≡ side_in cell.now }
+    ensures small { result ≤ 16 }
+{
+    SIDES[usize::from(byte_in(cell))]
 }

@@ -1,11 +1,12 @@
 //! The scanner: the rules that perform no call.
 ghost use Rattle.std.specs.Prelude.{◌≡◌, ◌≢◌, ◌+◌, ◌<◌, ◌≤◌, [], ◌∷◌, ℕ, length};
 ghost use Rattle.std.specs.Prelude.{take, drop, slice_get, IsTrue, ◌↔◌, None, Some, ◌++◌, All};
+ghost use Rattle.std.specs.Prelude.{MatchOption};
 ghost use Rattle.trac_space.specs.Texts.{character_of, text_of_cells, IsByte};
 ghost use Rattle.trac_forms.specs.Contents.{used, IsSound};
 ghost use Rattle.trac_core.specs.Attempts.{Scans, Scanned, NoneFailed};
 ghost use Rattle.trac_core.specs.StepsInRow.{IsOrdinary, IsLayout, Advances, SomeSteps};
-ghost use Rattle.trac_core.specs.StepsInRow.{ComesTo, StopsAt, IsPlainFrom, KeepsPlain, kind_of};
+ghost use Rattle.trac_core.specs.StepsInRow.{ComesTo, AsksFor, IsPlainFrom, KeepsPlain, kind_of};
 ghost use Rattle.trac_space.specs.Calls.{IsLastCall};
 ghost use Rattle.trac_functions.specs.Calls.{KeepsRoom};
 
@@ -69,35 +70,34 @@ pub(crate) struct InnermostCall {
     pub(crate) plain: u32,
 }
 
-/// Steps that perform no call, one after the other, at most so many. Gives how many they were, and
-/// what the next step asks for where they are fewer.
-#[inline]
-pub(crate) fn scan_on(work: &mut Work, most: u64) -> (u64, Option<Front>)
+/// One step that performs no call. Gives what the step asks for instead where it does perform one.
+pub(crate) fn scan_once(work: &mut Work) -> Option<Front>
     requires sound { IsSound work.old }
-    ensures passes { Advances result.0 work.old work.new }
-    ensures stops { StopsAt result.1 result.0 most work.new }
-    ensures none { result.0 ≡ 0 → work.new ≡ work.old }
+    ensures comes { MatchOption result
+        (Advances 1 work.old work.new)
+        (λ front. (work.new ≡ work.old) × AsksFor front work.old) }
     ensures keeps { KeepsRoom work.old work.new }
 {
-    let mut left = most;
     let mut plain = work.neutral_len();
-    // Whether the last run was long.
     let mut long = false;
-    while left > 0 {
-        match pass(work, left, &mut plain, &mut long) {
-            Ok(done) => left -= done,
-            Err(front) => return (most - left, Some(front)),
-        }
+    match pass(work, 1, &mut plain, &mut long) {
+        Ok(_) => None,
+        Err(front) => Some(front),
     }
-    (most, None)
 }
 
 /// The table of the rules of scanning (Mooers 1966). Makes the steps of the rule that fits the
 /// beginning of the active string, at most so many: all of a run of ordinary characters, in a call
 /// with the commas between them, or of layout characters, at once, and one of another rule that
-/// performs no call. From the plain place on no comma mark stands in the neutral string.
+/// performs no call. From the plain place on no comma mark stands in the neutral string, and long
+/// says whether the last run was long.
 #[inline]
-fn pass(work: &mut Work, most: u64, plain: &mut u32, long: &mut bool) -> Result<u64, Front>
+pub(crate) fn pass(
+    work: &mut Work,
+    most: u64,
+    plain: &mut u32,
+    long: &mut bool,
+) -> Result<u64, Front>
     requires some { 0 < most }
     requires plain { IsPlainFrom plain.old work.old.neutral }
     requires sound { IsSound work.old }

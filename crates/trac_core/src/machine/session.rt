@@ -9,7 +9,7 @@ ghost use Rattle.trac_core.specs.Machine.{output_failures};
 ghost use Rattle.trac_core.specs.Session.{awaited, next_function};
 
 use super::closing::{closed_call, named_at};
-use super::{Machine, Report};
+use super::{Counters, Machine, Report, run_to_end};
 use trac_devices::{Sink, Source};
 use trac_forms::{Forms, Work};
 use trac_language::{Fate, Function};
@@ -86,11 +86,16 @@ impl<'a> Machine<'a> {
         if let Some(fate) = self.fate {
             return self.report(fate);
         }
-        loop {
-            if let Some(fate) = self.go_on(source, sink) {
-                return self.report(fate);
-            }
-        }
+        let at = Counters {
+            allowance: self.allowance,
+            steps: self.steps,
+            peak: self.peak,
+        };
+        let report = run_to_end(&mut self.work, &mut self.meta, at, source, sink);
+        self.steps = report.steps;
+        self.peak = report.peak;
+        self.fate = Some(report.fate);
+        report
     }
 
     /// The report of a run that ended so.

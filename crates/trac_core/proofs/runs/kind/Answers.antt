@@ -13,4 +13,4 @@ returns-clause-kind c =
 pub returns-clause-small : goal.returns-clause-small
 returns-clause-small c =
     let same : c.from.result ≡ character_of c.args.cell.now = c.from.ensures ∙ c.byte_in.ensures in
-    subst (λ n. n ≤ 17) (sym (get_or-map-range_with_len kind_of 0 256 c.from.result (character_of c.args.cell.now) 0 (omega (arith, c.from.ensures)) (omega (arith, same)))) (kind-small (character_of c.args.cell.now))
+    subst (λ n. n ≤ 2) (sym (get_or-map-range_with_len kind_of 0 256 c.from.result (character_of c.args.cell.now) 0 (omega (arith, c.from.ensures)) (omega (arith, same)))) (kind-small (character_of c.args.cell.now))

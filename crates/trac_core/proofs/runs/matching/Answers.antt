@@ -1,53 +1,58 @@
-use Rattle.std.proofs.Common.{◌≡◌, ◌≢◌, ◌<◌, length, get_or, refl, sym, ap, ◌∙◌, arith}
-use Rattle.std.proofs.lemmas.List.{length-map, get_or-map}
-use Rattle.trac_space.specs.declared.cell.Cell.TheVariants.{Byte}
+use Rattle.std.proofs.Common.{◌≡◌, ℕ, List, ◌+◌, ◌-◌, ◌/◌, ◌%◌, ◌<◌, ◌≤◌, Option, Some, None, MatchOption, length, take, drop, arith}
+use Rattle.std.proofs.lemmas.List.{length-map}
+use Rattle.trac_space.specs.declared.cell.Cell.{Cell}
 use Rattle.trac_space.specs.Texts.{text_of_cells, character_of}
-use Rattle.trac_core.specs.StepsInRow.{is_parenthesis}
-use Rattle.trac_core.proofs.Matching.{matched, passes-left, passes-right, other-one, unmatched}
+use Rattle.trac_language.specs.Protected.{protected}
+use Rattle.trac_core.specs.Matching.{IsAt}
+use Rattle.trac_core.proofs.Matching.{passes-block, passes-few, unmatched}
 use Rattle.trac_core.proofs.runs.matching.Goals as goal
-use Rattle.trac_core.proofs.runs.matching.Goals.{then-character-eq40, else-character-eq40+else-depth-eq0}
+use Rattle.trac_core.proofs.runs.matching.Goals.{then-found-gt0, then-rights-depth+in_default, else-rights-depth, else-found-gt0}
 
-pub loop-i-init : goal.loop-i-init
-loop-i-init c =
-    let h = c.next_parenthesis-i.ensures in
-    record { at = h.passes 0 (record { none = refl; open_is = refl }); bound = omega arith; within = h.within; found = h.found }
-
-pub returns-then-depth-eq0 : goal.returns-then-depth-eq0
-returns-then-depth-eq0 c =
+pub overflow_sub-depth : goal.overflow_sub-depth
+overflow_sub-depth c =
     let cells = c.args.cells.now in
-    let text = text_of_cells cells in
     let i = c.loop-i.i in
-    let h = c.loop-i.invariant in
-    let within : i < length cells = c.loop-i-test.true in
-    let long : length text ≡ length cells = length-map cells character_of in
-    let ch = c.byte_in-character.result in
-    let here : ch ≡ get_or text i 0 = c.byte_in-character.ensures ∙ sym (get_or-map character_of cells i (Byte 0) 0 within) in
-    let not_left : ch ≢ 40 = c.if-character-eq40.false in
-    let right = other-one ch (ap is_parenthesis here ∙ h.found within) not_left in
-    (within, matched text i c.loop-i.depth ch (omega arith) here h.at right c.if-depth-eq0.true)
+    let found = c.sides-found.result in
+    let at = c.loop-i.invariant.at in
+    let within : i + 8 ≤ length cells = omega arith in
+    elim c.if-rights-depth.branch [
+      | then-rights-depth+in_default w ↦ (let more = (passes-block cells i c.loop-i.depth found c.sides-found.ensures at w.in_default.ensures).0 in omega arith)
+      | else-rights-depth w ↦ omega arith
+    ]
 
 pub loop-i-preserved : goal.loop-i-preserved
 loop-i-preserved c =
     let cells = c.args.cells.now in
-    let text = text_of_cells cells in
     let i = c.loop-i.i in
     let depth = c.loop-i.depth in
-    let h = c.loop-i.invariant in
-    let bound = h.bound in
-    let within : i < length cells = c.loop-i-test.true in
-    let long : length text ≡ length cells = length-map cells character_of in
-    let inside : i < length text = omega arith in
-    let ch = c.byte_in-character.result in
-    let here : ch ≡ get_or text i 0 = c.byte_in-character.ensures ∙ sym (get_or-map character_of cells i (Byte 0) 0 within) in
-    let one = ap is_parenthesis here ∙ h.found within in
-    let next = c.next_parenthesis-i-in-loop-i.ensures in
-    let order = next.order in
-    elim c.if-character-eq40.branch [
-      | then-character-eq40 w ↦ record { at = next.passes _ (rw w.depth-is (passes-left text i depth ch inside here h.at w.if-character-eq40.true)); bound = omega arith; within = next.within; found = next.found }
-      | else-character-eq40+else-depth-eq0 w ↦ record { at = next.passes _ (rw w.depth-is (passes-right text i depth ch inside here h.at (other-one ch one w.if-character-eq40.false) (omega arith))); bound = omega arith; within = next.within; found = next.found }
+    let found = c.sides-found.result in
+    let is = c.sides-found.ensures in
+    let at = c.loop-i.invariant.at in
+    let within : i + 8 ≤ length cells = omega arith in
+    elim c.if-found-gt0.branch [
+      | then-found-gt0 w ↦ (
+          let after : (later : ℕ) × IsAt (text_of_cells cells) (i + 8) later =
+          elim w.if-rights-depth.branch [
+            | then-rights-depth+in_default v ↦ v.in_default.ensures
+            | else-rights-depth v ↦ passes-few cells i depth found within is at (omega arith)
+          ] in
+          let block = passes-block cells i depth found is at after in
+          let small = block.2 in
+          let same : c.if-found-gt0.depth ≡ depth + found % 16 - found / 16 = omega arith in
+          record { at = rw same block.1; bound = omega arith; within = within })
+      | else-found-gt0 w ↦ (
+          let block = passes-block cells i depth found is at (passes-few cells i depth found within is at (omega arith)) in
+          let same : c.if-found-gt0.depth ≡ depth + found % 16 - found / 16 = omega arith in
+          record { at = rw same block.1; bound = omega arith; within = within })
     ]
+
+-- the search among the last characters says what the whole search does
+last : (cells : List Cell) (i number : ℕ) (result : Option ℕ) → i + number ≡ length cells → MatchOption result ((depth : ℕ) × IsAt (text_of_cells cells) (i + number) depth) (λ place. (place < length cells) × (protected (text_of_cells cells) ≡ Some (take place (text_of_cells cells), drop (place + 1) (text_of_cells cells)))) → MatchOption result (protected (text_of_cells cells) ≡ None) (λ place. (place < length cells) × (protected (text_of_cells cells) ≡ Some (take place (text_of_cells cells), drop (place + 1) (text_of_cells cells))))
+last cells i number None all at =
+    let long : length (text_of_cells cells) ≡ length cells = length-map cells character_of in
+    unmatched (text_of_cells cells) (i + number) at.0 (omega arith) at.1
+last cells i number (Some place) all found = found
 
 pub returns : goal.returns
 returns c =
-    let long : length (text_of_cells c.args.cells.now) ≡ length c.args.cells.now = length-map c.args.cells.now character_of in
-    unmatched (text_of_cells c.args.cells.now) c.loop-i.i c.loop-i.depth (omega arith) c.loop-i.invariant.at
+    last c.args.cells.now c.loop-i.i _ c.matching_among-2.result (omega arith) c.matching_among-2.ensures

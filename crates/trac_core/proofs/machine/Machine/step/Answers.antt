@@ -3,7 +3,6 @@ use Rattle.trac_forms.specs.Contents.{Contents, used}
 use Rattle.trac_functions.specs.Flat.{memory_of}
 use Rattle.trac_functions.proofs.FlatLemmas.{size-used}
 use Rattle.trac_core.specs.Machine.{MachineState}
-use Rattle.trac_core.specs.StepsInRow.{StopsAt}
 use Rattle.trac_core.proofs.StepsInRow.{tried-passed}
 use Rattle.trac_core.proofs.machine.Machine.step.Goals as goal
 
@@ -27,9 +26,8 @@ returns-in_default-clause-answers g c = λ not_over told_source told_sink.
     let i = c.self.inside in
     let m : MachineState = record { memory = memory_of i.meta i.work; room = i.work.room; allowance = i.allowance; steps = i.steps; peak = i.peak; fate = i.fate } in
     let allowed : i.steps < i.allowance = omega (arith, c.self.invariant.0, c.if-self.false) in
-    let one = subst (λ o. StopsAt o c.scan_on.result.0 1 c.scan_on.new.work) c.in_default.is c.scan_on.ensures.stops in
-    rw (← c.self.view_is, c.count-in_default.ensures.answer, c.count-in_default.ensures.after, c.scan_on.ensures.keeps.room)
-    (tried-passed i.work c.scan_on.new.work c.scan_on.result.0 c.used-need.result c.scan_on.ensures.passes one c.self.invariant.2 c.used-need.ensures.value i.meta _ _ m refl refl allowed)
+    rw (← c.self.view_is, c.count-in_default.ensures.answer, c.count-in_default.ensures.after, c.scan_once.ensures.keeps.room)
+    (tried-passed i.work c.scan_once.new.work 1 c.used-need.result c.in_default.ensures.comes refl c.self.invariant.2 c.used-need.ensures.value i.meta _ _ m refl refl allowed)
 
 pub returns-in_default-clause-takes : goal.returns-in_default-clause-takes
 returns-in_default-clause-takes g c = λ told.
@@ -41,14 +39,12 @@ returns-clause-answers g c = λ not_over told_source told_sink.
     let i = c.self.inside in
     let m : MachineState = record { memory = memory_of i.meta i.work; room = i.work.room; allowance = i.allowance; steps = i.steps; peak = i.peak; fate = i.fate } in
     let allowed : i.steps < i.allowance = omega (arith, c.self.invariant.0, c.if-self.false) in
-    let stops = subst (λ o. StopsAt o c.scan_on.result.0 1 c.scan_on.new.work) c.in-Some.is c.scan_on.ensures.stops in
-    let same = c.scan_on.ensures.none (omega (arith, stops.0)) in
-    rw (← c.self.view_is, c.count-2.ensures.answer, c.count-2.ensures.after, c.carry_out-attempt.ensures.keeps.room, c.scan_on.ensures.keeps.room)
-    (c.carry_out-attempt.ensures.tried told_source told_sink m (sym c.scan_on.ensures.keeps.room) (ap (memory_of i.meta) (sym same)) allowed)
+    let same = c.in-Some.ensures.comes.0 in
+    rw (← c.self.view_is, c.count-2.ensures.answer, c.count-2.ensures.after, c.carry_out-attempt.ensures.keeps.room, c.scan_once.ensures.keeps.room)
+    (c.carry_out-attempt.ensures.tried told_source told_sink m (sym c.scan_once.ensures.keeps.room) (ap (memory_of i.meta) (sym same)) allowed)
 
 pub returns-clause-takes : goal.returns-clause-takes
 returns-clause-takes g c = λ told.
     let t = c.carry_out-attempt.ensures.takes told in
-    let stops = subst (λ o. StopsAt o c.scan_on.result.0 1 c.scan_on.new.work) c.in-Some.is c.scan_on.ensures.stops in
-    let few = subst (λ (w : Contents). length t.0 + used w ≤ w.room + 2) (c.scan_on.ensures.none (omega (arith, stops.0))) t.1.few in
+    let few = subst (λ (w : Contents). length t.0 + used w ≤ w.room + 2) c.in-Some.ensures.comes.0 t.1.few in
     rw (← c.self.view_is) (t.0, record { consumed = t.1.consumed; few = omega (arith, size-used c.self.inside.meta c.self.inside.work, few) })

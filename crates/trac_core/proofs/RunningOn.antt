@@ -1,0 +1,82 @@
+-- A run of a machine whose parts stand apart, turn by turn beside the run of the definition.
+use Rattle.std.proofs.Common.{◌≡◌, ℕ, ◌+◌, ◌-◌, ◌<◌, ◌≤◌, max, ◌⊎◌, inl, inr, ◌++◌, Some, None, refl, sym, ap, ◌∙◌, subst, arith}
+use Rattle.trac_language.specs.declared.fate.Fate.{Fate}
+use Rattle.trac_language.specs.declared.fate.Fate.TheVariants.{Steps}
+use Rattle.trac_language.specs.Text.{Text}
+use Rattle.trac_language.specs.State.{size}
+use Rattle.trac_devices.specs.Devices.{Stream}
+use Rattle.trac_forms.specs.Contents.{Contents, used, IsSound}
+use Rattle.trac_functions.specs.Flat.{memory_of}
+use Rattle.trac_functions.proofs.FlatLemmas.{size-used}
+use Rattle.trac_core.specs.declared.machine.Report.{Report}
+use Rattle.trac_core.specs.declared.machine.Counters.{Counters}
+use Rattle.trac_core.specs.Attempts.{scene, Tried}
+use Rattle.trac_core.specs.Machine.{MachineState, moment, counted, Resumes}
+use Rattle.trac_core.specs.StepsInRow.{Advances, peak_after, passed, running}
+use Rattle.trac_core.proofs.Moments.{Along, along-more, along-passes}
+use Rattle.trac_core.proofs.Reported.{reported, report_of, course_to}
+use Rattle.trac_core.proofs.StepsInRow.{passes-smaller, peak-some}
+
+-- the counters where so many steps are left
+abbrev pub with_left : (allowance left peak : ℕ) → Counters
+with_left allowance left peak = record { allowance = allowance; steps = allowance - left; peak = peak }
+
+-- a need is that of the next step, or is counted as that is
+abbrev pub IsNeed : (need cells peak : ℕ) → Type 0
+IsNeed need cells peak = (need ≡ cells) ⊎ ((cells ≤ peak) × (need ≤ peak))
+
+pub need-fits : (need cells peak room : ℕ) → cells ≤ room → peak ≤ room → IsNeed need cells peak → max peak need ≤ room
+need-fits need cells peak room fits below (inl same) = omega arith
+need-fits need cells peak room fits below (inr known) = let a = known.1 in omega arith
+
+-- after steps that perform no call it is counted
+pub need-counted : (done need peak top : ℕ) (w new : Contents) → Advances done w new → IsNeed need (used w) peak → top ≡ max peak need → IsNeed need (used new) top
+need-counted done need peak top w new passes known is =
+    let less = passes-smaller done (memory_of 0 w) (memory_of 0 new) (passes 0) in
+    let smaller : used new ≤ used w = omega (arith, less, size-used 0 w, size-used 0 new) in
+    inr (go smaller known)
+  where
+    go : used new ≤ used w → IsNeed need (used w) peak → (used new ≤ top) × (need ≤ top)
+    go smaller (inl same) = (omega arith, omega arith)
+    go smaller (inr counted) = let a = counted.0 in let b = counted.1 in (omega arith, omega arith)
+
+module _ (start : MachineState) (bytes before : Text) (w new : Contents) (meta allowance left peak : ℕ) (room_is : w.room ≡ start.room) (few : left ≤ allowance) where
+  -- steps that perform no call
+  pub along-run : (done need top : ℕ) (source : Stream) (written : Text) → new.room ≡ w.room → IsSound w → done ≤ left → 0 < done → Advances done w new → IsNeed need (used w) peak → top ≡ max peak need → Along start bytes before (moment (running w meta (with_left allowance left peak)) source written) → Along start bytes before (moment (running new meta (with_left allowance (left - done) top)) source written)
+  along-run done need top source written stays sound within some passes known is along =
+      let m = running w meta (with_left allowance left peak) in
+      let fits = sound.fits in
+      let target = memory_of meta new in
+      let all = along-passes done start bytes before m target source written room_is (omega (arith, size-used meta w)) (omega arith) (passes meta) along in
+      let steps : allowance - left + done ≡ allowance - (left - done) = omega arith in
+      let peaks : peak_after done (size (memory_of meta w)) peak ≡ top = ap (λ k. peak_after done k peak) (size-used meta w) ∙ peak-some done (used w) need peak some known ∙ sym is in
+      let same : passed done target m ≡ running new meta (with_left allowance (left - done) top) = λ i. record { memory = target; room = sym stays i; allowance = allowance; steps = steps i; peak = peaks i; fate = None } in
+      subst (λ m. Along start bytes before (moment m source written)) same all
+
+  -- a step that performs a call, or loads the idling procedure
+  pub along-step : (after need top : ℕ) (taken : Text) (old_source new_source : Stream) (old_written new_written : Text) → new.room ≡ w.room → 0 < left → top ≡ max peak need → old_source.bytes ≡ taken ++ new_source.bytes → Tried (scene w meta old_source old_written) None need (scene new after new_source new_written) → Along start bytes before (moment (running w meta (with_left allowance left peak)) old_source old_written) → Along start bytes before (moment (running new after (with_left allowance (left - 1) top)) new_source new_written)
+  along-step after need top taken old_source new_source old_written new_written stays some is took tried along =
+      let m = running w meta (with_left allowance left peak) in
+      let target = memory_of after new in
+      let allowed : allowance - left < allowance = omega arith in
+      let all = along-more start bytes before taken (moment m old_source old_written) (moment (counted m target need None) new_source new_written) room_is took along (tried m refl refl allowed) in
+      let steps : allowance - left + 1 ≡ allowance - (left - 1) = omega arith in
+      let same : counted m target need None ≡ running new after (with_left allowance (left - 1) top) = λ i. record { memory = target; room = sym stays i; allowance = allowance; steps = steps i; peak = sym is i; fate = None } in
+      subst (λ m. Along start bytes before (moment m new_source new_written)) same all
+
+  -- a step at which the run ends
+  pub ends-step : (after need : ℕ) (old_source new_source : Stream) (old_written new_written : Text) (fate : Fate) (report : Report) → allowance ≡ start.allowance → 0 < left → Tried (scene w meta old_source old_written) (Some fate) need (scene new after new_source new_written) → Along start bytes before (moment (running w meta (with_left allowance left peak)) old_source old_written) → report ≡ report_of fate (counted (running w meta (with_left allowance left peak)) (memory_of after new) need (Some fate)) → Resumes start report.fate (course_to start bytes before (moment start new_source new_written)) report
+  ends-step after need old_source new_source old_written new_written fate report allowance_is some tried along is =
+      let m = running w meta (with_left allowance left peak) in
+      let allowed : allowance - left < allowance = omega arith in
+      let told = reported start bytes before (moment m old_source old_written) (moment (counted m (memory_of after new) need (Some fate)) new_source new_written) room_is allowance_is along fate (tried m refl refl allowed) in
+      subst (λ (report : Report). Resumes start report.fate (course_to start bytes before (moment start new_source new_written)) report) (sym is) told
+
+  -- the allowance is used up
+  pub ends-allowance : (source : Stream) (written : Text) → allowance ≡ start.allowance → left ≡ 0 → Along start bytes before (moment (running w meta (with_left allowance left peak)) source written) → Resumes start Steps (course_to start bytes before (moment start source written)) (record { fate = Steps; steps = allowance; peak = peak })
+  ends-allowance source written allowance_is none along =
+      let m = running w meta (with_left allowance left peak) in
+      let all : allowance - left ≡ allowance = omega arith in
+      let told = reported start bytes before (moment m source written) (moment (counted m m.memory 0 (Some Steps)) source written) room_is allowance_is along Steps
+      (record { used_up = all; memory = refl; counts = record { steps = omega arith; peak = omega arith }; source = refl; written = refl }) in
+      subst (λ n. Resumes start Steps (course_to start bytes before (moment start source written)) (record { fate = Steps; steps = n; peak = peak })) all told

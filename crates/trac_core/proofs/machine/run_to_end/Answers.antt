@@ -1,0 +1,169 @@
+use Rattle.std.proofs.Common.{◌≡◌, ◌-◌, Some, None, refl, sym, ap, ◌∙◌, subst, arith, inl}
+use Rattle.std.proofs.lemmas.List.{length-drop}
+use Rattle.trac_forms.specs.Contents.{Contents}
+use Rattle.trac_functions.specs.Flat.{memory_of}
+use Rattle.trac_core.specs.Attempts.{scene, Tried}
+use Rattle.trac_core.specs.Machine.{moment, input_failures, output_failures}
+use Rattle.trac_core.specs.StepsInRow.{running}
+use Rattle.trac_core.proofs.Moments.{Along, along-none}
+use Rattle.trac_core.proofs.RunningOn.{with_left, need-fits, need-counted, along-run, along-step, ends-step, ends-allowance}
+use Rattle.trac_core.proofs.Sending.{sent-more}
+use Rattle.trac_core.proofs.machine.run_to_end.Goals as goal
+
+pub loop-left-init : goal.loop-left-init
+loop-left-init g c =
+    let all = c.requires.steps in
+    let len = c.neutral_len-plain.ensures.value in
+    record {
+      few = omega arith;
+      sound = c.requires.sound;
+      room = refl;
+      plain = λ k d within. absurd (omega (arith, len, length-drop c.neutral_len-plain.result c.args.work.now.neutral));
+      peak = c.requires.peak;
+      need = inl c.used-need.ensures.value;
+      source_failures = refl;
+      sink_failures = refl;
+      kept = refl;
+      told_source = λ told. told;
+      told_sink = λ told. told;
+      sent = inl refl;
+      along = λ told_source told_sink.
+          let steps : c.args.at.steps ≡ c.args.at.allowance - (c.args.at.allowance - c.args.at.steps) = omega arith in
+          let start = running c.args.work.now c.args.meta.now c.args.at in
+          let source = g.I.Source.stream c.args.source.now in
+          let written = g.O.Sink.written c.args.sink.now in
+          subst (λ n. Along start source.bytes written (moment (record start { steps = n }) source written)) steps
+          (along-none start source written);
+    }
+
+pub loop-left-preserved-in-Ok : goal.loop-left-preserved-in-Ok
+loop-left-preserved-in-Ok g c =
+    let i = c.loop-left.invariant in
+    let few = i.few in
+    let h = c.in-Ok.ensures in
+    let some = h.comes in
+    let within = some.few in
+    let fits = i.sound.fits in
+    let old = c.loop-left.work in
+    let new = c.pass.new.work in
+    record {
+      few = omega arith;
+      sound = h.keeps.sound;
+      room = h.keeps.room ∙ i.room;
+      plain = h.plain;
+      peak = rw (c.max-peak.ensures, h.keeps.room) (need-fits c.loop-left.need _ c.loop-left.peak old.room fits i.peak i.need);
+      need = need-counted c.in-Ok.done c.loop-left.need c.loop-left.peak c.max-peak.result old new some.passes i.need c.max-peak.ensures;
+      source_failures = i.source_failures;
+      sink_failures = i.sink_failures;
+      kept = i.kept;
+      told_source = i.told_source;
+      told_sink = i.told_sink;
+      sent = i.sent;
+      along = λ told_source told_sink.
+          along-run (running c.args.work.now c.args.meta.now c.args.at) (g.I.Source.stream c.args.source.now).bytes (g.O.Sink.written c.args.sink.now) old new c.loop-left.meta c.args.at.allowance c.loop-left.left c.loop-left.peak i.room (omega arith)
+          c.in-Ok.done c.loop-left.need c.max-peak.result (g.I.Source.stream c.loop-left.source) (g.O.Sink.written c.loop-left.sink) h.keeps.room i.sound within some.some some.passes i.need c.max-peak.ensures (i.along told_source told_sink);
+    }
+
+pub returns-in-Some-clause-reports : goal.returns-in-Some-clause-reports
+returns-in-Some-clause-reports g c = λ told_source told_sink.
+    let i = c.loop-left.invariant in
+    let few = i.few in
+    let same = c.in-Err.ensures.comes.0 in
+    let start = running c.args.work.now c.args.meta.now c.args.at in
+    let source = g.I.Source.stream c.loop-left.source in
+    let written = g.O.Sink.written c.loop-left.sink in
+    let later = g.I.Source.stream c.carry_out-last.new.source in
+    let printed = g.O.Sink.written c.carry_out-last.new.sink in
+    let bytes = (g.I.Source.stream c.args.source.now).bytes in
+    let before = g.O.Sink.written c.args.sink.now in
+    let along = subst (λ (w : Contents). Along start bytes before (moment (running w c.loop-left.meta (with_left c.args.at.allowance c.loop-left.left c.loop-left.peak)) source written)) (sym same) (i.along told_source told_sink) in
+    let tried = subst (λ fate. Tried (scene c.pass.new.work c.loop-left.meta source written) fate c.carry_out-last.result.need (scene c.carry_out-last.new.work c.carry_out-last.new.meta later printed)) c.in-Some.is
+    (c.carry_out-last.ensures.tried (i.told_source told_source) (i.told_sink told_sink)) in
+    ends-step start bytes before c.pass.new.work c.carry_out-last.new.work c.loop-left.meta c.args.at.allowance c.loop-left.left c.loop-left.peak (c.in-Err.ensures.keeps.room ∙ i.room) (omega arith)
+    c.carry_out-last.new.meta c.carry_out-last.result.need source later written printed c.in-Some.fate c.ended.result refl c.loop-left-test.true tried along
+    (c.ended.ensures.counts
+    (running c.pass.new.work c.loop-left.meta (with_left c.args.at.allowance c.loop-left.left c.loop-left.peak))
+    (memory_of c.carry_out-last.new.meta c.carry_out-last.new.work)
+    refl refl)
+
+pub returns-in-Some-clause-input_failed : goal.returns-in-Some-clause-input_failed
+returns-in-Some-clause-input_failed g c =
+    let i = c.loop-left.invariant in
+    let fate = ap (input_failures None) (c.in-Some.is ∙ ap Some (sym c.ended.ensures.fate)) in
+    omega (arith, i.source_failures, c.carry_out-last.ensures.source.1, fate)
+
+pub returns-in-Some-clause-output_failed : goal.returns-in-Some-clause-output_failed
+returns-in-Some-clause-output_failed g c =
+    let i = c.loop-left.invariant in
+    let fate = ap (output_failures None) (c.in-Some.is ∙ ap Some (sym c.ended.ensures.fate)) in
+    omega (arith, i.sink_failures, c.carry_out-last.ensures.sink.1, fate)
+
+pub returns-in-Some-clause-sent : goal.returns-in-Some-clause-sent
+returns-in-Some-clause-sent g c = λ other.
+    let i = c.loop-left.invariant in
+    let same = c.ended.ensures.fate in
+    sent-more g.O.Sink.tells g.O.Sink.flushed g.O.Sink.written c.args.sink.now c.loop-left.sink c.carry_out-last.new.sink i.told_sink i.sent
+    (c.carry_out-last.ensures.sink.4 (λ e. other cc))
+
+pub returns-in-Some-clause-steps : goal.returns-in-Some-clause-steps
+returns-in-Some-clause-steps g c =
+    let few = c.loop-left.invariant.few in
+    let steps = c.ended.ensures.steps in
+    omega arith
+
+pub returns-in-Some-clause-peak : goal.returns-in-Some-clause-peak
+returns-in-Some-clause-peak g c =
+    let i = c.loop-left.invariant in
+    let fits = c.carry_out-last.ensures.fits in
+    let peak = c.ended.ensures.peak in
+    omega (arith, i.peak, i.room, c.in-Err.ensures.keeps.room)
+
+pub loop-left-preserved : goal.loop-left-preserved
+loop-left-preserved g c =
+    let i = c.loop-left.invariant in
+    let few = i.few in
+    let same = c.in-Err.ensures.comes.0 in
+    let h = c.carry_out-last.ensures in
+    let none : c.carry_out-last.result.fate ≡ None = c.in_default.is in
+    let fits = h.fits in
+    let len = c.neutral_len-plain-in-Err.ensures.value in
+    let at_most = i.peak in
+    let peak_is = c.max-peak-in-Err.ensures in
+    let room = h.keeps.room ∙ c.in-Err.ensures.keeps.room in
+    let inputs = ap (input_failures None) none in
+    let outputs = ap (output_failures None) none in
+    record {
+      few = omega arith;
+      sound = h.keeps.sound;
+      room = room ∙ i.room;
+      plain = λ k d within. absurd (omega (arith, len, length-drop c.neutral_len-plain-in-Err.result c.carry_out-last.new.work.neutral));
+      peak = omega (arith, h.keeps.room, c.in-Err.ensures.keeps.room);
+      need = inl c.used-need-in-Err.ensures.value;
+      source_failures = omega (arith, i.source_failures, h.source.1, inputs);
+      sink_failures = omega (arith, i.sink_failures, h.sink.1, outputs);
+      kept = h.sink.3 ∙ i.kept;
+      told_source = λ told. h.source.0 (i.told_source told);
+      told_sink = λ told. h.sink.0 (i.told_sink told);
+      sent = sent-more g.O.Sink.tells g.O.Sink.flushed g.O.Sink.written c.args.sink.now c.loop-left.sink c.carry_out-last.new.sink i.told_sink i.sent (h.sink.4 (λ e. absurd cc));
+      along = λ told_source told_sink.
+          let start = running c.args.work.now c.args.meta.now c.args.at in
+          let source = g.I.Source.stream c.loop-left.source in
+          let written = g.O.Sink.written c.loop-left.sink in
+          let later = g.I.Source.stream c.carry_out-last.new.source in
+          let printed = g.O.Sink.written c.carry_out-last.new.sink in
+          let bytes = (g.I.Source.stream c.args.source.now).bytes in
+          let before = g.O.Sink.written c.args.sink.now in
+          let along = subst (λ (w : Contents). Along start bytes before (moment (running w c.loop-left.meta (with_left c.args.at.allowance c.loop-left.left c.loop-left.peak)) source written)) (sym same) (i.along told_source told_sink) in
+          let tried = subst (λ fate. Tried (scene c.pass.new.work c.loop-left.meta source written) fate c.carry_out-last.result.need (scene c.carry_out-last.new.work c.carry_out-last.new.meta later printed)) none
+          (h.tried (i.told_source told_source) (i.told_sink told_sink)) in
+          let took = h.takes (i.told_source told_source) in
+          along-step start bytes before c.pass.new.work c.carry_out-last.new.work c.loop-left.meta c.args.at.allowance c.loop-left.left c.loop-left.peak (c.in-Err.ensures.keeps.room ∙ i.room) (omega arith)
+          c.carry_out-last.new.meta c.carry_out-last.result.need c.max-peak-in-Err.result took.0 source later written printed h.keeps.room c.loop-left-test.true peak_is took.1.consumed tried along;
+    }
+
+pub returns-clause-reports : goal.returns-clause-reports
+returns-clause-reports g c = λ told_source told_sink.
+    let i = c.loop-left.invariant in
+    let few = i.few in
+    ends-allowance (running c.args.work.now c.args.meta.now c.args.at) (g.I.Source.stream c.args.source.now).bytes (g.O.Sink.written c.args.sink.now) c.loop-left.work c.loop-left.work c.loop-left.meta c.args.at.allowance c.loop-left.left c.loop-left.peak i.room (omega arith)
+    (g.I.Source.stream c.loop-left.source) (g.O.Sink.written c.loop-left.sink) refl (omega arith) (i.along told_source told_sink)

@@ -1,0 +1,34 @@
+use Rattle.std.proofs.Common.{◌≡◌, ◌≤◌, ◌-◌, ◌⊎◌}
+use Rattle.trac_devices.specs.Devices.{Sent}
+use Rattle.trac_forms.specs.Contents.{IsSound, used}
+use Rattle.trac_core.specs.Machine.{moment}
+use Rattle.trac_core.specs.StepsInRow.{IsPlainFrom, running}
+use Rattle.trac_core.proofs.Moments.{Along}
+use Rattle.trac_core.proofs.machine.run_to_end.Given as goal
+
+-- no device has failed yet, the run so far is that of the definition, and the need is that of the next step or counted
+abbrev pub invariant-loop-left : goal.invariant-loop-left
+invariant-loop-left g l =
+    record {
+      few : l.left ≤ l.at.allowance - l.at.steps;
+      sound : IsSound l.work;
+      room : l.work.room ≡ l.fn.work.room;
+      plain : IsPlainFrom l.plain l.work.neutral;
+      peak : l.peak ≤ l.work.room;
+      need : (l.need ≡ used l.work) ⊎ ((used l.work ≤ l.peak) × (l.need ≤ l.peak));
+      source_failures : g.I.Source.failure_count l.source ≡ g.I.Source.failure_count l.fn.source;
+      sink_failures : g.O.Sink.failure_count l.sink ≡ g.O.Sink.failure_count l.fn.sink;
+      kept : g.O.Sink.lent l.sink ≡ g.O.Sink.lent l.fn.sink;
+      told_source : g.I.Source.tells l.fn.source → g.I.Source.tells l.source;
+      told_sink : g.O.Sink.tells l.fn.sink → g.O.Sink.tells l.sink;
+      sent : Sent g.O.Sink.tells g.O.Sink.flushed g.O.Sink.written l.fn.sink l.sink;
+      along : g.I.Source.tells l.fn.source → g.O.Sink.tells l.fn.sink →
+          Along (running l.fn.work l.fn.meta l.at) (g.I.Source.stream l.fn.source).bytes (g.O.Sink.written l.fn.sink)
+          (moment
+          (running l.work l.meta (record { allowance = l.at.allowance; steps = l.at.allowance - l.left; peak = l.peak }))
+          (g.I.Source.stream l.source) (g.O.Sink.written l.sink));
+    }
+
+-- the steps that are left
+abbrev pub decreases-loop-left : goal.decreases-loop-left
+decreases-loop-left g l = l.left

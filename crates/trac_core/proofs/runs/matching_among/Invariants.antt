@@ -1,0 +1,16 @@
+use Rattle.std.proofs.Common.{◌+◌, ◌-◌, ◌≤◌}
+use Rattle.trac_space.specs.Texts.{text_of_cells}
+use Rattle.trac_core.specs.Matching.{IsAt}
+use Rattle.trac_core.proofs.runs.matching_among.Given as goal
+
+-- no match stands among the cells so far, and so many left parentheses are open
+abbrev pub invariant-loop-count : goal.invariant-loop-count
+invariant-loop-count l =
+    record {
+      within : l.count ≤ l.number;
+      at : IsAt (text_of_cells l.cells) (l.from + l.count) l.depth;
+      bound : l.depth ≤ l.from + l.count;
+    }
+
+abbrev pub decreases-loop-count : goal.decreases-loop-count
+decreases-loop-count l = l.number - l.count
