@@ -8,7 +8,6 @@ use Rattle.trac_space.specs.declared.cell.Cell.{Cell}
 use Rattle.trac_space.specs.declared.cell.Cell.TheVariants.{Head}
 use Rattle.trac_space.specs.Cells.{is_comma}
 use Rattle.trac_space.specs.Lists.{Lists}
-use Rattle.trac_forms.specs.declared.arguments.Arguments.{Arguments}
 use Rattle.trac_forms.specs.Contents.{Contents, body_at, pointer_at, AreTextParts, part_texts}
 use Rattle.trac_forms.specs.Stored.{head_at, item_of}
 
@@ -62,12 +61,6 @@ pub record IsListed (cells : List Cell) (parts : List (ℕ × ℕ)) (count : ℕ
       head_at cells (count + 1 - number) ≡ (numbered_part parts number).0
   pub ends : (number : ℕ) → 0 < number → number ≤ count →
       head_at cells (count - number) ≡ (numbered_part parts number).1 + 1
-
--- where arguments are listed, the list stands before active
-abbrev pub HasList : Lists → Arguments → Type 0
-HasList s arguments =
-    0 < arguments.listed →
-    IsListed s.active (parts_between s.neutral arguments.from arguments.end) arguments.listed
 
 -- the text of a form's body from its pointer on, its gaps filled by the texts between comma marks
 -- of neutral

@@ -1,58 +1,23 @@
-//! The arguments of a call in neutral, found by a list of where they begin, or by their comma
-//! marks.
+//! The arguments of a call in neutral, listed before active or found by their comma marks.
 ghost use Rattle.std.specs.Prelude.{◌≡◌, ◌+◌, ◌-◌, ◌<◌, ◌≤◌, length, drop};
 ghost use Rattle.trac_space.specs.Lists.{HasWay};
-ghost use Rattle.trac_forms.specs.Arguments.{before_comma, parts_between, numbered_part, IsHeadAt};
-ghost use Rattle.trac_forms.specs.Arguments.{IsListed, HasList};
-ghost use Rattle.trac_forms.specs.Stored.{head_at};
+ghost use Rattle.trac_forms.specs.Arguments.{before_comma, parts_between, numbered_part};
+ghost use Rattle.trac_forms.specs.Arguments.{IsListed};
 
-use crate::store::number_in_head;
 use trac_space::{Cell, Space};
 
-/// The arguments of a call: what stands between the comma marks of neutral from a place up to
-/// another.
-#[derive(Clone, Copy)]
-pub(crate) struct Arguments {
-    pub(crate) from: u32,
-    pub(crate) end: u32,
-    // How many are listed before active; 0 where there is no list.
-    pub(crate) listed: u32,
-}
-
-impl Arguments {
-    /// Where the argument of a number, from 1, begins and ends; a null part where there is none.
-    #[inline(always)]
-    pub(crate) fn part(self, space: &Space, number: u32) -> (u32, u32)
-        requires listed { HasList space.now self }
-        requires within { self.end ≤ length space.now.neutral }
-        requires bounded { self.end ≤ 16777216 }
-        ensures { let parts = parts_between space.now.neutral self.from self.end in
-            result ≡ numbered_part parts number }
-    {
-        let place = number.wrapping_sub(1);
-        if place < self.listed {
-            let (from, next) = listed_pair(space, self.listed - number);
-            return (from, next - 1);
-        }
-        if number > 0 && self.listed == 0 {
-            return find_part(space, self.from, self.end, number);
-        }
-        (0, 0)
-    }
-}
-
-// The numbers in two head cells of active: the one behind a place, and the one at it.
+/// Where the argument of a number, from 1, begins and ends among what stands between the comma marks
+/// of neutral from place `from` up to `end`; a null part where there is none.
 #[inline]
-fn listed_pair(space: &Space, place: u32) -> (u32, u32)
-    requires within { place + 2 ≤ length space.now.active }
-    requires bounded { place ≤ 16777217 }
-    requires from_head { IsHeadAt space.now.active (place + 1) }
-    requires next_head { IsHeadAt space.now.active place }
-    ensures from { result.0 ≡ head_at space.now.active (place + 1) }
-    ensures next { result.1 ≡ head_at space.now.active place }
+pub(crate) fn argument(space: &Space, from: u32, end: u32, number: u32) -> (u32, u32)
+    requires within { end ≤ length space.now.neutral }
+    requires bounded { end ≤ 16777216 }
+    ensures { result ≡ numbered_part (parts_between space.now.neutral from end) number }
 {
-    let cells = space.active_part(place, place + 2);
-    (number_in_head(cells[1]), number_in_head(cells[0]))
+    if number == 0 {
+        return (0, 0);
+    }
+    find_part(space, from, end, number)
 }
 
 // Where the argument of a number begins and ends, found by the comma marks before it.

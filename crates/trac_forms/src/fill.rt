@@ -9,13 +9,13 @@ ghost use Rattle.trac_space.specs.Lists.{used as cells_used, HasWay, with_way};
 ghost use Rattle.trac_space.specs.Texts.{flat_text, byte_cell_at};
 ghost use Rattle.trac_forms.specs.Contents.{used, IsSound, form_place};
 ghost use Rattle.trac_forms.specs.Loading.{called_part, AreCharacters, IsLoaded};
-ghost use Rattle.trac_forms.specs.Arguments.{AreParted, HasList, filled_body, filled_cells};
+ghost use Rattle.trac_forms.specs.Arguments.{AreParted, filled_body, filled_cells};
 ghost use Rattle.trac_forms.specs.FlatForms.{flat_forms};
 ghost use Rattle.trac_forms.specs.Gaps.{gap_number, gap_ordinal};
 ghost use Rattle.trac_forms.specs.Index.{IsKept};
 ghost use Rattle.trac_forms.specs.Stored.{forms_in, shown, start_of};
 
-use crate::arguments::{Arguments, list_parts};
+use crate::arguments::{argument, list_parts};
 use crate::item::FormId;
 use crate::store::{heads, place_of};
 use crate::work::Work;
@@ -200,12 +200,7 @@ fn fill_beside_list(space: &mut Space, from: u32, stop: u32, first: u32, end: u3
         return false;
     }
     let listed = list_parts(space, first, end);
-    let arguments = Arguments {
-        from: first,
-        end,
-        listed,
-    };
-    let filled = fill_or_cut(space, from, stop, arguments);
+    let filled = space.put_filled(from, stop, listed);
     space.drop_active(listed + 1);
     filled
 }
@@ -227,33 +222,8 @@ fn fill_without_list(space: &mut Space, from: u32, stop: u32, first: u32, end: u
     ensures full { OnFalse result (space.new ≡ record space.old { spare = [] }) }
 {
     space.drop_spare();
-    let arguments = Arguments {
-        from: first,
-        end,
-        listed: 0,
-    };
-    fill_or_cut(space, from, stop, arguments)
-}
-
-// The same with arguments that are listed or not. False where the text doesn't fit into cells that
-// are in no list.
-#[inline(always)]
-fn fill_or_cut(space: &mut Space, from: u32, stop: u32, arguments: Arguments) -> bool
-    requires order { from ≤ stop }
-    requires within { stop ≤ length space.old.store }
-    requires bounded { length space.old.store ≤ 16777216 }
-    requires arguments { AreParted space.old.neutral arguments.from arguments.end }
-    requires listed { HasList space.old arguments }
-    ensures put { let text = filled_cells space.old from stop arguments.from arguments.end in
-        IsTrue result ↔ HasWay (length text) space.old }
-    ensures last { let text = filled_cells space.old from stop arguments.from arguments.end in
-        OnTrue result (space.new ≡ record space.old {
-          neutral = space.old.neutral ++ flat_text text;
-        }) }
-    ensures full { OnFalse result (space.new ≡ space.old) }
-{
     let before = space.neutral_len();
-    let filled = fill_cells(space, from, stop, arguments);
+    let filled = fill_cells(space, from, stop, first, end);
     if !filled {
         space.cut_neutral(before);
     }
@@ -264,15 +234,14 @@ fn fill_or_cut(space: &mut Space, from: u32, stop: u32, arguments: Arguments) ->
 // replaced by the argument of its number. False where they don't fit into cells that are in no
 // list; then some of them may stand there.
 #[inline(always)]
-fn fill_cells(space: &mut Space, from: u32, stop: u32, arguments: Arguments) -> bool
+fn fill_cells(space: &mut Space, from: u32, stop: u32, first: u32, end: u32) -> bool
     requires order { from ≤ stop }
     requires within { stop ≤ length space.old.store }
     requires bounded { length space.old.store ≤ 16777216 }
-    requires arguments { AreParted space.old.neutral arguments.from arguments.end }
-    requires listed { HasList space.old arguments }
-    ensures put { let text = filled_cells space.old from stop arguments.from arguments.end in
+    requires arguments { AreParted space.old.neutral first end }
+    ensures put { let text = filled_cells space.old from stop first end in
         IsTrue result ↔ HasWay (length text) space.old }
-    ensures last { let text = filled_cells space.old from stop arguments.from arguments.end in
+    ensures last { let text = filled_cells space.old from stop first end in
         OnTrue result (space.new ≡ record space.old {
           neutral = space.old.neutral ++ flat_text text;
         }) }
@@ -293,7 +262,7 @@ fn fill_cells(space: &mut Space, from: u32, stop: u32, arguments: Arguments) -> 
             return false;
         }
         way -= count;
-        let part = arguments.part(space, ordinal(space, gap));
+        let part = argument(space, first, end, ordinal(space, gap));
         if way < part.1 - part.0 {
             return false;
         }

@@ -17,7 +17,7 @@ const NEAR: usize = 8;
 // How many cells are too few for parts where the places overlap.
 const FEW: usize = 24;
 // How many characters are moved at once before each of them is looked at.
-const BLOCK: usize = 8;
+pub(crate) const BLOCK: usize = 8;
 
 // As `copy_within`. A short move goes cell by cell.
 #[inline]
@@ -302,7 +302,7 @@ fn characters_each(cells: &[Cell], start: usize, most: usize) -> usize
 
 // How many characters begin the block of cells at a place.
 #[inline]
-fn characters_in_block(cells: &[Cell], at: usize) -> usize
+pub(crate) fn characters_in_block(cells: &[Cell], at: usize) -> usize
     requires { at + 8 ≤ length cells.now }
     ensures few { result ≤ 8 }
     ensures bytes { All IsByte (take result (drop at cells.now)) }
@@ -317,7 +317,7 @@ fn characters_in_block(cells: &[Cell], at: usize) -> usize
 
 // Makes a block of cells the same as another that stands so far before, and apart.
 #[inline(always)]
-fn copy_block(cells: &mut [Cell], start: usize, distance: usize)
+pub(crate) fn copy_block(cells: &mut [Cell], start: usize, distance: usize)
     requires apart { 8 ≤ distance }
     requires room { start + distance + 8 ≤ length cells.old }
     ensures len { length cells.new ≡ length cells.old }

@@ -5,9 +5,9 @@ use Rattle.trac_forms.proofs.Filling.{filled, Filled}
 use Rattle.trac_forms.proofs.fill.fill_cells.Given as goal
 
 -- the items up to a place stand, their gaps filled
-abbrev pub invariant-loop-arguments : goal.invariant-loop-arguments
-invariant-loop-arguments l =
-    let given = texts_between l.fn.space.neutral l.arguments.from l.arguments.end in
+abbrev pub invariant-loop-from : goal.invariant-loop-from
+invariant-loop-from l =
+    let given = texts_between l.fn.space.neutral l.first l.end in
     record {
       order : l.at ≤ l.stop;
       way : l.way + used l.space + length l.space.spare ≡ l.space.room;
@@ -15,5 +15,5 @@ invariant-loop-arguments l =
     }
 
 -- the cells that are left
-abbrev pub decreases-loop-arguments : goal.decreases-loop-arguments
-decreases-loop-arguments l = l.stop - l.at
+abbrev pub decreases-loop-from : goal.decreases-loop-from
+decreases-loop-from l = l.stop - l.at
