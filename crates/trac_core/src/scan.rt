@@ -200,10 +200,35 @@ fn add_run(work: &mut Work, most: u64, plain: &mut u32) -> u64
     ensures plain { IsPlainFrom plain.new work.new.neutral }
     ensures keeps { KeepsRoom work.old work.new }
 {
-    let before = work.neutral_len();
     let reach = most.min(u64::from(work.active_len()));
-    let (count, last) = work.run_to_neutral(reach.min(FEW) as u32, KINDS);
-    *plain = if last > 0 { before + last } else { *plain };
+    // A number that is known makes a shorter loop.
+    if reach >= FEW {
+        add_run_within(work, FEW as u32, plain)
+    } else {
+        add_run_within(work, reach as u32, plain)
+    }
+}
+
+/// The same within so many characters.
+#[inline]
+fn add_run_within(work: &mut Work, reach: u32, plain: &mut u32) -> u64
+    requires opened { (place : ℕ) × IsLastCall work.old.neutral place }
+    requires within { reach ≤ length work.old.active }
+    requires plain { IsPlainFrom plain.old work.old.neutral }
+    requires sound { IsSound work.old }
+    ensures passes { Advances result work.old work.new }
+    ensures few { result ≤ reach }
+    ensures some { (c : ℕ) → slice_get (text_of_cells work.old.active) 0 ≡ Some c →
+        kind_of c ≤ 1 → 0 < reach → 0 < result }
+    ensures shorter { length work.new.active + result ≡ length work.old.active }
+    ensures plain { IsPlainFrom plain.new work.new.neutral }
+    ensures keeps { KeepsRoom work.old work.new }
+{
+    let before = work.neutral_len();
+    let (count, last) = work.run_to_neutral(reach, KINDS);
+    if last > 0 {
+        *plain = before + last;
+    }
     u64::from(count)
 }
 

@@ -6,24 +6,24 @@ use Rattle.trac_core.specs.StepsInRow.{IsPlainFrom, kind_of}
 use Rattle.trac_core.proofs.ArgumentRuns.{run-passes, run-some, plain-turned}
 use Rattle.trac_core.proofs.PlainEnds.{plain-appended}
 use Rattle.trac_core.proofs.Scanning.{some-active}
-use Rattle.trac_core.proofs.scan.add_run.Goals as goal
-use Rattle.trac_core.proofs.scan.add_run.Goals.{then-last-gt0, else-last-gt0}
+use Rattle.trac_core.proofs.scan.add_run_within.Goals as goal
+use Rattle.trac_core.proofs.scan.add_run_within.Goals.{then-last-gt0, else-last-gt0}
 
 pub returns-clause-passes : goal.returns-clause-passes
 returns-clause-passes c =
     let old = c.args.work.now in
     let n = c.run_to_neutral-count.result.0 in
     let run = c.run_to_neutral-count.ensures in
-    let within : n ≤ length old.active = omega (arith, run.few, c.min.ensures, c.min-reach.ensures, c.from.ensures, c.active_len.ensures.value) in
-    rw (c.from-2.ensures, run.moved) (λ meta. run-passes meta n c.requires.opened.0 old c.requires.opened.1 c.requires.sound.active within run.run)
+    let within : n ≤ length old.active = omega (arith, run.few) in
+    rw (c.from.ensures, run.moved) (λ meta. run-passes meta n c.requires.opened.0 old c.requires.opened.1 c.requires.sound.active within run.run)
 
 pub returns-clause-some : goal.returns-clause-some
 returns-clause-some c = λ first is less allowed.
     let old = c.args.work.now in
     let n = c.run_to_neutral-count.result.0 in
     let inside = some-active old.active first is in
-    let reach : 0 < c.min.result = omega (arith, inside, allowed, c.min.ensures, c.min-reach.ensures, c.from.ensures, c.active_len.ensures.value) in
-    rw c.from-2.ensures (run-some old.active n c.min.result first is less reach c.run_to_neutral-count.ensures.ends)
+    let reach : 0 < c.args.reach = omega (arith, inside, allowed) in
+    rw c.from.ensures (run-some old.active n c.args.reach first is less reach c.run_to_neutral-count.ensures.ends)
 
 pub returns-clause-plain : goal.returns-clause-plain
 returns-clause-plain c =
