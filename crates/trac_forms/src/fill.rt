@@ -65,7 +65,7 @@ impl<'a> Work<'a> {
 impl<'a> Work<'a> {
     /// Puts the characters of the form's body from its pointer on before active, where no gap stands
     /// among them and they fit, and gives how many they are. None where it does not put them.
-    #[inline(never)]
+    #[inline(always)]
     pub fn load_body(&mut self, form: FormId) -> Option<u32>
         requires known { form_place form < length self.old.forms }
         ensures loaded { let body = called_part self.old.forms (form_place form) in

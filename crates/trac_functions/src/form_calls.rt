@@ -155,7 +155,8 @@ pub fn call_form(work: &mut Work, mut arguments: Arguments) -> Made
     let Some(form) = next_form(work, &mut arguments) else {
         return Made::Value;
     };
-    if let Some(size) = place_body(work, form, scanned) {
+    // a form that is called without arguments mostly has no gaps
+    if let Some(size) = place_body(work, form, scanned && arguments.is_empty()) {
         return Made::Placed(size);
     }
     if work.fill_body(form, arguments.from, arguments.end) {
@@ -166,18 +167,18 @@ pub fn call_form(work: &mut Work, mut arguments: Arguments) -> Made
 }
 
 /// The characters of the form's body from its pointer on are placed before the active string, where
-/// no gap stands among them, they fit, and the value is scanned. Gives how many they are; None where
-/// they are not placed.
+/// that is asked for, no gap stands among them and they fit. Gives how many they are; None where they
+/// are not placed.
 #[inline(always)]
-fn place_body(work: &mut Work, form: FormId, scanned: bool) -> Option<u32>
+fn place_body(work: &mut Work, form: FormId, asked: bool) -> Option<u32>
     requires known { form_place form < length work.old.forms }
     requires sound { IsSound work.old }
     ensures placed { let body = called_part work.old.forms (form_place form) in
         MatchOption result (work.new ≡ work.old)
-        (λ n. (scanned ≡ true) × IsLoaded work.old work.new body n) }
+        (λ n. (asked ≡ true) × IsLoaded work.old work.new body n) }
     ensures sound { IsSound work.new }
 {
-    if scanned { work.load_body(form) } else { None }
+    if asked { work.load_body(form) } else { None }
 }
 
 /// The form that the next argument names, None where no form has the name.

@@ -19,6 +19,7 @@ use Rattle.trac_functions.proofs.MadeValues.{valued-of}
 use Rattle.trac_functions.proofs.TakenItems.{all-characters}
 use Rattle.trac_functions.proofs.FormLemmas.{unchanged, parted, parted-texts}
 use Rattle.trac_functions.proofs.form_calls.call_form.Goals as goal
+use Rattle.trac_functions.proofs.form_calls.call_form.Goals.{then-scanned, else-scanned}
 
 -- what a call of the form means
 module _ (old : Contents) (name : Text) (ts : List Text) (k : ℕ) (sound : IsSound old) (named : IsNamedAt old.forms (argument ts 0) k) where
@@ -128,7 +129,7 @@ returns-in-Some-place_body-clause-makes c = λ name.
         false,
         record {
           valued = subst (λ fs. Valued CallForm (name ∷ ts) old.forms (text_of items) false fs) (sym forms) valued;
-          goes = placed.0;
+          goes = elim c.if-scanned.branch [ then-scanned w ↦ w.if-scanned.true | else-scanned w ↦ sym w.place_body-is ∙ placed.0 ];
           long = all-characters items loaded.characters ∙ loaded.size;
           fits = loaded.fits;
           stands = loaded.stands ∙ ap (λ fs. record old { forms = fs; active = flat_text (text_of items) ++ old.active }) (sym forms);
