@@ -97,6 +97,11 @@ fn load_form(space: &mut Space, k: u32, start: u32) -> Option<u32>
     let (name, body, pointer) = heads(space, start);
     let place = start + 3 + name;
     let (from, stop) = (place + pointer, place + body);
+    // hands on that the lists fit
+    let _way = space.way();
+    if from == stop {
+        return Some(0);
+    }
     let size = stop - from;
     if space.characters_from(from, stop) < size || space.free() < size {
         return None;

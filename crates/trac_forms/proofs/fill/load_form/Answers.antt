@@ -1,8 +1,10 @@
-use Rattle.std.proofs.Common.{◌≡◌, ◌+◌, length, All, slice_range, refl, sym, ap, ◌∙◌, subst, arith}
+use Rattle.std.proofs.Common.{◌≡◌, ◌+◌, ◌-◌, [], true, nat_le, length, map, All, slice_range, refl, sym, ap, ◌∙◌, subst, arith}
+use Rattle.trac_space.specs.Lists.{used}
 use Rattle.std.proofs.lemmas.List.{length-map}
+use Rattle.std.proofs.lemmas.List.Elements.{All-nil}
 use Rattle.std.proofs.lemmas.List.Edits.{length-between}
 use Rattle.trac_space.specs.Texts.{flat_text, IsByte}
-use Rattle.trac_language.specs.Form.{text_of}
+use Rattle.trac_language.specs.Form.{text_of, is_character}
 use Rattle.trac_forms.specs.Loading.{AreCharacters}
 use Rattle.trac_forms.specs.Stored.{item_of}
 use Rattle.trac_forms.proofs.Filling.{AreItems, items, plain-items, plain-text}
@@ -71,3 +73,14 @@ returns c =
       omega (arith, c.if-free-size.false, c.free.ensures),
       rw (c.load_from_store.ensures, c.make_way.ensures.same, text) refl,
     )
+
+pub returns-then-from-stop : goal.returns-then-from-stop
+returns-then-from-stop c =
+    let old = c.args.space.now in
+    let i = called (goal.at.returns-then-from-stop c).After-heads-name in
+    let from = c.args.start + 3 + c.heads-name.result.0 + c.heads-name.result.2 in
+    let none : slice_range old.store from (c.args.start + 3 + c.heads-name.result.0 + c.heads-name.result.1) ≡ [] =
+    (let zero : c.args.start + 3 + c.heads-name.result.0 + c.heads-name.result.1 - from ≡ 0 = omega (arith, c.if-from-stop.true) in rw zero refl) in
+    let items_are = sym i.are ∙ ap (map item_of) none in
+    let stays : nat_le (used old + 0 + length old.spare) old.room ≡ true = grind (arith, c.way-way.ensures) in
+    rw (items_are, stays) (All-nil (λ item. is_character item ≡ true), refl, omega (arith, c.way-way.ensures), refl)
