@@ -1,5 +1,6 @@
 //! The functions of bit strings: `bu`, `bi`, `bc`, `bs` and `br`.
-ghost use Rattle.std.specs.Prelude.{◌≡◌, ◌+◌, ◌-◌, ◌≤◌, ◌++◌, Bool, false, List, length, slice_get};
+ghost use Rattle.std.specs.Prelude.{◌≡◌, ◌+◌, ◌-◌, ◌≤◌, ◌++◌, false, List, length, slice_get};
+ghost use Rattle.std.specs.Prelude.{Bool};
 ghost use Rattle.trac_language.specs.declared.function.Function.{Function};
 ghost use Rattle.trac_language.specs.declared.function.Function.TheVariants.{Union, Intersection};
 ghost use Rattle.trac_language.specs.declared.function.Function.TheVariants.{Complement, Shift};
