@@ -19,8 +19,9 @@ use trac_space::{Cell, byte_in};
 /// prints what is left of it (Mooers 1966).
 const IDLING: &[u8; 11] = b"#(ps,#(rs))";
 
-// So many characters of a run in a call are moved as they are looked at; more make a run long.
-const FEW: u64 = 16;
+// So many characters of a run in a call are moved as they are looked at; more make a run long. Up
+// to twelve, the compiler makes code without a loop of them.
+const FEW: u64 = 12;
 
 /// What the try of a step came to, and the cells that it needed.
 #[derive(Clone, Copy, Debug, PartialEq, Eq)]
