@@ -1,5 +1,5 @@
 //! The functions of arithmetic: `ad`, `su`, `ml` and `dv`.
-ghost use Rattle.std.specs.Prelude.{◌≡◌, ◌+◌, ◌-◌, ◌≤◌, ◌∷◌, ◌++◌, Bool, false, List};
+ghost use Rattle.std.specs.Prelude.{◌≡◌, ◌+◌, ◌-◌, ◌≤◌, ◌∷◌, ◌++◌, false, length, List};
 ghost use Rattle.std.specs.Fmt.{signed_decimal};
 ghost use Rattle.trac_language.specs.declared.function.Function.{Function};
 ghost use Rattle.trac_language.specs.declared.function.Function.TheVariants.{Arithmetic};
@@ -9,7 +9,7 @@ ghost use Rattle.trac_forms.specs.Contents.{used, part_text, IsTextPart, IsSound
 ghost use Rattle.trac_functions.specs.Calls.{AreArguments, texts, Valued, Makes};
 ghost use Rattle.trac_functions.specs.Calls.{KeepsRoom};
 
-use crate::arguments::{Arguments, Made, give, put_part, text};
+use crate::arguments::{Arguments, Made, give, load_part, put_part, text};
 use crate::writing::put_bytes;
 use itoa::Buffer;
 use trac_forms::Work;
@@ -28,12 +28,16 @@ pub fn arithmetic(work: &mut Work, operation: Arith, mut arguments: Arguments) -
     ensures unmade { result ≡ Made.Full → work.new.forms ≡ work.old.forms }
     ensures keeps { KeepsRoom work.old work.new }
 {
+    let scanned = arguments.scanned;
     let first = arguments.next(work);
     let second = arguments.next(work);
     let left = trac_values::tail_number(text(work, first));
     let right = trac_values::tail_number(text(work, second));
     match trac_values::result_of(operation, left.value, right.value) {
-        Some(number) => give_number(work, (first.0, first.0 + left.start), number),
+        Some(number) => {
+            let prefix = (first.0, first.0 + left.start);
+            give_number(work, prefix, number, scanned)
+        }
         None => {
             let other = arguments.next(work);
             give(work, other, true)
@@ -41,10 +45,11 @@ pub fn arithmetic(work: &mut Work, operation: Arith, mut arguments: Arguments) -
     }
 }
 
-/// A part of the neutral string, and a number in decimal behind it, are the value of a call.
-fn give_number(work: &mut Work, prefix: (u32, u32), number: i128) -> Made
+/// A part of the neutral string, and a number in decimal behind it, are the value of a call, which
+/// goes to the active string where it is scanned again.
+fn give_number(work: &mut Work, prefix: (u32, u32), number: i128, scanned: bool) -> Made
     requires prefix { IsTextPart work.old.neutral prefix.0 prefix.1 }
-    ensures makes { (function : Function) (args : List Text) (scanned : Bool) →
+    ensures makes { (function : Function) (args : List Text) →
         let before = part_text work.old.neutral prefix.0 prefix.1 in
         let value = before ++ signed_decimal number in
         Valued function args work.old.forms value false work.old.forms →
@@ -53,13 +58,32 @@ fn give_number(work: &mut Work, prefix: (u32, u32), number: i128) -> Made
     ensures keeps { KeepsRoom work.old work.new }
 {
     let mut buffer = Buffer::new();
-    let digits = buffer.format(number).as_bytes();
-    if work.free() < prefix.1 - prefix.0 + digits.len() as u32 {
+    let digits = decimal(&mut buffer, number);
+    let free = work.free();
+    let size = prefix.1 - prefix.0 + digits.len() as u32;
+    if free < size {
         return Made::Full;
+    }
+    if scanned {
+        work.load_bytes(digits);
+        load_prefix(work, prefix);
+        return Made::Placed(size);
     }
     put_prefix(work, prefix);
     put_bytes(work, digits);
     Made::Value
+}
+
+/// A number in decimal, with its sign where it is negative. One that 64 bits hold takes less.
+#[inline]
+fn decimal(buffer: &mut Buffer, number: i128) -> &[u8]
+    ensures text { result.now ≡ signed_decimal number }
+    ensures short { length result.now ≤ 40 }
+{
+    match i64::try_from(number) {
+        Ok(short) => buffer.format(short).as_bytes(),
+        Err(_) => buffer.format(number).as_bytes(),
+    }
 }
 
 /// Puts a part of the neutral string once more at its end, which there are cells for. It mostly is
@@ -75,5 +99,20 @@ fn put_prefix(work: &mut Work, part: (u32, u32))
     prove!(work.used() <= work.room());
     if part.0 < part.1 {
         put_part(work, part);
+    }
+}
+
+/// The same before the active string.
+#[inline(always)]
+fn load_prefix(work: &mut Work, part: (u32, u32))
+    requires part { IsTextPart work.old.neutral part.0 part.1 }
+    requires fits { used work.old + (part.1 - part.0) ≤ work.old.room }
+    ensures put { let text = part_text work.old.neutral part.0 part.1 in
+        work.new ≡ record work.old { active = flat_text text ++ work.old.active } }
+    ensures sound { IsSound work.new }
+{
+    prove!(work.used() <= work.room());
+    if part.0 < part.1 {
+        load_part(work, part);
     }
 }

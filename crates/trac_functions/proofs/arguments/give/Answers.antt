@@ -5,13 +5,6 @@ use Rattle.trac_functions.specs.Calls.{Valued}
 use Rattle.trac_functions.proofs.ArgumentLemmas.{flat-bytes}
 use Rattle.trac_functions.proofs.FormLemmas.{length-part}
 use Rattle.trac_functions.proofs.arguments.give.Goals as goal
-use Rattle.trac_functions.proofs.arguments.give.Goals.{After-load_part}
-
--- the text of the part, before active
-loaded : (c : After-load_part) → c.load_part.new.self ≡ record c.args.work.now { active = flat_text (part_text c.args.work.now.neutral c.args.part.0 c.args.part.1) ++ c.args.work.now.active }
-loaded c =
-    let old = c.args.work.now in
-    c.load_part.ensures.loaded ∙ ap (λ cells. record old { active = cells ++ old.active }) (sym (flat-bytes (slice_range old.neutral c.args.part.0 c.args.part.1) c.requires.part.bytes))
 
 not_forced : (forced scanned : Bool) → (forced || scanned) ≡ false → forced ≡ false
 not_forced true scanned h = h
@@ -21,7 +14,7 @@ pub returns-then-scanned-clause-makes : goal.returns-then-scanned-clause-makes
 returns-then-scanned-clause-makes c = λ f args forced scanned goes valued.
     let old = c.args.work.now in
     let text = part_text old.neutral c.args.part.0 c.args.part.1 in
-    let stands = loaded (goal.at.returns-then-scanned-clause-makes c).After-load_part in
+    let stands = c.load_part.ensures.loaded in
     let forms = ap (λ (w : Contents). w.forms) stands in (
       text,
       (
@@ -42,7 +35,7 @@ returns-then-scanned-clause-takes c = λ is k.
     record {
       long = length-part old.neutral c.args.part.0 c.args.part.1 c.requires.part;
       fits = omega (arith, c.if-free-size.false, c.free.ensures.value);
-      stands = loaded (goal.at.returns-then-scanned-clause-takes c).After-load_part;
+      stands = c.load_part.ensures.loaded;
     }
 
 pub returns-clause-makes : goal.returns-clause-makes

@@ -12,8 +12,8 @@ use Rattle.trac_functions.proofs.Ranges.{arith-passed, ranged}
 use Rattle.trac_functions.proofs.Fronts.{prefix-front, inside, front-part, front-text}
 use Rattle.trac_functions.proofs.arithmetic.arithmetic.Goals as goal
 
-pub overflow_add-first : goal.overflow_add-first
-overflow_add-first c =
+pub overflow_add-prefix : goal.overflow_add-prefix
+overflow_add-prefix c =
     let w = c.args.work.now in
     let first = c.next-first.result in
     let t = part_text w.neutral first.0 first.1 in
@@ -51,7 +51,7 @@ returns-in-Some-clause-makes c = λ name.
     (c.tail_number-left.ensures.value ∙ ap (λ t. if_in_range (Some (number t))) left)
     (c.tail_number-right.ensures.value ∙ ap (λ t. if_in_range (Some (number t))) right) in
     let kept = arith-passed operation (number (argument ts 0)) (number (argument ts 1)) c.in-Some.number (sym result) in
-    c.give_number.ensures.makes (Arithmetic operation) (name ∷ ts) c.args.arguments.scanned
+    c.give_number.ensures.makes (Arithmetic operation) (name ∷ ts)
     (valued-of (Arithmetic operation) (name ∷ ts) w.forms w.forms _ false
     (λ meta input. ap (λ r. result_or r (prefix (argument ts 0)) (argument ts 2) (world w.forms meta input)) (sym result)
     ∙ ap (λ p. result_or (Some c.in-Some.number) p (argument ts 2) (world w.forms meta input)) (sym before)
