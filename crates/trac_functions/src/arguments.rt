@@ -1,5 +1,5 @@
 //! The arguments of a call, taken one after the other, and the value that is put behind them.
-ghost use Rattle.std.specs.Prelude.{◌≡◌, ◌↔◌, ◌+◌, ◌-◌, ◌≤◌, ◌++◌, ℕ, true, false, length, drop};
+ghost use Rattle.std.specs.Prelude.{◌≡◌, ◌↔◌, ◌+◌, ◌≤◌, ◌++◌, ℕ, true, false, length, drop};
 ghost use Rattle.std.specs.Prelude.{IsTrue, IsSome, slice_range};
 ghost use Rattle.std.specs.Bool.{OnTrue, OnFalse};
 ghost use Rattle.trac_language.specs.Function.{function_named};
@@ -129,17 +129,20 @@ pub fn put_part(work: &mut Work, part: (u32, u32)) -> bool
     work.copy_neutral(part.0, part.1)
 }
 
-/// Puts a part of the neutral string that is a text once more before the active string, which there
-/// are cells for.
-#[inline]
-pub fn load_part(work: &mut Work, part: (u32, u32))
+/// The same before the active string.
+#[inline(always)]
+pub fn load_part(work: &mut Work, part: (u32, u32)) -> bool
     requires part { IsTextPart work.old.neutral part.0 part.1 }
-    requires fits { used work.old + (part.1 - part.0) ≤ work.old.room }
     ensures loaded { let text = part_text work.old.neutral part.0 part.1 in
-        work.new ≡ record work.old { active = flat_text text ++ work.old.active } }
+        IsTrue result ↔ (used work.old + length text ≤ work.old.room) }
+    ensures first { let text = part_text work.old.neutral part.0 part.1 in
+        OnTrue result (work.new ≡ record work.old {
+          active = flat_text text ++ work.old.active;
+        }) }
+    ensures full { OnFalse result (work.new ≡ work.old) }
     ensures sound { IsSound work.new }
 {
-    work.load_part(part.0, part.1);
+    work.load_part(part.0, part.1)
 }
 
 /// A part of the neutral string is the value of a call, which goes to the active string where it
@@ -153,14 +156,14 @@ pub fn give(work: &mut Work, part: (u32, u32), scanned: bool) -> Made
     ensures unmade { result ≡ Made.Full → work.new.forms ≡ work.old.forms }
     ensures keeps { KeepsRoom work.old work.new }
 {
-    let size = part.1 - part.0;
-    if work.free() < size {
+    if scanned {
+        if !load_part(work, part) {
+            return Made::Full;
+        }
+        return Made::Placed(part.1 - part.0);
+    }
+    if !put_part(work, part) {
         return Made::Full;
     }
-    if scanned {
-        load_part(work, part);
-        return Made::Placed(size);
-    }
-    work.copy_neutral(part.0, part.1);
     Made::Value
 }

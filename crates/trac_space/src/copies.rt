@@ -353,19 +353,18 @@ pub(crate) fn copy_behind(cells: &mut [Cell], start: usize, distance: usize, n: 
     }
 }
 
-// The same, told where the move ends and where it goes; a long one by a call.
+// The same, told where it goes; a long one by a call.
 #[inline(always)]
-pub(crate) fn copy_ahead(cells: &mut [Cell], start: usize, end: usize, to: usize)
-    requires order { start ≤ end }
-    requires apart { end ≤ to }
-    requires room { to + (end - start) ≤ length cells.old }
+pub(crate) fn copy_ahead(cells: &mut [Cell], start: usize, n: usize, to: usize)
+    requires apart { start + n ≤ to }
+    requires room { to + n ≤ length cells.old }
     ensures len { length cells.new ≡ length cells.old }
-    ensures after { cells.new ≡ copy_within cells.old start end to }
+    ensures after { cells.new ≡ copy_within cells.old start (start + n) to }
 {
-    if end - start > FEW {
-        copy_long(cells, start, end, to);
+    if n > FEW {
+        copy_long(cells, start, start + n, to);
     } else {
-        copy_behind(cells, start, to - start, end - start);
+        copy_behind(cells, start, to - start, n);
     }
 }
 

@@ -1,47 +1,27 @@
-use Rattle.std.proofs.Common.{◌+◌, ◌-◌, ◌≤◌, ◌++◌, length, slice_range, refl, ap, ◌∙◌, arith}
+use Rattle.std.proofs.Common.{◌+◌, ◌-◌, ◌≤◌, length, slice_range, refl, inl, arith}
 use Rattle.std.proofs.lemmas.List.Edits.{length-between}
-use Rattle.trac_space.specs.Lists.{Lists}
 use Rattle.trac_space.specs.Lists as lists
 use Rattle.trac_forms.specs.Stored.{IsStored}
 use Rattle.trac_forms.proofs.FlatLemmas.{used-stored}
-use Rattle.trac_forms.proofs.Indexed.{way-kept}
 use Rattle.trac_forms.proofs.Strings.{before-active}
 use Rattle.trac_forms.proofs.work.Work.load_part.Goals as goal
 use Rattle.trac_forms.proofs.work.Work.load_part.Goals.{After-load_from_neutral}
 
-pub make_way-requires : goal.make_way-requires
-make_way-requires c =
+pub returns-then-size-way-clause-loaded : goal.returns-then-size-way-clause-loaded
+returns-then-size-way-clause-loaded c =
     let used = used-stored c.self.inside.space c.self.invariant.whole in
-    let fits = rw (← c.self.view_is) at c.requires.fits in
-    omega arith
+    rw (← c.self.view_is) (λ e. omega arith, λ fits. refl)
 
 stored : (c : After-load_from_neutral) → IsStored c.load_from_neutral.new.self c.self.inside.count c.self.inside.last c.self.inside.start
 stored c =
     let s = c.self.inside.space in
-    let a = c.args.a in
-    let b = c.args.b in
-    let more = slice_range s.neutral a b in
-    let part = rw (← c.self.view_is) at c.requires.part in
-    let used = used-stored s c.self.invariant.whole in
-    let fits = rw (← c.self.view_is) at c.requires.fits in
-    let mid = c.make_way.new.self in
-    let room : lists.used s + length more ≤ s.room = omega (arith, length-between s.neutral a b part.within) in
-    before-active _ s mid _ _ _ _ more (way-kept (b - a) s) c.self.invariant part.bytes room c.make_way.ensures.same
-    (c.load_from_neutral.ensures ∙ ap (λ (l : Lists). record mid { active = slice_range l.neutral a b ++ mid.active }) c.make_way.ensures.same)
-
-pub load_from_neutral-requires-clause-within : goal.load_from_neutral-requires-clause-within
-load_from_neutral-requires-clause-within c =
-    let part = rw (← c.self.view_is) at c.requires.part in
-    let within = part.within in
-    rw c.make_way.ensures.same within
+    let more = slice_range s.neutral c.args.a c.args.b in
+    let part = rw (← c.self.view_is) at c.requires in
+    let room : lists.used s + length more ≤ s.room = omega (arith, length-between s.neutral c.args.a c.args.b part.within) in
+    before-active s.spare s s _ _ _ _ more (inl refl) c.self.invariant part.bytes room refl c.load_from_neutral.ensures
 
 pub invariant_of-self : goal.invariant_of-self
 invariant_of-self c = let at = goal.at.invariant_of-self c in stored at.After-load_from_neutral
 
-pub returns-clause-loaded : goal.returns-clause-loaded
-returns-clause-loaded c =
-    let s = c.self.inside.space in
-    rw (← c.self.view_is, c.load_from_neutral.ensures, c.make_way.ensures.same) refl
-
-pub returns-clause-sound : goal.returns-clause-sound
-returns-clause-sound c = let at = goal.at.returns-clause-sound c in (stored at.After-load_from_neutral).sound
+pub returns-then-size-way-clause-sound : goal.returns-then-size-way-clause-sound
+returns-then-size-way-clause-sound c = let at = goal.at.returns-then-size-way-clause-sound c in (stored at.After-load_from_neutral).sound

@@ -1,4 +1,5 @@
-use Rattle.std.proofs.Common.{◌-◌, ◌++◌, ◌∙◌, ap, arith, refl, map, take, slice_range}
+use Rattle.std.proofs.Common.{◌≡◌, ◌+◌, ◌-◌, ◌++◌, ◌∙◌, ap, arith, refl, map, take, slice_range}
+use Rattle.std.specs.List.{copy_within}
 use Rattle.std.proofs.lemmas.List.Edits.{length-between}
 use Rattle.trac_space.specs.Block.{seen_lists}
 use Rattle.trac_space.specs.Cells.{seen}
@@ -11,7 +12,8 @@ returns c =
     let s = c.self.inside in
     let h = c.self.invariant in
     let size = sizes s h c.self.view_is in
-    let moved = parts-before s h c.args.a c.args.b (c.args.b - c.args.a) _ (omega arith) (omega arith) (omega arith) c.copy_ahead.ensures.after in
+    let end : c.args.a + (c.args.b - c.args.a) ≡ c.args.b = omega arith in
+    let moved = parts-before s h c.args.a c.args.b (c.args.b - c.args.a) _ (omega arith) (omega arith) (omega arith) (c.copy_ahead.ensures.after ∙ ap (λ j. copy_within s.cells.now c.args.a j (s.end - (s.active + (c.args.b - c.args.a)))) end) in
     let part = slice_range s.cells.now c.args.a c.args.b in
     let seen_part = ap (map seen) (store-part s h c.args.a c.args.b (omega arith) (omega arith)) in
     rw (← c.self.view_is)
@@ -25,5 +27,6 @@ invariant_of-self c =
     let s = c.self.inside in
     let h = c.self.invariant in
     let size = sizes s h c.self.view_is in
-    let moved = parts-before s h c.args.a c.args.b (c.args.b - c.args.a) _ (omega arith) (omega arith) (omega arith) c.copy_ahead.ensures.after in
+    let end : c.args.a + (c.args.b - c.args.a) ≡ c.args.b = omega arith in
+    let moved = parts-before s h c.args.a c.args.b (c.args.b - c.args.a) _ (omega arith) (omega arith) (omega arith) (c.copy_ahead.ensures.after ∙ ap (λ j. copy_within s.cells.now c.args.a j (s.end - (s.active + (c.args.b - c.args.a)))) end) in
     laid s _ h moved refl (omega arith) (omega arith) h.calls h.linked

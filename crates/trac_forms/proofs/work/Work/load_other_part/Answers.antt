@@ -1,0 +1,49 @@
+use Rattle.std.proofs.Common.{◌+◌, ◌-◌, ◌≤◌, ◌++◌, length, slice_range, refl, ap, ◌∙◌, arith}
+use Rattle.std.proofs.lemmas.List.Edits.{length-between}
+use Rattle.trac_space.specs.Lists.{Lists}
+use Rattle.trac_space.specs.Lists as lists
+use Rattle.trac_forms.specs.Stored.{IsStored}
+use Rattle.trac_forms.proofs.FlatLemmas.{used-stored}
+use Rattle.trac_forms.proofs.Indexed.{way-kept}
+use Rattle.trac_forms.proofs.Strings.{before-active}
+use Rattle.trac_forms.proofs.work.Work.load_other_part.Goals as goal
+use Rattle.trac_forms.proofs.work.Work.load_other_part.Goals.{After-load_from_neutral}
+
+pub returns-then-free-b-clause-loaded : goal.returns-then-free-b-clause-loaded
+returns-then-free-b-clause-loaded c =
+    let used = used-stored c.self.inside.space c.self.invariant.whole in
+    rw (← c.self.view_is) (λ e. cc, λ fits. absurd (omega arith))
+
+stored : (c : After-load_from_neutral) → IsStored c.load_from_neutral.new.self c.self.inside.count c.self.inside.last c.self.inside.start
+stored c =
+    let s = c.self.inside.space in
+    let a = c.args.a in
+    let b = c.args.b in
+    let more = slice_range s.neutral a b in
+    let part = rw (← c.self.view_is) at c.requires in
+    let used = used-stored s c.self.invariant.whole in
+    let mid = c.make_way.new.self in
+    let room : lists.used s + length more ≤ s.room = omega (arith, length-between s.neutral a b part.within) in
+    before-active _ s mid _ _ _ _ more (way-kept (b - a) s) c.self.invariant part.bytes room c.make_way.ensures.same
+    (c.load_from_neutral.ensures ∙ ap (λ (l : Lists). record mid { active = slice_range l.neutral a b ++ mid.active }) c.make_way.ensures.same)
+
+pub load_from_neutral-requires-clause-within : goal.load_from_neutral-requires-clause-within
+load_from_neutral-requires-clause-within c =
+    let part = rw (← c.self.view_is) at c.requires in
+    let within = part.within in
+    rw c.make_way.ensures.same within
+
+pub invariant_of-self : goal.invariant_of-self
+invariant_of-self c = let at = goal.at.invariant_of-self c in stored at.After-load_from_neutral
+
+pub returns-clause-loaded : goal.returns-clause-loaded
+returns-clause-loaded c =
+    let used = used-stored c.self.inside.space c.self.invariant.whole in
+    rw (← c.self.view_is) (λ e. omega arith, λ fits. refl)
+
+pub returns-clause-first : goal.returns-clause-first
+returns-clause-first c =
+    rw (← c.self.view_is, c.load_from_neutral.ensures, c.make_way.ensures.same) refl
+
+pub returns-clause-sound : goal.returns-clause-sound
+returns-clause-sound c = let at = goal.at.returns-clause-sound c in (stored at.After-load_from_neutral).sound
