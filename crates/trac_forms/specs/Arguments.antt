@@ -3,7 +3,6 @@ use Rattle.std.specs.Prelude.{ℕ, drop}
 use Rattle.trac_language.specs.Text.{Text}
 use Rattle.trac_language.specs.Form.{fill}
 use Rattle.trac_forms.specs.Contents.{Contents, body_at, pointer_at}
-
 -- what stands between comma marks
 pub use Rattle.trac_store.specs.Arguments.{before_comma, parts_at, parts_between, texts_between}
 pub use Rattle.trac_store.specs.Arguments.{numbered_part, AreParted, IsHeadAt, IsListed, filled_cells}

@@ -4,7 +4,6 @@ use Rattle.trac_language.specs.declared.item.Item.{Item}
 use Rattle.trac_language.specs.Form.{text_of}
 use Rattle.trac_space.specs.Texts.{flat_text}
 use Rattle.trac_forms.specs.Contents.{Contents, used}
-
 -- what a call goes through
 pub use Rattle.trac_store.specs.Loading.{called_part, AreCharacters}
 
