@@ -394,8 +394,8 @@ pub(crate) fn index_fitting(space: &mut Space, count: u32)
 const COST: u32 = 8;
 
 /// Makes a table of the forms in free cells, by which they are found, where searches have cost more
-/// since the last one than that does. Nothing else changes, and each call that needs its cells takes
-/// them back.
+/// since the last one than that does: so much is `toil`, which begins anew then. Nothing else
+/// changes, and each call that needs its cells takes them back.
 #[inline]
 pub fn keep_index(space: &mut Space, count: u32, toil: &mut u32)
     requires whole { flat_forms (forms_in space.old.store) ≡ space.old.store }

@@ -1,5 +1,8 @@
-//! Forms as cells in the three lists of a `Space`: the store has them one behind the other, the spare
-//! list an index of them, and what is done with them reads and writes the two strings.
+//! Forms as cells in the lists of a `Space`. The store has the forms, one behind the other, and
+//! nothing else; the spare list has an index of them, or nothing.
+//!
+//! A form is named by its place in the list of forms and by the place of the store where it begins.
+//! Places and lengths count cells.
 //!
 //! Forms, their gaps with ordinals, segmenting and the form pointer are those of Mooers, "TRAC, A
 //! Procedure-Describing Language for the Reactive Typewriter", CACM 9(3), 1966. How a form stands as

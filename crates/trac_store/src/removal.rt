@@ -21,7 +21,8 @@ use trac_space::{Cell, Space};
 const MARK: u32 = u32::MAX;
 
 /// Marks each form whose name stands between two comma marks of neutral from a place up to another.
-/// Gives a place in the list before which none has a mark, and where that form begins.
+/// Gives a place in the list before which none has a mark, and where that form begins. `last` and
+/// `toil` are those of `find_named`.
 pub fn mark_all(
     space: &mut Space,
     count: u32,

@@ -19,7 +19,7 @@ fn is_gap(cell: &Cell) -> bool
     matches!(cell, Cell::Gap(_))
 }
 
-/// The first gap at `from` or after. None where there is none.
+/// The place of the first gap at `from` or after. None where there is none.
 #[inline]
 pub fn first_gap(cells: &[Cell], from: u32) -> Option<u32>
     requires within { from ≤ length cells.now }
@@ -36,7 +36,7 @@ pub fn first_gap(cells: &[Cell], from: u32) -> Option<u32>
     None
 }
 
-/// The first character at `from` or after. None where there is none.
+/// The place of the first character at `from` or after. None where there is none.
 pub fn first_character(cells: &[Cell], from: u32) -> Option<u32>
     requires within { from ≤ length cells.now }
     requires bounded { length cells.now ≤ 16777216 }
@@ -52,7 +52,7 @@ pub fn first_character(cells: &[Cell], from: u32) -> Option<u32>
     None
 }
 
-/// The last character before `from`. None where there is none.
+/// The place of the last character before `from`. None where there is none.
 pub fn last_character(cells: &[Cell], from: u32) -> Option<u32>
     requires within { from ≤ length cells.now }
     ensures { MatchOption result

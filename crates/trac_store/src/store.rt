@@ -18,7 +18,7 @@ use crate::index::look_up;
 use trac_language::Item;
 use trac_space::{Cell, Space, byte_in};
 
-/// The number in the head cell at place `i` of the store, 0 where it has none.
+/// The number in the head cell at place `i` of the store, 0 where no head cell stands there.
 #[inline]
 pub fn head(space: &Space, i: u32) -> u32
     ensures { result ≡ head_at space.now.store i }
@@ -43,7 +43,7 @@ pub fn heads(space: &Space, start: u32) -> (u32, u32, u32)
     (number(cells[0]), number(cells[1]), number(cells[2]))
 }
 
-/// The item in the cell at place `i` of the store, a gap of ordinal 0 where it has none.
+/// The item in the cell at place `i` of the store, a gap of ordinal 0 where none stands there.
 pub fn item_in(space: &Space, i: u32) -> Item
     ensures { result ≡ stored_item space.now.store i }
 {
@@ -306,7 +306,11 @@ fn find_round(store: &[Cell], last: (u32, u32), count: u32, name: &[Cell]) -> Op
 }
 
 /// The form whose name is the part of neutral, and where it begins. Among many forms the search
-/// starts at the one that was used last, since the next is often that one or near behind it.
+/// starts at the one that was used last, since the next is often that one or near behind it. None
+/// where no form has that name.
+///
+/// `last` is the form used last and where it begins. To `toil` is added what the search has cost:
+/// forms and slots looked at beyond a few.
 #[inline(always)]
 pub fn find_named(
     space: &Space,
@@ -340,7 +344,7 @@ pub fn find_named(
     find_round(store, last, count, name)
 }
 
-/// The same, where there are so few forms that the search starts at the first, and none by the index.
+/// The same, where there are so few forms that the search starts at the first.
 #[inline(always)]
 pub fn find_few(space: &Space, count: u32, part: (u32, u32)) -> Option<(u32, u32)>
     requires whole { flat_forms (forms_in space.now.store) ≡ space.now.store }
