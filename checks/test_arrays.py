@@ -320,7 +320,8 @@ def sources(crate):
 class Arrays(unittest.TestCase):
     def test_the_crates_of_the_engine(self):
         self.assertEqual(ENGINE, ['trac_language', 'trac_laws', 'trac_space', 'trac_values',
-                                  'trac_forms', 'trac_devices', 'trac_functions', 'trac_core'])
+                                  'trac_store', 'trac_forms', 'trac_devices', 'trac_functions',
+                                  'trac_core'])
 
     def test_bodies_have_no_array_but_one_byte_of_a_device_and_the_buffers(self):
         texts = {}
@@ -335,7 +336,7 @@ class Arrays(unittest.TestCase):
                          ONE_BYTE | BUFFERS)
 
     def test_a_table_of_arguments_is_found(self):
-        path = os.path.join(TOP, 'crates', 'trac_forms', 'src', 'fill.rt')
+        path = os.path.join(TOP, 'crates', 'trac_store', 'src', 'fill.rt')
         with open(path, encoding='utf-8') as source:
             text = source.read()
         line = '    let listed = list_parts(space, first, end);\n'

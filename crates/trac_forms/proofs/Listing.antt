@@ -9,16 +9,16 @@ use Rattle.trac_space.specs.declared.cell.Cell.{Cell}
 use Rattle.trac_space.specs.declared.cell.Cell.TheVariants.{Byte, Call, Comma, Gap, Head}
 use Rattle.trac_space.specs.Cells.{seen}
 use Rattle.trac_space.specs.Texts.{text_of_cells}
-use Rattle.trac_forms.specs.FlatForms.{flat_forms}
-use Rattle.trac_forms.specs.Contents.{form_at}
-use Rattle.trac_forms.specs.Stored.{item_of, forms_in, start_of, head_number, head_at}
+use Rattle.trac_store.specs.FlatForms.{flat_forms}
+use Rattle.trac_store.specs.Forms.{form_at}
+use Rattle.trac_store.specs.Stored.{item_of, forms_in, start_of, head_number, head_at}
 use Rattle.trac_forms.specs.Listed.{form_of, IsListed, IsForm}
-use Rattle.trac_forms.proofs.FlatLemmas.{character_of-Byte, item_of-cell, forms_in-flat}
-use Rattle.trac_forms.proofs.Finding.{part-seen}
-use Rattle.trac_forms.proofs.Gaps.{bytes-seen}
-use Rattle.trac_forms.proofs.Heads.{number-at}
-use Rattle.trac_forms.proofs.Places.{stands}
-use Rattle.trac_forms.proofs.Stores.{pointer-within}
+use Rattle.trac_store.proofs.FlatLemmas.{character_of-Byte, item_of-cell, forms_in-flat}
+use Rattle.trac_store.proofs.Finding.{part-seen}
+use Rattle.trac_store.proofs.Gaps.{bytes-seen}
+use Rattle.trac_store.proofs.HeadCells.{number-at}
+use Rattle.trac_store.proofs.Places.{stands}
+use Rattle.trac_store.proofs.Stores.{pointer-within}
 
 item_of-seen : (cells : List Cell) → map item_of (map seen cells) ≡ map item_of cells
 item_of-seen [] = refl

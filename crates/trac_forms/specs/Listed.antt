@@ -5,8 +5,8 @@ use Rattle.trac_language.specs.Store.{IsStore}
 use Rattle.trac_space.specs.declared.cell.Cell.{Cell}
 use Rattle.trac_space.specs.Cells.{seen}
 use Rattle.trac_space.specs.Texts.{text_of_cells}
-use Rattle.trac_forms.specs.FlatForms.{flat_forms}
-use Rattle.trac_forms.specs.Stored.{item_of, forms_in}
+use Rattle.trac_store.specs.FlatForms.{flat_forms}
+use Rattle.trac_store.specs.Stored.{item_of, forms_in}
 
 -- the form of these cells
 abbrev pub form_of : List Cell → List Cell → ℕ → Form

@@ -1,25 +1,24 @@
 //! Whole forms, their gaps filled, put at the end of neutral (Mooers 1966).
-ghost use Rattle.std.specs.Prelude.{◌≡◌, ◌+◌, ◌≤◌, ◌<◌, ◌↔◌, ◌++◌, [], true, false};
-ghost use Rattle.std.specs.Prelude.{length, IsTrue, MatchOption, Some};
+ghost use Rattle.std.specs.Prelude.{◌≡◌, ◌+◌, ◌≤◌, ◌<◌, ◌↔◌, ◌++◌};
+ghost use Rattle.std.specs.Prelude.{length, IsTrue, MatchOption};
 ghost use Rattle.std.specs.Bool.{OnTrue, OnFalse};
-ghost use Rattle.trac_language.specs.Text.{Text};
 ghost use Rattle.trac_language.specs.Store.{IsStore};
-ghost use Rattle.trac_language.specs.Form.{text_of};
-ghost use Rattle.trac_space.specs.Lists.{used as cells_used, HasWay, with_way};
-ghost use Rattle.trac_space.specs.Texts.{flat_text, byte_cell_at};
+ghost use Rattle.trac_space.specs.Lists.{used as cells_used};
+ghost use Rattle.trac_space.specs.Texts.{flat_text};
 ghost use Rattle.trac_forms.specs.Contents.{used, IsSound, form_place};
-ghost use Rattle.trac_forms.specs.Loading.{called_part, AreCharacters, IsLoaded};
-ghost use Rattle.trac_forms.specs.Arguments.{AreParted, filled_body, filled_cells};
-ghost use Rattle.trac_forms.specs.FlatForms.{flat_forms};
-ghost use Rattle.trac_forms.specs.Gaps.{gap_number, gap_ordinal};
-ghost use Rattle.trac_forms.specs.Index.{IsKept};
-ghost use Rattle.trac_forms.specs.Stored.{forms_in, shown, start_of};
+ghost use Rattle.trac_store.specs.Loading.{called_part};
+ghost use Rattle.trac_forms.specs.Loading.{IsLoaded};
+ghost use Rattle.trac_store.specs.Arguments.{AreParted};
+ghost use Rattle.trac_forms.specs.Arguments.{filled_body};
+ghost use Rattle.trac_store.specs.FlatForms.{flat_forms};
+ghost use Rattle.trac_store.specs.Index.{IsKept};
+ghost use Rattle.trac_store.specs.Stored.{forms_in, start_of};
+ghost use Rattle.trac_forms.specs.Stored.{shown};
 
-use crate::arguments::{argument, list_parts};
 use crate::item::FormId;
-use crate::store::{heads, place_of};
 use crate::work::Work;
-use trac_space::{Cell, Space, is_character};
+use trac_space::Space;
+use trac_store::{fill_items, heads, load_form, place_of};
 
 impl<'a> Work<'a> {
     /// Puts the items of the form's body from its pointer on at the end of neutral, each gap of
@@ -78,39 +77,6 @@ impl<'a> Work<'a> {
     }
 }
 
-// The same of form `k`, which begins at a place of the store.
-#[inline(always)]
-fn load_form(space: &mut Space, k: u32, start: u32) -> Option<u32>
-    requires whole { flat_forms (forms_in space.old.store) ≡ space.old.store }
-    requires bounded { length space.old.store ≤ 16777216 }
-    requires forms { IsStore (forms_in space.old.store) }
-    requires known { k < length (forms_in space.old.store) }
-    requires begins { start ≡ start_of (forms_in space.old.store) k }
-    ensures { let body = called_part (forms_in space.old.store) k in
-        MatchOption result (space.new ≡ space.old)
-        (λ n. AreCharacters body × (length body ≡ n)
-        × (cells_used space.old + n ≤ space.old.room)
-        × (space.new ≡ record (with_way n space.old) {
-          active = flat_text (text_of body) ++ space.old.active;
-        })) }
-{
-    let (name, body, pointer) = heads(space, start);
-    let place = start + 3 + name;
-    let (from, stop) = (place + pointer, place + body);
-    // hands on that the lists fit
-    let _way = space.way();
-    if from == stop {
-        return Some(0);
-    }
-    let size = stop - from;
-    if space.characters_from(from, stop) < size || space.free() < size {
-        return None;
-    }
-    space.make_way(size);
-    space.load_from_store(from, stop);
-    Some(size)
-}
-
 // As `fill_body`, of form `k`, which begins at a place of the store.
 #[inline(always)]
 fn fill_form(space: &mut Space, k: u32, start: u32, first: u32, end: u32) -> bool
@@ -133,177 +99,4 @@ fn fill_form(space: &mut Space, k: u32, start: u32, first: u32, end: u32) -> boo
     let (name, body, pointer) = heads(space, start);
     let place = start + 3 + name;
     fill_items(space, place + pointer, place + body, first, end)
-}
-
-// The same with the items in the store from place `from` up to `stop`.
-#[inline(always)]
-fn fill_items(space: &mut Space, from: u32, stop: u32, first: u32, end: u32) -> bool
-    requires order { from ≤ stop }
-    requires within { stop ≤ length space.old.store }
-    requires bounded { length space.old.store ≤ 16777216 }
-    requires arguments { AreParted space.old.neutral first end }
-    ensures put { let text = filled_cells space.old from stop first end in
-        IsTrue result ↔ (cells_used space.old + length text ≤ space.old.room) }
-    ensures last { let text = filled_cells space.old from stop first end in
-        OnTrue result (space.new ≡ record space.old {
-          neutral = space.old.neutral ++ flat_text text;
-          spare = space.new.spare;
-        }) }
-    ensures full { OnFalse result (space.new ≡ record space.old { spare = space.new.spare }) }
-    ensures kept { IsKept space.old.spare space.new.spare }
-{
-    // hands on that the lists fit
-    let _way = space.way();
-    if from == stop {
-        return true;
-    }
-    let gap = from + space.characters_from(from, stop);
-    if gap == stop {
-        return space.copy_short(from, stop);
-    }
-    fill_gaps(space, from, stop, first, end)
-}
-
-// The same, where there may be gaps among them.
-#[inline(never)]
-fn fill_gaps(space: &mut Space, from: u32, stop: u32, first: u32, end: u32) -> bool
-    requires order { from ≤ stop }
-    requires within { stop ≤ length space.old.store }
-    requires bounded { length space.old.store ≤ 16777216 }
-    requires arguments { AreParted space.old.neutral first end }
-    ensures put { let text = filled_cells space.old from stop first end in
-        IsTrue result ↔ (cells_used space.old + length text ≤ space.old.room) }
-    ensures last { let text = filled_cells space.old from stop first end in
-        OnTrue result (space.new ≡ record space.old {
-          neutral = space.old.neutral ++ flat_text text;
-          spare = space.new.spare;
-        }) }
-    ensures full { OnFalse result (space.new ≡ record space.old { spare = space.new.spare }) }
-    ensures kept { IsKept space.old.spare space.new.spare }
-{
-    fill_beside_list(space, from, stop, first, end)
-        || fill_without_list(space, from, stop, first, end)
-}
-
-// The same where a list of the arguments and the text fit into cells that are in no list. False
-// where they don't.
-#[inline(always)]
-fn fill_beside_list(space: &mut Space, from: u32, stop: u32, first: u32, end: u32) -> bool
-    requires order { from ≤ stop }
-    requires within { stop ≤ length space.old.store }
-    requires bounded { length space.old.store ≤ 16777216 }
-    requires arguments { AreParted space.old.neutral first end }
-    ensures fits { let text = filled_cells space.old from stop first end in
-        IsTrue result → cells_used space.old + length text ≤ space.old.room }
-    ensures last { let text = filled_cells space.old from stop first end in
-        OnTrue result (space.new ≡ record space.old {
-          neutral = space.old.neutral ++ flat_text text;
-        }) }
-    ensures full { OnFalse result (space.new ≡ space.old) }
-{
-    if space.way() < end + 2 - first {
-        return false;
-    }
-    let listed = list_parts(space, first, end);
-    let filled = space.put_filled(from, stop, listed);
-    space.drop_active(listed + 1);
-    filled
-}
-
-// The same without a list of the arguments, nor a spare list. False where the text doesn't fit.
-#[inline(never)]
-fn fill_without_list(space: &mut Space, from: u32, stop: u32, first: u32, end: u32) -> bool
-    requires order { from ≤ stop }
-    requires within { stop ≤ length space.old.store }
-    requires bounded { length space.old.store ≤ 16777216 }
-    requires arguments { AreParted space.old.neutral first end }
-    ensures put { let text = filled_cells space.old from stop first end in
-        IsTrue result ↔ (cells_used space.old + length text ≤ space.old.room) }
-    ensures last { let text = filled_cells space.old from stop first end in
-        OnTrue result (space.new ≡ record space.old {
-          neutral = space.old.neutral ++ flat_text text;
-          spare = [];
-        }) }
-    ensures full { OnFalse result (space.new ≡ record space.old { spare = [] }) }
-{
-    space.drop_spare();
-    let before = space.neutral_len();
-    let filled = fill_cells(space, from, stop, first, end);
-    if !filled {
-        space.cut_neutral(before);
-    }
-    filled
-}
-
-// Puts the items in the store from place `from` up to `stop` at the end of neutral, each gap
-// replaced by the argument of its number. False where they don't fit into cells that are in no
-// list; then some of them may stand there.
-#[inline(always)]
-fn fill_cells(space: &mut Space, from: u32, stop: u32, first: u32, end: u32) -> bool
-    requires order { from ≤ stop }
-    requires within { stop ≤ length space.old.store }
-    requires bounded { length space.old.store ≤ 16777216 }
-    requires arguments { AreParted space.old.neutral first end }
-    ensures put { let text = filled_cells space.old from stop first end in
-        IsTrue result ↔ HasWay (length text) space.old }
-    ensures last { let text = filled_cells space.old from stop first end in
-        OnTrue result (space.new ≡ record space.old {
-          neutral = space.old.neutral ++ flat_text text;
-        }) }
-    ensures some { OnFalse result ((done : Text) × (space.new ≡ record space.old {
-      neutral = space.old.neutral ++ flat_text done;
-    })) }
-{
-    let mut at = from;
-    let mut way = space.way();
-    loop {
-        let count = space.put_characters(at, at + way.min(stop - at));
-        let gap = at + count;
-        if gap == stop {
-            return true;
-        }
-        // then no way is left
-        if has_character(space, gap) {
-            return false;
-        }
-        way -= count;
-        let part = argument(space, first, end, ordinal(space, gap));
-        if way < part.1 - part.0 {
-            return false;
-        }
-        way -= part.1 - part.0;
-        space.put_from_neutral(part.0, part.1);
-        at = gap + 1;
-    }
-}
-
-// Whether a character stands at place `i` of the store.
-#[inline]
-fn has_character(space: &Space, i: u32) -> bool
-    requires within { i < length space.now.store }
-    requires bounded { length space.now.store ≤ 16777216 }
-    ensures { result ≡ byte_cell_at space.now.store i }
-{
-    is_character(&space.store_part(i, i + 1)[0])
-}
-
-// The ordinal of the gap at place `i` of the store, 0 of any other cell.
-#[inline]
-fn ordinal(space: &Space, i: u32) -> u32
-    requires within { i < length space.now.store }
-    requires bounded { length space.now.store ≤ 16777216 }
-    ensures { result ≡ gap_ordinal space.now.store i }
-{
-    ordinal_in(space.store_part(i, i + 1)[0])
-}
-
-// The ordinal in a cell that is a gap, 0 of any other cell.
-#[inline]
-fn ordinal_in(cell: Cell) -> u32
-    ensures { result ≡ gap_number (Some cell) }
-{
-    match cell {
-        Cell::Gap(ordinal) => ordinal,
-        _ => 0,
-    }
 }

@@ -3,15 +3,16 @@ ghost use Rattle.std.specs.Prelude.{◌≡◌, ◌≤◌, ◌<◌, List, length,
 ghost use Rattle.std.specs.Iterator.{YieldsFirst, item_count};
 ghost use Rattle.trac_language.specs.Form.{Form};
 ghost use Rattle.trac_space.specs.Texts.{text_of_cells};
-ghost use Rattle.trac_forms.specs.Contents.{form_at, form_place};
-ghost use Rattle.trac_forms.specs.Stored.{item_of};
+ghost use Rattle.trac_store.specs.Forms.{form_at};
+ghost use Rattle.trac_forms.specs.Contents.{form_place};
+ghost use Rattle.trac_store.specs.Stored.{item_of};
 
 use crate::item::FormId;
-use crate::store::{heads, number_in_head, place_of};
 use crate::work::Work;
 use std::marker::Model;
 use trac_language::Item;
 use trac_space::Cell;
+use trac_store::{heads, item_of, number_in_head, place_of};
 
 /// A form as it stands in the block.
 #[derive(Drop)]
@@ -83,7 +84,7 @@ impl<'a> Model for Forms<'a> {
     ghost use Rattle.std.specs.Prelude.{List, map};
     ghost use Rattle.trac_language.specs.Form.{Form};
     ghost use Rattle.trac_space.specs.Cells.{seen};
-    ghost use Rattle.trac_forms.specs.Stored.{forms_in};
+    ghost use Rattle.trac_store.specs.Stored.{forms_in};
     ghost use Rattle.trac_forms.specs.Listed.{IsListed};
 
     ghost Value = { List Form };
@@ -150,16 +151,5 @@ impl<'a> Work<'a> {
             body: self.space.store_part(from, from + body),
             pointer,
         }
-    }
-}
-
-// The item of a cell, a gap of ordinal 0 of one that is none.
-pub(crate) fn item_of(cell: &Cell) -> Item
-    ensures { result ≡ item_of cell.now }
-{
-    match *cell {
-        Cell::Byte(byte) => Item::Byte(byte),
-        Cell::Gap(ordinal) => Item::Gap(ordinal),
-        _ => Item::Gap(0),
     }
 }

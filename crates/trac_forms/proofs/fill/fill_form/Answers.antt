@@ -1,5 +1,5 @@
 use Rattle.std.proofs.Common.{refl, arith}
-use Rattle.trac_forms.proofs.Filling.{AreItems, items}
+use Rattle.trac_store.proofs.Filling.{AreItems, items}
 use Rattle.trac_forms.proofs.fill.fill_form.Goals as goal
 use Rattle.trac_forms.proofs.fill.fill_form.Goals.{After-heads-name}
 

@@ -7,14 +7,15 @@ use Rattle.trac_language.specs.Store.{without, form_cells}
 use Rattle.trac_space.specs.declared.cell.Cell.{Cell}
 use Rattle.trac_space.specs.Lists as lists
 use Rattle.trac_space.specs.Lists.{Lists}
-use Rattle.trac_forms.specs.Contents.{part_text, new_form}
-use Rattle.trac_forms.specs.Stored.{forms_in, start_of, IsStored}
-use Rattle.trac_forms.specs.FlatForms.{flat_forms}
-use Rattle.trac_forms.specs.Index.{IsIndexed}
-use Rattle.trac_forms.proofs.Indexed.{index-kept}
-use Rattle.trac_forms.proofs.FlatLemmas.{forms_in-flat, used-stored, count-le, length-flat, length-new_form}
-use Rattle.trac_forms.proofs.Stores.{cells-without}
-use Rattle.trac_forms.proofs.Strings.{shown-restored, redefined}
+use Rattle.trac_store.specs.Parts.{part_text, new_form}
+use Rattle.trac_store.specs.Stored.{forms_in, start_of}
+use Rattle.trac_forms.specs.Stored.{IsStored}
+use Rattle.trac_store.specs.FlatForms.{flat_forms}
+use Rattle.trac_store.specs.Index.{IsIndexed}
+use Rattle.trac_store.proofs.Indexed.{index-kept}
+use Rattle.trac_store.proofs.FlatLemmas.{forms_in-flat, count-le, length-flat, length-new_form}
+use Rattle.trac_forms.proofs.Strings.{used-stored, shown-restored, redefined}
+use Rattle.trac_store.proofs.Stores.{cells-without}
 use Rattle.trac_forms.proofs.StoreChanges.{defined-stored}
 use Rattle.trac_forms.proofs.work.Work.define_form.Goals as goal
 use Rattle.trac_forms.proofs.work.Work.define_form.Goals.{After-store_form, After-index_form}

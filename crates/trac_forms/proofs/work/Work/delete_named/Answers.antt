@@ -1,5 +1,5 @@
-use Rattle.trac_forms.specs.Arguments.{texts_between}
-use Rattle.trac_forms.proofs.Removals.{formed, none-marked, marks-whole, marks-bounded, marks-count, removed-shown, removed-stored}
+use Rattle.trac_store.specs.Arguments.{texts_between}
+use Rattle.trac_forms.proofs.Removed.{formed, none-marked, marks-whole, marks-bounded, marks-count, removed-shown, removed-stored}
 use Rattle.trac_forms.proofs.work.Work.delete_named.Goals as goal
 
 pub mark_all-first-requires-clause-formed : goal.mark_all-first-requires-clause-formed

@@ -5,9 +5,8 @@ use Rattle.trac_space.specs.Lists.{used as cells_used}
 use Rattle.trac_space.specs.Texts.{flat_text}
 use Rattle.trac_forms.specs.Arguments.{filled_body}
 use Rattle.trac_forms.specs.Stored.{shown, IsStored}
-use Rattle.trac_forms.proofs.FlatLemmas.{used-stored}
+use Rattle.trac_forms.proofs.Strings.{used-stored, appended-or-kept}
 use Rattle.trac_forms.proofs.Copies.{string_cells-text}
-use Rattle.trac_forms.proofs.Strings.{appended-or-kept}
 use Rattle.trac_forms.proofs.work.Work.fill_other.Goals as goal
 use Rattle.trac_forms.proofs.work.Work.fill_other.Goals.{After-fill_form}
 

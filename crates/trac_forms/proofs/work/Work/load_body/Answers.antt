@@ -8,12 +8,13 @@ use Rattle.trac_space.specs.Lists.{Lists, with_way}
 use Rattle.trac_space.specs.Lists as lists
 use Rattle.trac_space.specs.Texts.{flat_text}
 use Rattle.trac_forms.specs.Contents.{form_place}
-use Rattle.trac_forms.specs.Loading.{AreCharacters, IsLoaded, called_part}
-use Rattle.trac_forms.specs.Stored.{forms_in, shown, IsStored}
-use Rattle.trac_forms.proofs.Finding.{bytes-flat}
-use Rattle.trac_forms.proofs.FlatLemmas.{used-stored}
-use Rattle.trac_forms.proofs.Indexed.{way-kept}
-use Rattle.trac_forms.proofs.Strings.{before-active}
+use Rattle.trac_store.specs.Loading.{AreCharacters, called_part}
+use Rattle.trac_forms.specs.Loading.{IsLoaded}
+use Rattle.trac_store.specs.Stored.{forms_in}
+use Rattle.trac_forms.specs.Stored.{shown, IsStored}
+use Rattle.trac_store.proofs.Finding.{bytes-flat}
+use Rattle.trac_forms.proofs.Strings.{used-stored, before-active}
+use Rattle.trac_store.proofs.Indexed.{way-kept}
 use Rattle.trac_forms.proofs.work.Work.load_body.Goals as goal
 
 -- the items stand before active, or all is as it was

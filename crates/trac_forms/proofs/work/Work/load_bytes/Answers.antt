@@ -7,9 +7,8 @@ use Rattle.trac_space.specs.Lists.{Lists}
 use Rattle.trac_space.specs.Lists as lists
 use Rattle.trac_space.specs.Texts.{IsByte}
 use Rattle.trac_forms.specs.Stored.{IsStored}
-use Rattle.trac_forms.proofs.FlatLemmas.{used-stored}
-use Rattle.trac_forms.proofs.Indexed.{way-kept}
-use Rattle.trac_forms.proofs.Strings.{before-active}
+use Rattle.trac_store.proofs.Indexed.{way-kept}
+use Rattle.trac_forms.proofs.Strings.{used-stored, before-active}
 use Rattle.trac_forms.proofs.work.Work.load_bytes.Goals as goal
 use Rattle.trac_forms.proofs.work.Work.load_bytes.Goals.{After-load_bytes}
 

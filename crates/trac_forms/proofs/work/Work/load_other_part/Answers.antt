@@ -3,9 +3,8 @@ use Rattle.std.proofs.lemmas.List.Edits.{length-between}
 use Rattle.trac_space.specs.Lists.{Lists}
 use Rattle.trac_space.specs.Lists as lists
 use Rattle.trac_forms.specs.Stored.{IsStored}
-use Rattle.trac_forms.proofs.FlatLemmas.{used-stored}
-use Rattle.trac_forms.proofs.Indexed.{way-kept}
-use Rattle.trac_forms.proofs.Strings.{before-active}
+use Rattle.trac_store.proofs.Indexed.{way-kept}
+use Rattle.trac_forms.proofs.Strings.{used-stored, before-active}
 use Rattle.trac_forms.proofs.work.Work.load_other_part.Goals as goal
 use Rattle.trac_forms.proofs.work.Work.load_other_part.Goals.{After-load_from_neutral}
 

@@ -6,9 +6,8 @@ use Rattle.trac_space.specs.Cells.{bytes}
 use Rattle.trac_space.specs.Lists as lists
 use Rattle.trac_forms.specs.Contents.{IsStringCell}
 use Rattle.trac_forms.specs.Stored.{IsStored}
-use Rattle.trac_forms.proofs.FlatLemmas.{used-stored}
-use Rattle.trac_forms.proofs.Indexed.{way-kept}
-use Rattle.trac_forms.proofs.Strings.{appended}
+use Rattle.trac_forms.proofs.Strings.{used-stored, appended}
+use Rattle.trac_store.proofs.Indexed.{way-kept}
 use Rattle.trac_forms.proofs.work.Work.push_before.Goals as goal
 use Rattle.trac_forms.proofs.work.Work.push_before.Goals.{After-push_before}
 

@@ -1,0 +1,81 @@
+-- What removing forms by their names leaves of a `Work`.
+use Rattle.std.proofs.Common.{◌≡◌, ℕ, ◌≤◌, List, length, take, sym, ap, refl, ◌∙◌, subst, arith}
+use Rattle.std.specs.Prelude.{not}
+use Rattle.std.proofs.lemmas.List.{length-map, take_all}
+use Rattle.trac_language.specs.Text.{Text}
+use Rattle.trac_language.specs.Form.{Form}
+use Rattle.trac_space.specs.Lists.{Lists}
+use Rattle.trac_store.specs.FlatForms.{flat_forms}
+use Rattle.trac_store.specs.Forms.{form_at}
+use Rattle.trac_store.specs.Index.{IsIndexed}
+use Rattle.trac_store.specs.Stored.{forms_in, start_of}
+use Rattle.trac_store.specs.Removal.{is_among, without_all, marked_if, with_marks, unmarked, IsFormed, IsMarkedFrom}
+use Rattle.trac_store.proofs.FlatLemmas.{forms_in-flat}
+use Rattle.trac_store.proofs.Places.{stands}
+use Rattle.trac_store.proofs.Stores.{pointer-within}
+use Rattle.trac_store.proofs.Removals.{own-names, no-mark, unmarked-marks, IsStore-filter, cells-filter, length-marks}
+use Rattle.trac_forms.specs.Stored.{shown, IsStored}
+use Rattle.trac_forms.proofs.Strings.{used-stored, restored, shown-restored}
+
+-- forms of a `Work` have no mark
+pub none-marked : (s : Lists) (count last start : ℕ) → IsStored s count last start → IsMarkedFrom (forms_in s.store) (length (forms_in s.store)) (length s.store)
+none-marked s count last start h =
+    let forms = forms_in s.store in
+    let all : take (length forms) forms ≡ forms = take_all (length forms) forms (omega arith) in
+    record {
+      place = record { within = omega arith; start_is = sym (ap (λ fs. length (flat_forms fs)) all ∙ ap length h.whole) };
+      plain = λ j less.
+          let f = stands forms s.store j (start_of forms j) h.whole less refl in
+          no-mark (form_at forms j).pointer (omega (arith, f.end, h.bounded, pointer-within forms j h.sound.forms));
+    }
+
+-- the forms of a `Work` have distinct names
+pub formed : (s : Lists) (count last start : ℕ) → IsStored s count last start → IsFormed s count last start
+formed s count last start h =
+    record {
+      whole = h.whole;
+      bounded = h.bounded;
+      count_is = h.count_is;
+      place = record { within = omega (arith, h.last_is, h.count_is); start_is = h.start_is };
+      distinct = own-names (forms_in s.store) h.sound.forms;
+      index = h.index;
+    }
+
+-- the forms of these names are marked, and then gone
+module _ (s t : Lists) (count last start : ℕ) (names : List Text) (h : IsStored s count last start) (marks : t ≡ record s { store = flat_forms (with_marks names (forms_in s.store)); spare = t.spare }) where
+  abbrev forms : List Form
+  forms = forms_in s.store
+
+  stored : t.store ≡ flat_forms (with_marks names (forms_in s.store))
+  stored = ap (λ (w : Lists). w.store) marks
+
+  read : forms_in t.store ≡ with_marks names (forms_in s.store)
+  read = ap forms_in stored ∙ forms_in-flat (with_marks names forms)
+
+  pub marks-whole : flat_forms (forms_in t.store) ≡ t.store
+  marks-whole = ap flat_forms read ∙ sym stored
+
+  pub marks-bounded : length t.store ≤ 16777216
+  marks-bounded = omega (arith, ap length stored, length-marks names forms, ap length h.whole, h.bounded)
+
+  pub marks-count : count ≡ length (forms_in t.store)
+  marks-count = h.count_is ∙ sym (ap length read ∙ length-map forms (λ form. marked_if (is_among names form) form))
+
+  rest : unmarked (forms_in t.store) ≡ without_all names (forms_in s.store)
+  rest = ap unmarked read ∙ unmarked-marks names forms h.sound.forms (omega (arith, ap length h.whole, h.bounded))
+
+  module _ (u : Lists) (gone : u ≡ record t { store = flat_forms (unmarked (forms_in t.store)); spare = u.spare }) where
+    removed : u ≡ record s { store = flat_forms (without_all names (forms_in s.store)); spare = u.spare }
+    removed =
+        gone ∙ ap (λ (w : Lists). record w { store = flat_forms (unmarked (forms_in t.store)); spare = u.spare }) marks
+        ∙ ap (λ fs. record s { store = flat_forms fs; spare = u.spare }) rest
+
+    pub removed-shown : shown u ≡ record (shown s) { forms = without_all names (forms_in s.store) }
+    removed-shown = shown-restored u.spare s u (without_all names forms) removed
+
+    pub removed-stored : (left : ℕ) → left ≡ length (unmarked (forms_in t.store)) → IsIndexed u.spare (unmarked (forms_in t.store)) → IsStored u left 0 0
+    removed-stored left counted index =
+        let stays = λ (form : Form). not (is_among names form) in
+        let fewer = cells-filter stays forms in
+        let used = used-stored s h.whole in
+        restored u.spare s u (without_all names forms) left 0 0 (subst (IsIndexed u.spare) rest index) h.sound (IsStore-filter stays forms h.sound.forms) (omega (arith, ap length h.whole, fewer, used, h.sound.fits)) removed (counted ∙ ap length rest) (omega arith) refl

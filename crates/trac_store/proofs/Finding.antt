@@ -1,0 +1,92 @@
+-- What stands where a form begins, in a slice of the whole store.
+use Rattle.std.proofs.Common.{◌≡◌, ℕ, ◌+◌, ◌-◌, ◌<◌, ◌≤◌, List, length, take, drop, map, All, get_or, slice_range, slice_get, Some, sym, ap, ◌∙◌, subst, arith}
+use Rattle.std.specs.Option.{option_map}
+use Rattle.std.proofs.lemmas.Option.{slice_get-map, slice_get-get_or}
+use Rattle.std.proofs.lemmas.List.{take-map, drop-map, length-map, get_or-map, get_or-take, get_or-drop}
+use Rattle.std.proofs.lemmas.List.Edits.{length-between}
+use Rattle.std.proofs.lemmas.List.Elements.{All-map}
+use Rattle.trac_space.specs.declared.cell.Cell.{Cell}
+use Rattle.trac_space.specs.declared.cell.Cell.TheVariants.{Byte, Call, Comma, Gap, Head}
+use Rattle.trac_space.specs.Cells.{seen}
+use Rattle.trac_space.specs.Texts.{flat_text, text_of_cells, IsByte}
+use Rattle.trac_store.specs.FlatForms.{flat_forms}
+use Rattle.trac_store.specs.Forms.{form_at}
+use Rattle.trac_store.specs.Stored.{forms_in, start_of, head_number}
+use Rattle.trac_store.proofs.FlatLemmas.{Byte-character_of}
+use Rattle.trac_store.proofs.Gaps.{bytes-seen}
+use Rattle.trac_store.proofs.Places.{stands, head_cells}
+
+-- a cell that is seen as a head or as a byte is one
+pub head-seen : (cell : Cell) (n : ℕ) → seen cell ≡ Head n → cell ≡ Head n
+head-seen (Byte b) n e = absurd cc
+head-seen (Call mode k) n e = absurd cc
+head-seen Comma n e = absurd cc
+head-seen (Gap k) n e = absurd cc
+head-seen (Head m) n e = e
+
+pub byte-seen : (cell : Cell) → IsByte (seen cell) → IsByte cell
+byte-seen (Byte b) h = tt
+byte-seen (Call mode k) h = h
+byte-seen Comma h = h
+byte-seen (Gap k) h = h
+byte-seen (Head n) h = h
+
+head-at : (cells : List Cell) (i n : ℕ) → i < length cells → slice_get (map seen cells) i ≡ Some (Head n) → get_or cells i (Byte 0) ≡ Head n
+head-at cells i n within is =
+    let there : Some (seen (get_or cells i (Byte 0))) ≡ Some (Head n) = sym (slice_get-map seen cells i ∙ ap (option_map seen) (slice_get-get_or cells i (Byte 0) within)) ∙ is in
+    head-seen (get_or cells i (Byte 0)) n cc
+
+pub part-seen : (cells : List Cell) (a b : ℕ) → map seen (slice_range cells a b) ≡ slice_range (map seen cells) a b
+part-seen cells a b = sym (take-map seen (b - a) (drop a cells)) ∙ ap (take (b - a)) (sym (drop-map seen a cells))
+
+-- the cells where form k begins
+pub record Begins (cells : List Cell) (k at : ℕ) : Type 0 where
+  pub name_len : get_or cells at (Byte 0) ≡ Head (length (form_at (forms_in (map seen cells)) k).name)
+  pub body_len : get_or cells (at + 1) (Byte 0) ≡ Head (length (form_at (forms_in (map seen cells)) k).body)
+  pub end : at + (3 + length (form_at (forms_in (map seen cells)) k).name + length (form_at (forms_in (map seen cells)) k).body) ≤ length cells
+  pub next : start_of (forms_in (map seen cells)) (k + 1) ≡ at + (3 + length (form_at (forms_in (map seen cells)) k).name + length (form_at (forms_in (map seen cells)) k).body)
+  pub name_part : map seen (slice_range cells (at + 3) (at + 3 + length (form_at (forms_in (map seen cells)) k).name)) ≡ flat_text (form_at (forms_in (map seen cells)) k).name
+
+pub begins_at : (cells : List Cell) (k at : ℕ) → flat_forms (forms_in (map seen cells)) ≡ map seen cells → k < length (forms_in (map seen cells)) → at ≡ start_of (forms_in (map seen cells)) k → Begins cells k at
+begins_at cells k at whole within begins =
+    let store = map seen cells in
+    let forms = forms_in store in
+    let form = form_at forms k in
+    let f = stands forms store k at whole within begins in
+    let heads = head_cells forms store k at whole within begins in
+    let long : length store ≡ length cells = length-map cells seen in
+    record {
+      name_len = head-at cells at (length form.name) (omega (arith, f.end)) heads.0;
+      body_len = head-at cells (at + 1) (length form.body) (omega (arith, f.end)) heads.1;
+      end = omega (arith, f.end);
+      next = f.next;
+      name_part = part-seen cells (at + 3) (at + 3 + length form.name) ∙ f.name_part;
+    }
+
+-- a text's cells are bytes
+pub bytes-flat : (text : List ℕ) → All IsByte (flat_text text)
+bytes-flat text = All-map IsByte Byte text (λ k d l. tt)
+
+pub number_is : (cell : Cell) (n : ℕ) → cell ≡ Head n → head_number (Some cell) ≡ n
+number_is cell n e = ap (λ (c : Cell). head_number (Some c)) e
+
+-- the last cell of a part
+pub part-length : (cells : List Cell) (from n : ℕ) → from + n ≤ length cells → length (map seen (slice_range cells from (from + n))) ≡ n
+part-length cells from n within =
+    omega (arith, length-map (slice_range cells from (from + n)) seen, length-between cells from (from + n) within)
+
+pub part-last : (cells : List Cell) (from n : ℕ) → 0 < n → from + n ≤ length cells → get_or (map seen (slice_range cells from (from + n))) (n - 1) (Byte 0) ≡ seen (get_or cells (from + n - 1) (Byte 0))
+part-last cells from n some within =
+    let size : from + n - from ≡ n = omega arith in
+    let place : from + (n - 1) ≡ from + n - 1 = omega arith in
+    let long = length-between cells from (from + n) within in
+    get_or-map seen (slice_range cells from (from + n)) (n - 1) (Byte 0) (Byte 0) (omega arith)
+    ∙ ap seen (get_or-take (from + n - from) (drop from cells) (n - 1) (Byte 0) (omega arith) ∙ get_or-drop from cells (n - 1) (Byte 0) ∙ ap (λ i. get_or cells i (Byte 0)) place)
+
+-- cells that are seen as bytes are bytes, and are seen as their text
+pub bytes-of-seen : (cells : List Cell) → All IsByte (map seen cells) → All IsByte cells
+bytes-of-seen cells h = λ k d within.
+    byte-seen (get_or cells k d) (subst IsByte (get_or-map seen cells k d d within) (h k d (omega (arith, length-map cells seen))))
+
+pub seen-text : (cells : List Cell) → All IsByte (map seen cells) → flat_text (text_of_cells cells) ≡ map seen cells
+seen-text cells h = ap flat_text (sym (bytes-seen cells)) ∙ Byte-character_of (map seen cells) h

@@ -1,0 +1,50 @@
+-- Head cells, as a slice of the store holds them.
+use Rattle.std.proofs.Common.{◌≡◌, ℕ, ◌+◌, ◌<◌, ◌≤◌, List, length, map, get_or, slice_range, Some, refl, sym, ap, ◌∙◌, arith}
+use Rattle.std.proofs.lemmas.List.{length-map, get_or-map}
+use Rattle.std.proofs.lemmas.List.Edits.{length-between, get_or-between}
+use Rattle.std.specs.Option.{option_map}
+use Rattle.std.proofs.lemmas.Option.{slice_get-map, slice_get-get_or, get_or_from_slice_get}
+use Rattle.trac_space.specs.declared.cell.Cell.{Cell}
+use Rattle.trac_space.specs.declared.cell.Cell.TheVariants.{Byte, Call, Comma, Gap, Head}
+use Rattle.trac_space.specs.Cells.{seen}
+use Rattle.trac_store.specs.Stored.{head_number, head_at}
+use Rattle.trac_store.specs.Arguments.{IsHeadAt}
+
+-- a cell that is a number
+pub is_head : (cell : Cell) (n : ℕ) → cell ≡ Head n → cell ≡ Head (head_number (Some cell))
+is_head cell n e = e ∙ sym (ap (λ (c : Cell). Head (head_number (Some c))) e)
+
+pub number-seen : (cell : Cell) → head_number (Some (seen cell)) ≡ head_number (Some cell)
+number-seen (Byte b) = refl
+number-seen (Call mode k) = refl
+number-seen Comma = refl
+number-seen (Gap k) = refl
+number-seen (Head n) = refl
+
+-- the number in a cell of the slice is that in the store
+pub number-at : (cells store : List Cell) (i : ℕ) → map seen cells ≡ store → i < length cells → head_number (Some (get_or cells i (Byte 0))) ≡ head_at store i
+number-at cells store i e within =
+    sym (number-seen (get_or cells i (Byte 0)))
+    ∙ sym (ap head_number (slice_get-map seen cells i ∙ ap (option_map seen) (slice_get-get_or cells i (Byte 0) within)))
+    ∙ ap (λ s. head_at s i) e
+
+pub seen-head : (cell : Cell) (n : ℕ) → seen cell ≡ Head n → cell ≡ Head n
+seen-head (Byte b) n e = e
+seen-head (Call mode k) n e = absurd cc
+seen-head Comma n e = e
+seen-head (Gap k) n e = e
+seen-head (Head k) n e = e
+
+-- and so in a slice of a part of it
+pub head-in-part : (list cells : List Cell) (at end i : ℕ) → end ≤ length list → map seen cells ≡ slice_range list at end → at + i < end → IsHeadAt list (at + i) → get_or cells i (Byte 0) ≡ Head (head_number (Some (get_or cells i (Byte 0))))
+head-in-part list cells at end i within shown inside head =
+    let some : i < length cells = omega (arith, inside, length-map cells seen, ap length shown, length-between list at end within) in
+    let there = sym (get_or-map seen cells i (Byte 0) (Byte 0) some) ∙ ap (λ cs. get_or cs i (Byte 0)) shown ∙ get_or-between list at end i (Byte 0) inside ∙ get_or_from_slice_get list (at + i) (Head (head_at list (at + i))) (Byte 0) head in
+    is_head (get_or cells i (Byte 0)) (head_at list (at + i)) (seen-head (get_or cells i (Byte 0)) (head_at list (at + i)) there)
+
+pub number-in-part : (list cells : List Cell) (at end i : ℕ) → end ≤ length list → map seen cells ≡ slice_range list at end → at + i < end → head_number (Some (get_or cells i (Byte 0))) ≡ head_at list (at + i)
+number-in-part list cells at end i within shown inside =
+    let some : i < length cells = omega (arith, inside, length-map cells seen, ap length shown, length-between list at end within) in
+    sym (number-seen (get_or cells i (Byte 0)))
+    ∙ ap (λ (cell : Cell). head_number (Some cell)) (sym (get_or-map seen cells i (Byte 0) (Byte 0) some) ∙ ap (λ cs. get_or cs i (Byte 0)) shown ∙ get_or-between list at end i (Byte 0) inside)
+    ∙ ap head_number (sym (slice_get-get_or list (at + i) (Byte 0) (omega (arith, inside, within))))

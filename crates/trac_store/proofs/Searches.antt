@@ -1,0 +1,101 @@
+-- What a search over the cells of a body says of its items.
+use Rattle.std.proofs.Common.{◌≡◌, ℕ, ◌+◌, ◌<◌, ◌≤◌, ◌&&◌, ◌==◌, Bool, true, false, List, [], ◌∷◌, length, drop, map, get_or, Option, Some, None, MatchOption, ⊎_elim, refl, sym, ap, ◌∙◌, arith}
+use Rattle.std.proofs.lemmas.List.{get_or-map, length-map, drop-map}
+use Rattle.std.proofs.lemmas.Bool.{cases_eq, and_parts}
+use Rattle.trac_language.specs.declared.item.Item.{Item}
+use Rattle.trac_language.specs.declared.item.Item.TheVariants as item
+use Rattle.trac_language.specs.Text.{Text}
+use Rattle.trac_language.specs.Form.{is_character}
+use Rattle.trac_language.specs.Segment.{begins}
+use Rattle.trac_space.specs.declared.cell.Cell.{Cell}
+use Rattle.trac_space.specs.declared.cell.Cell.TheVariants.{Byte, Call, Comma, Gap, Head}
+use Rattle.trac_space.specs.Cells.{seen}
+use Rattle.trac_space.specs.Texts.{character_of, is_byte_cell, byte_cell_at}
+use Rattle.trac_store.specs.FlatForms.{flat_item}
+use Rattle.trac_store.specs.Search.{is_gap, gap_at, character_at, text_at, NonePasses, IsFirst, IsLast}
+use Rattle.trac_store.specs.Gaps.{is_gap_cell, gap_cell_at, text_cells_at, begins_cells}
+use Rattle.trac_store.proofs.Gaps.{begins-map_seen, bytes-seen}
+
+-- no place before the next passes
+pub NonePasses-more : (test : ℕ → Bool) (from to : ℕ) → NonePasses test from to → test to ≡ false → NonePasses test from (to + 1)
+NonePasses-more test from to none here k above below = ⊎_elim (λ e. ap test e ∙ here) (λ differs. none k above (omega arith)) (cases_eq k to)
+
+-- another test that agrees gives the same places
+pub first-agrees : (r : Option ℕ) (p q : ℕ → Bool) (from n to : ℕ) → n ≡ to → ((k : ℕ) → k < to → p k ≡ q k) → MatchOption r (NonePasses p from n) (λ i. IsFirst p from n i) → MatchOption r (NonePasses q from to) (λ i. IsFirst q from to i)
+first-agrees None p q from n to len same h = λ k above below. sym (same k below) ∙ h k above (omega arith)
+first-agrees (Some i) p q from n to len same h = record {
+  above = h.above;
+  within = omega (arith, h.within);
+  passes = sym (same i (omega (arith, h.within))) ∙ h.passes;
+  before = λ k above below. sym (same k (omega (arith, h.within))) ∙ h.before k above below;
+}
+
+pub last-agrees : (r : Option ℕ) (p q : ℕ → Bool) (to : ℕ) → ((k : ℕ) → k < to → p k ≡ q k) → MatchOption r (NonePasses p 0 to) (λ i. IsLast p to i) → MatchOption r (NonePasses q 0 to) (λ i. IsLast q to i)
+last-agrees None p q to same h = λ k above below. sym (same k below) ∙ h k above below
+last-agrees (Some i) p q to same h = record {
+  within = h.within;
+  passes = sym (same i h.within) ∙ h.passes;
+  after = λ k above below. sym (same k below) ∙ h.after k above below;
+}
+
+gap-seen : (cell : Cell) → is_gap_cell (seen cell) ≡ is_gap_cell cell
+gap-seen (Byte b) = refl
+gap-seen (Call m n) = refl
+gap-seen Comma = refl
+gap-seen (Gap k) = refl
+gap-seen (Head n) = refl
+
+byte-seen : (cell : Cell) → is_byte_cell (seen cell) ≡ is_byte_cell cell
+byte-seen (Byte b) = refl
+byte-seen (Call m n) = refl
+byte-seen Comma = refl
+byte-seen (Gap k) = refl
+byte-seen (Head n) = refl
+
+gap-flat : (i : Item) → is_gap_cell (flat_item i) ≡ is_gap i
+gap-flat (item.Byte b) = refl
+gap-flat (item.Gap k) = refl
+
+byte-flat : (i : Item) → is_byte_cell (flat_item i) ≡ is_character i
+byte-flat (item.Byte b) = refl
+byte-flat (item.Gap k) = refl
+
+-- the cells of items begin with a text as the items do
+pub begins-flat : (text : Text) (items : List Item) → begins_cells text (map flat_item items) ≡ begins items text
+begins-flat [] items = refl
+begins-flat (c ∷ text) [] = refl
+begins-flat (c ∷ text) (item.Byte b ∷ items) = ap (λ r. (b == c) && r) (begins-flat text items)
+begins-flat (c ∷ text) (item.Gap k ∷ items) = refl
+
+module _ (cells : List Cell) (items : List Item) (same : map seen cells ≡ map flat_item items) where
+  pub body_len : length cells ≡ length items
+  body_len = sym (length-map cells seen) ∙ ap length same ∙ length-map items flat_item
+
+  cell_at : (k : ℕ) → k < length items → seen (get_or cells k Comma) ≡ flat_item (get_or items k (item.Byte 0))
+  cell_at k below =
+      let inside : k < length cells = omega (arith, body_len) in
+      sym (get_or-map seen cells k Comma Comma inside) ∙ ap (λ l. get_or l k Comma) same ∙ get_or-map flat_item items k (item.Byte 0) Comma below
+
+  pub gaps-agree : (k : ℕ) → k < length items → gap_cell_at cells k ≡ gap_at items k
+  gaps-agree k below = sym (gap-seen (get_or cells k Comma)) ∙ ap is_gap_cell (cell_at k below) ∙ gap-flat (get_or items k (item.Byte 0))
+
+  pub characters-agree : (k : ℕ) → k < length items → byte_cell_at cells k ≡ character_at items k
+  characters-agree k below = sym (byte-seen (get_or cells k Comma)) ∙ ap is_byte_cell (cell_at k below) ∙ byte-flat (get_or items k (item.Byte 0))
+
+-- cells as contracts see them hold a text where the cells do
+pub texts-seen : (cells seen_cells text part : List Cell) → map seen cells ≡ seen_cells → map seen text ≡ part → (k : ℕ) → text_cells_at (map character_of text) cells k ≡ text_cells_at (map character_of part) seen_cells k
+texts-seen cells seen_cells text part same is k =
+    let t : map character_of text ≡ map character_of part = sym (bytes-seen text) ∙ ap (map character_of) is in
+    ap (λ bs. begins_cells bs (drop k cells)) t ∙ sym (begins-map_seen (map character_of part) (drop k cells)) ∙ ap (begins_cells (map character_of part)) (sym (drop-map seen k cells) ∙ ap (drop k) same)
+
+-- and those of items where the items do
+pub texts-agree : (cells : List Cell) (items : List Item) (text : Text) → cells ≡ map flat_item items → (k : ℕ) → text_cells_at text cells k ≡ text_at text items k
+texts-agree cells items text same k =
+    ap (λ l. begins_cells text (drop k l)) same ∙ ap (begins_cells text) (drop-map flat_item k items) ∙ begins-flat text (drop k items)
+
+-- items that begin with a text are as many
+pub begins-within : (items : List Item) (text : Text) → begins items text ≡ true → length text ≤ length items
+begins-within items [] e = omega arith
+begins-within [] (c ∷ text) e = cc
+begins-within (item.Byte b ∷ items) (c ∷ text) e = let rest = begins-within items text (and_parts (b == c) (begins items text) e).1 in omega arith
+begins-within (item.Gap k ∷ items) (c ∷ text) e = cc

@@ -1,0 +1,73 @@
+-- The cells of a segmented body.
+use Rattle.std.proofs.Common.{◌≡◌, ℕ, zero, suc, ◌+◌, ◌-◌, ◌<◌, Bool, true, false, List, [], ◌∷◌, ◌++◌, length, take, drop, map, set, refl, sym, ap, ◌∙◌, arith}
+use Rattle.std.specs.Prelude.{if◌then◌else◌}
+use Rattle.std.proofs.lemmas.List.{append_assoc, length-append, length-map, take_at, set-append_right}
+use Rattle.trac_language.specs.declared.item.Item.{Item}
+use Rattle.trac_language.specs.Text.{Text}
+use Rattle.trac_language.specs.Form.{Form}
+use Rattle.trac_language.specs.Segment.{begins, segment_after, segment}
+use Rattle.trac_space.specs.declared.cell.Cell.{Cell}
+use Rattle.trac_space.specs.declared.cell.Cell.TheVariants.{Byte, Gap, Head}
+use Rattle.trac_space.specs.Lists.{Lists}
+use Rattle.trac_space.specs.Texts.{flat_text}
+use Rattle.trac_store.specs.FlatForms.{flat_item, flat_form, flat_forms}
+use Rattle.trac_store.specs.Forms.{form_at}
+use Rattle.trac_store.specs.Gaps.{segment_cells, segmented_cells}
+use Rattle.trac_store.specs.Stored.{start_of}
+use Rattle.trac_store.proofs.Searches.{begins-flat}
+use Rattle.trac_store.proofs.Places.{Stands, flat-set}
+
+choose : (b : Bool) (x y : List Item) (v w : List Cell) → map flat_item x ≡ v → map flat_item y ≡ w → map flat_item (elim b [ true ↦ x | false ↦ y ]) ≡ (if b then v else w)
+choose true x y v w p q = p
+choose false x y v w p q = q
+
+flat-segment_after : (skip : ℕ) (text : Text) (k : ℕ) (items : List Item) → map flat_item (segment_after skip text k items) ≡ segment_cells text k skip (map flat_item items)
+unfolding segment_after
+flat-segment_after zero text k [] = refl
+flat-segment_after (suc skip) text k [] = refl
+flat-segment_after (suc skip) text k (i ∷ items) = flat-segment_after skip text k items
+flat-segment_after zero text k (i ∷ items) =
+    let test = begins-flat text (i ∷ items) in
+    let found = ap (λ cells. Gap k ∷ cells) (flat-segment_after (length text - 1) text k items) in
+    let other = ap (λ cells. flat_item i ∷ cells) (flat-segment_after zero text k items) in
+    rw test (choose (begins (i ∷ items) text) _ _ _ _ found other)
+
+-- the cells of the segmented items are the segmented cells
+pub flat-segment : (text : Text) (k : ℕ) (items : List Item) → map flat_item (segment text k items) ≡ segmented_cells text k (map flat_item items)
+flat-segment [] k items = refl
+flat-segment (c ∷ text) k items = flat-segment_after zero (c ∷ text) k items
+
+-- with a text that isn't null
+pub segmented-some : (text : Text) (k : ℕ) (cells : List Cell) → 0 < length text → segmented_cells text k cells ≡ segment_cells text k 0 cells
+segmented-some [] k cells some = absurd (omega arith)
+segmented-some (c ∷ text) k cells some = refl
+
+-- what two writes to the store leave
+pub written : (s t u v : Lists) (store : List Cell) (i j : ℕ) (a b : Cell) → t ≡ record s { store = store } → u ≡ record t { store = set t.store i a } → v ≡ record u { store = set u.store j b } → v ≡ record s { store = set (set store i a) j b }
+written s t u v store i j a b first second third =
+    let e = second ∙ ap (λ (l : Lists). record l { store = set l.store i a }) first in
+    third ∙ ap (λ (l : Lists). record l { store = set l.store j b }) e
+
+-- the store with other items in the body of a form, and pointer 0
+pub regapped : (forms : List Form) (store : List Cell) (k at from to : ℕ) (items : List Item) → k < length forms → at ≡ start_of forms k → Stands forms store k at → from ≡ at + 3 + length (form_at forms k).name → to ≡ from + length (form_at forms k).body → set (set (take from store ++ map flat_item items ++ drop to store) (at + 1) (Head (length items))) (at + 2) (Head 0) ≡ flat_forms (set forms k (record (form_at forms k) { body = items; pointer = 0 }))
+regapped forms store k at from to items within begins f from_is to_is =
+    let form = form_at forms k in
+    let front = flat_forms (take k forms) in
+    let name = flat_text form.name in
+    let body = map flat_item form.body in
+    let gaps = map flat_item items in
+    let rest = flat_forms (drop (k + 1) forms) in
+    let heads = Head (length form.name) ∷ Head (length form.body) ∷ Head form.pointer ∷ [] in
+    let split : store ≡ (front ++ (heads ++ name)) ++ (body ++ rest) = f.split ∙ ap (λ cells. front ++ (heads ++ cells)) (append_assoc name body rest) ∙ sym (append_assoc front (heads ++ name) (body ++ rest)) in
+    let front_len : length (front ++ (heads ++ name)) ≡ from = omega (arith, length-append front (heads ++ name), length-map form.name Byte) in
+    let before : take from store ≡ front ++ (heads ++ name) = ap (take from) split ∙ take_at (front ++ (heads ++ name)) (body ++ rest) from front_len in
+    let end : to ≡ at + (3 + length form.name + length form.body) = omega arith in
+    let behind : drop to store ≡ rest = ap (λ i. drop i store) end ∙ f.behind in
+    let one : at + 1 - length front ≡ 1 = omega arith in
+    let two : at + 2 - length front ≡ 2 = omega arith in
+    let after = name ++ (gaps ++ rest) in
+    let joined : take from store ++ gaps ++ drop to store ≡ front ++ (Head (length form.name) ∷ Head (length form.body) ∷ Head form.pointer ∷ after) = rw (before, behind) (append_assoc (front ++ (heads ++ name)) gaps rest ∙ append_assoc front (heads ++ name) (gaps ++ rest)) in
+    let first : set (front ++ (Head (length form.name) ∷ Head (length form.body) ∷ Head form.pointer ∷ after)) (at + 1) (Head (length items)) ≡ front ++ (Head (length form.name) ∷ Head (length items) ∷ Head form.pointer ∷ after) = set-append_right front _ (length front) (at + 1) (Head (length items)) refl (omega arith) ∙ ap (λ i. front ++ set (Head (length form.name) ∷ Head (length form.body) ∷ Head form.pointer ∷ after) i (Head (length items))) one in
+    let second : set (front ++ (Head (length form.name) ∷ Head (length items) ∷ Head form.pointer ∷ after)) (at + 2) (Head 0) ≡ front ++ (Head (length form.name) ∷ Head (length items) ∷ Head 0 ∷ after) = set-append_right front _ (length front) (at + 2) (Head 0) refl (omega arith) ∙ ap (λ i. front ++ set (Head (length form.name) ∷ Head (length items) ∷ Head form.pointer ∷ after) i (Head 0)) two in
+    let whole : front ++ (Head (length form.name) ∷ Head (length items) ∷ Head 0 ∷ after) ≡ front ++ (flat_form (record form { body = items; pointer = 0 }) ++ rest) = ap (λ cells. front ++ (Head (length form.name) ∷ Head (length items) ∷ Head 0 ∷ cells)) (sym (append_assoc name gaps rest)) in
+    ap (λ cells. set (set cells (at + 1) (Head (length items))) (at + 2) (Head 0)) joined ∙ ap (λ cells. set cells (at + 2) (Head 0)) first ∙ second ∙ whole ∙ sym (flat-set forms k (record form { body = items; pointer = 0 }) within)

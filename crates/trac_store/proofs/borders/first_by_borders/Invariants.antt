@@ -1,0 +1,11 @@
+use Rattle.std.proofs.Common.{◌<◌, length, map}
+use Rattle.trac_space.specs.Texts.{character_of}
+use Rattle.trac_store.proofs.TextBorders.{Searched}
+use Rattle.trac_store.proofs.borders.first_by_borders.Given as goal
+
+-- so much of the text stands before the place, and it stands nowhere before that
+abbrev pub invariant-loop-i : goal.invariant-loop-i
+invariant-loop-i l = record {
+  few : l.before < length l.text;
+  done : Searched (map character_of l.text) l.cells l.from l.i l.before;
+}

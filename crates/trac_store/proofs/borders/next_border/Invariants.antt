@@ -1,0 +1,11 @@
+use Rattle.std.proofs.Common.{map}
+use Rattle.trac_space.specs.Texts.{character_of}
+use Rattle.trac_store.proofs.TextBorders.{GoesUpTo}
+use Rattle.trac_store.proofs.borders.next_border.Given as goal
+
+-- no longer border goes on
+abbrev pub invariant-loop-cell : goal.invariant-loop-cell
+invariant-loop-cell l = GoesUpTo (map character_of l.text) l.fn.before l.cell l.border
+
+abbrev pub decreases-loop-cell : goal.decreases-loop-cell
+decreases-loop-cell l = l.border

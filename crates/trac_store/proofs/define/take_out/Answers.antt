@@ -1,0 +1,33 @@
+use Rattle.std.proofs.Common.{◌≡◌, ◌<◌, length, sym, ap, ◌∙◌, subst, arith}
+use Rattle.std.specs.List.{remove}
+use Rattle.trac_space.specs.Lists.{Lists}
+use Rattle.trac_store.specs.FlatForms.{flat_forms}
+use Rattle.trac_store.specs.Stored.{forms_in}
+use Rattle.trac_store.specs.Index.{IsIndexed}
+use Rattle.trac_store.proofs.Places.{stands, removed-lists}
+use Rattle.trac_store.proofs.define.take_out.Goals as goal
+
+pub remove_form-requires-clause-within : goal.remove_form-requires-clause-within
+remove_form-requires-clause-within c =
+    let s = c.args.space.now in
+    let t = c.unindex.new.space in
+    let same : t.store ≡ s.store = ap (λ (w : Lists). w.store) c.unindex.ensures.same in
+    let within : c.args.k < length (forms_in s.store) = omega (arith, c.requires.within, c.requires.count_is) in
+    let f = stands (forms_in s.store) t.store c.args.k c.args.start (c.requires.whole ∙ sym same) within c.requires.begins in
+    omega (arith, f.end, f.name_len, f.body_len)
+
+pub returns : goal.returns
+returns c =
+    let s = c.args.space.now in
+    let t = c.unindex.new.space in
+    let u = c.remove_form.new.space in
+    let forms = forms_in s.store in
+    let same : t.store ≡ s.store = ap (λ (w : Lists). w.store) c.unindex.ensures.same in
+    let within : c.args.k < length forms = omega (arith, c.requires.within, c.requires.count_is) in
+    let f = stands forms t.store c.args.k c.args.start (c.requires.whole ∙ sym same) within c.requires.begins in
+    let is = removed-lists t u forms c.args.k c.args.start f c.remove_form.ensures in
+    let spare : u.spare ≡ t.spare = ap (λ (w : Lists). w.spare) is in
+    record {
+      gone = is ∙ ap (λ (w : Lists). record w { store = flat_forms (remove forms c.args.k) }) c.unindex.ensures.same ∙ ap (λ l. record s { store = flat_forms (remove forms c.args.k); spare = l }) (sym spare);
+      index = subst (λ l. IsIndexed l (remove forms c.args.k)) (sym spare) c.unindex.ensures.index;
+    }

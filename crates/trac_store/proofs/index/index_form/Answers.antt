@@ -1,0 +1,47 @@
+use Rattle.std.proofs.Common.{◌≡◌, ◌+◌, ◌/◌, ◌<◌, length, take, slice_range, sym, ap, ◌∙◌, subst, arith}
+use Rattle.trac_space.specs.Lists.{Lists}
+use Rattle.trac_space.specs.Texts.{text_of_cells}
+use Rattle.trac_store.specs.Forms.{form_at}
+use Rattle.trac_store.specs.Stored.{forms_in}
+use Rattle.trac_store.specs.Index.{hash, IsIndex, IsOpenFor}
+use Rattle.trac_store.proofs.Gaps.{bytes-seen}
+use Rattle.trac_store.proofs.FlatLemmas.{character_of-Byte}
+use Rattle.trac_store.proofs.Places.{stands}
+use Rattle.trac_store.proofs.FormTables.{index-next}
+use Rattle.trac_store.proofs.index.index_form.Goals as goal
+
+pub overflow_add-from : goal.overflow_add-from
+overflow_add-from c =
+    let s = c.args.space.now in
+    let f = stands (forms_in s.store) s.store c.args.k c.args.start c.requires.whole c.requires.within c.requires.begins in
+    omega (arith, f.end, c.requires.bounded)
+
+pub overflow_add-to : goal.overflow_add-to
+overflow_add-to c =
+    let s = c.args.space.now in
+    let f = stands (forms_in s.store) s.store c.args.k c.args.start c.requires.whole c.requires.within c.requires.begins in
+    omega (arith, f.end, f.name_len, c.head.ensures, c.requires.bounded)
+
+pub store_part-requires-clause-within : goal.store_part-requires-clause-within
+store_part-requires-clause-within c =
+    let s = c.args.space.now in
+    let f = stands (forms_in s.store) s.store c.args.k c.args.start c.requires.whole c.requires.within c.requires.begins in
+    omega (arith, f.end, f.name_len, c.head.ensures)
+
+pub returns-else-not-add-clause-index : goal.returns-else-not-add-clause-index
+returns-else-not-add-clause-index c =
+    let s = c.args.space.now in
+    let forms = forms_in s.store in
+    let k = c.args.k in
+    let f = stands forms s.store k c.args.start c.requires.whole c.requires.within c.requires.begins in
+    let form = form_at forms k in
+    let len : c.head.result ≡ length form.name = c.head.ensures ∙ f.name_len in
+    let part = c.store_part.ensures ∙ ap (λ n. slice_range s.store (c.args.start + 3) (c.args.start + 3 + n)) len ∙ f.name_part in
+    let name : text_of_cells c.store_part.result.now ≡ form.name = sym (bytes-seen c.store_part.result.now) ∙ ap text_of_cells part ∙ character_of-Byte form.name in
+    let number : c.hash-first.result ≡ hash form.name = c.hash-first.ensures.value ∙ ap hash name in
+    let done = c.if-not-add.ensures.done in
+    let index = c.requires.index (omega (arith, c.spare_len.ensures.value, c.if-spare_len-eq0.false)) in
+    let place = subst (λ n. IsOpenFor s.spare n done.0) number done.1 in
+    let roomy : k < length s.spare / 4 = omega (arith, c.spare_len-2.ensures.value, c.if-k-spare_len.false) in
+    let all = index-next s.spare forms k done.0 c.args.start c.requires.within c.requires.begins index roomy place in
+    λ _. subst (λ t. IsIndex t (take (k + 1) forms)) (sym (ap (λ (w : Lists). w.spare) done.2)) all

@@ -1,0 +1,51 @@
+use Rattle.std.proofs.Common.{ℕ, ◌≡◌, ◌+◌, length, take, ap, ◌∙◌, subst, arith}
+use Rattle.trac_space.specs.Lists.{Lists}
+use Rattle.trac_store.specs.Forms.{form_at}
+use Rattle.trac_store.specs.Stored.{forms_in, head_at}
+use Rattle.trac_store.specs.Index.{IsIndexed}
+use Rattle.trac_store.proofs.Places.{Stands, stands}
+use Rattle.trac_store.proofs.index.index_from.Goals as goal
+use Rattle.trac_store.proofs.index.index_from.Goals.{After-index_form}
+
+-- the table alone has changed
+same : (c : After-index_form) → c.index_form.new.space.store ≡ c.args.space.now.store
+same c = ap (λ (w : Lists). w.store) c.index_form.ensures.same ∙ ap (λ (w : Lists). w.store) c.loop-k.invariant.same
+
+found : (c : After-index_form) → Stands (forms_in c.args.space.now.store) c.args.space.now.store c.loop-k.k c.loop-k.start
+found c = stands _ _ _ _ c.requires.whole (omega (arith, c.loop-k-test.true, c.requires.count_is)) c.loop-k.invariant.begins
+
+name : (c : After-index_form) (n : ℕ) → n ≡ head_at c.index_form.new.space.store c.loop-k.start → n ≡ length (form_at (forms_in c.args.space.now.store) c.loop-k.k).name
+name c n read = read ∙ ap (λ store. head_at store c.loop-k.start) (same c) ∙ (found c).name_len
+
+body : (c : After-index_form) (n : ℕ) → n ≡ head_at c.index_form.new.space.store (c.loop-k.start + 1) → n ≡ length (form_at (forms_in c.args.space.now.store) c.loop-k.k).body
+body c n read = read ∙ ap (λ store. head_at store (c.loop-k.start + 1)) (same c) ∙ (found c).body_len
+
+pub overflow_add-start : goal.overflow_add-start
+overflow_add-start c =
+    let k = (goal.at.overflow_add-start c).After-index_form in
+    omega (arith, (found k).end, name k _ c.head.ensures, c.requires.bounded)
+
+pub overflow_add-start-in-loop-k : goal.overflow_add-start-in-loop-k
+overflow_add-start-in-loop-k c =
+    omega (arith, (found (goal.at.overflow_add-start-in-loop-k c).After-index_form).end, c.requires.bounded)
+
+pub overflow_add-start-in-loop-k-2 : goal.overflow_add-start-in-loop-k-2
+overflow_add-start-in-loop-k-2 c =
+    let k = (goal.at.overflow_add-start-in-loop-k-2 c).After-index_form in
+    omega (arith, (found k).end, name k _ c.head.ensures, body k _ c.head-in-loop-k.ensures, c.requires.bounded)
+
+pub overflow_add-start-in-loop-k-3 : goal.overflow_add-start-in-loop-k-3
+overflow_add-start-in-loop-k-3 c =
+    let k = (goal.at.overflow_add-start-in-loop-k-3 c).After-index_form in
+    omega (arith, (found k).end, name k _ c.head.ensures, body k _ c.head-in-loop-k.ensures, c.requires.bounded)
+
+pub loop-k-preserved : goal.loop-k-preserved
+loop-k-preserved c =
+    let k = (goal.at.loop-k-preserved c).After-index_form in
+    let i = c.loop-k.invariant in
+    let spare = c.index_form.new.space.spare in
+    record {
+      begins = omega (arith, (found k).next, name k _ c.head.ensures, body k _ c.head-in-loop-k.ensures);
+      same = c.index_form.ensures.same ∙ ap (λ (w : Lists). record w { spare = spare }) i.same;
+      index = subst (λ store. IsIndexed spare (take (c.loop-k.k + 1) (forms_in store))) (ap (λ (w : Lists). w.store) i.same) c.index_form.ensures.index;
+    }

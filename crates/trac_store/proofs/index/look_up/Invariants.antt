@@ -1,0 +1,15 @@
+use Rattle.std.proofs.Common.{◌≡◌, ◌≢◌, ℕ, ◌<◌, length, map}
+use Rattle.trac_space.specs.declared.cell.Cell.TheVariants.{Head}
+use Rattle.trac_space.specs.Cells.{seen}
+use Rattle.trac_space.specs.Texts.{text_of_cells}
+use Rattle.trac_store.specs.Forms.{name_at}
+use Rattle.trac_store.specs.Stored.{forms_in}
+use Rattle.trac_store.specs.Index.{cell_at, slot, hash}
+use Rattle.trac_store.proofs.index.look_up.Given as goal
+
+-- no slot that was looked at holds a form of the name
+abbrev pub invariant-loop-i : goal.invariant-loop-i
+invariant-loop-i l =
+    let forms = forms_in (map seen l.store) in
+    let text = text_of_cells (map seen l.name) in
+    (j k : ℕ) → j < l.i → k < length forms → name_at forms k ≡ text → cell_at (map seen l.table) (slot (map seen l.table) (hash text) j) ≢ Head k

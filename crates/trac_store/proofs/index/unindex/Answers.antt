@@ -1,0 +1,105 @@
+use Rattle.std.proofs.Common.{◌≡◌, ◌+◌, ◌-◌, ◌<◌, length, sym, ap, ◌∙◌, subst, arith}
+use Rattle.trac_space.specs.Lists.{Lists}
+use Rattle.trac_store.specs.Forms.{name_at}
+use Rattle.trac_store.specs.Stored.{forms_in, start_of}
+use Rattle.trac_store.specs.Index.{IsIndexBut, buried, forward, start_in, home_in, slots}
+use Rattle.trac_store.proofs.Places.{stands}
+use Rattle.trac_store.proofs.FormTables.{names_now, starts_now, home-within, index-buried, index-gap, next-home, next-start, index-forward, index-removed}
+use Rattle.trac_store.proofs.index.unindex.Goals as goal
+
+pub overflow_add-cells : goal.overflow_add-cells
+overflow_add-cells c =
+    let s = c.args.space.now in
+    let within : c.args.k < length (forms_in s.store) = omega (arith, c.requires.within, c.requires.count_is) in
+    let f = stands (forms_in s.store) s.store c.args.k c.args.start c.requires.whole within c.requires.begins in
+    omega (arith, f.end, f.name_len, c.head.ensures, c.requires.bounded)
+
+pub overflow_add-start : goal.overflow_add-start
+overflow_add-start c =
+    let s = c.args.space.now in
+    let within : c.args.k < length (forms_in s.store) = omega (arith, c.requires.within, c.requires.count_is) in
+    let f = stands (forms_in s.store) s.store c.args.k c.args.start c.requires.whole within c.requires.begins in
+    omega (arith, f.end, c.requires.bounded)
+
+pub overflow_add-cells-2 : goal.overflow_add-cells-2
+overflow_add-cells-2 c =
+    let s = c.args.space.now in
+    let within : c.args.k < length (forms_in s.store) = omega (arith, c.requires.within, c.requires.count_is) in
+    let f = stands (forms_in s.store) s.store c.args.k c.args.start c.requires.whole within c.requires.begins in
+    omega (arith, f.end, f.name_len, f.body_len, c.head.ensures, c.head-2.ensures, c.requires.bounded)
+
+pub bury-requires-clause-home : goal.bury-requires-clause-home
+bury-requires-clause-home c =
+    let s = c.args.space.now in
+    let forms = forms_in s.store in
+    let index = c.requires.index (omega (arith, c.spare_len.ensures.value, c.if-spare_len-eq0.false)) in
+    home-within s.spare (length forms) c.args.k (name_at forms) (start_of forms) index (omega (arith, c.requires.within, c.requires.count_is))
+
+pub loop-next-init : goal.loop-next-init
+loop-next-init c =
+    let s = c.args.space.now in
+    let forms = forms_in s.store in
+    let k = c.args.k in
+    let within : k < length forms = omega (arith, c.requires.within, c.requires.count_is) in
+    let index = c.requires.index (omega (arith, c.spare_len.ensures.value, c.if-spare_len-eq0.false)) in
+    let spare = c.bury.new.space.spare in
+    let is : spare ≡ buried s.spare k = ap (λ (w : Lists). w.spare) c.bury.ensures in
+    let gap = index-gap forms k within (buried s.spare k) (index-buried s.spare (length forms) k (name_at forms) (start_of forms) index within) in
+    let e : k + 1 - 1 ≡ k = omega arith in
+    record {
+      same = c.bury.ensures ∙ ap (λ t. record s { spare = t }) (sym is);
+      index = subst (λ g. IsIndexBut spare (length forms) g (names_now forms k g) (starts_now forms k g)) (sym e) (subst (λ t. IsIndexBut t (length forms) k (names_now forms k k) (starts_now forms k k)) (sym is) gap);
+    }
+
+pub bring_forward-requires-clause-home : goal.bring_forward-requires-clause-home
+bring_forward-requires-clause-home c =
+    let forms = forms_in c.args.space.now.store in
+    let spare = c.loop-next.space.spare in
+    let next = c.loop-next.next in
+    let within : c.args.k < length forms = omega (arith, c.requires.within, c.requires.count_is) in
+    let e : next - 1 + 1 ≡ next = omega (arith, c.loop-next.auto.next) in
+    let less = next-home forms c.args.k within spare (next - 1) (omega (arith, e, c.loop-next-test.true, c.requires.count_is)) c.loop-next.invariant.index in
+    subst (λ n. home_in spare n < slots spare) e less
+
+-- the cells of the form that leaves
+pub bring_forward-requires-clause-cells : goal.bring_forward-requires-clause-cells
+bring_forward-requires-clause-cells c =
+    let s = c.args.space.now in
+    let forms = forms_in s.store in
+    let spare = c.loop-next.space.spare in
+    let next = c.loop-next.next in
+    let within : c.args.k < length forms = omega (arith, c.requires.within, c.requires.count_is) in
+    let f = stands forms s.store c.args.k c.args.start c.requires.whole within c.requires.begins in
+    let e : next - 1 + 1 ≡ next = omega (arith, c.loop-next.auto.next) in
+    let there = next-start forms c.args.k within spare (next - 1) (omega (arith, c.loop-next.auto.next)) (omega (arith, e, c.loop-next-test.true, c.requires.count_is)) c.loop-next.invariant.index in
+    omega (arith, there, ap (start_in spare) e, f.name_len, f.body_len, c.head.ensures, c.head-2.ensures)
+
+pub loop-next-preserved : goal.loop-next-preserved
+loop-next-preserved c =
+    let s = c.args.space.now in
+    let forms = forms_in s.store in
+    let k = c.args.k in
+    let spare = c.loop-next.space.spare in
+    let next = c.loop-next.next in
+    let cells = 3 + c.head.result + c.head-2.result in
+    let within : k < length forms = omega (arith, c.requires.within, c.requires.count_is) in
+    let f = stands forms s.store k c.args.start c.requires.whole within c.requires.begins in
+    let e : next - 1 + 1 ≡ next = omega (arith, c.loop-next.auto.next) in
+    let e2 : next ≡ next + 1 - 1 = omega arith in
+    let more = index-forward forms k within spare (next - 1) cells (omega (arith, c.loop-next.auto.next)) (omega (arith, e, c.loop-next-test.true, c.requires.count_is)) (omega (arith, f.name_len, f.body_len, c.head.ensures, c.head-2.ensures)) c.loop-next.invariant.index in
+    let here = subst (λ n. IsIndexBut (forward spare n cells) (length forms) n (names_now forms k n) (starts_now forms k n)) e more in
+    let now = c.bring_forward.new.space.spare in
+    let is : now ≡ forward spare next cells = ap (λ (w : Lists). w.spare) c.bring_forward.ensures in
+    record {
+      same = c.bring_forward.ensures ∙ ap (λ (w : Lists). record w { spare = forward spare next cells }) c.loop-next.invariant.same ∙ ap (λ t. record s { spare = t }) (sym is);
+      index = subst (λ g. IsIndexBut now (length forms) g (names_now forms k g) (starts_now forms k g)) e2 (subst (λ t. IsIndexBut t (length forms) next (names_now forms k next) (starts_now forms k next)) (sym is) here);
+    }
+
+pub returns : goal.returns
+returns c =
+    let forms = forms_in c.args.space.now.store in
+    let within : c.args.k < length forms = omega (arith, c.requires.within, c.requires.count_is) in
+    record {
+      same = c.loop-next.invariant.same;
+      index = λ _. index-removed forms c.args.k within c.loop-next.space.spare (c.loop-next.next - 1) (omega (arith, c.loop-next.auto.next, c.loop-next.auto.next-end, c.loop-next-test.false, c.requires.within, c.requires.count_is)) c.loop-next.invariant.index;
+    }

@@ -1,0 +1,13 @@
+use Rattle.std.proofs.Common.{◌≡◌, ◌-◌, length}
+use Rattle.trac_store.specs.Stored.{forms_in}
+use Rattle.trac_store.specs.Index.{IsIndexBut}
+use Rattle.trac_store.proofs.FormTables.{names_now, starts_now}
+use Rattle.trac_store.proofs.index.unindex.Given as goal
+
+-- the forms so far have come forward
+abbrev pub invariant-loop-next : goal.invariant-loop-next
+invariant-loop-next l =
+    let forms = forms_in l.fn.space.store in record {
+      same : l.space ≡ record l.fn.space { spare = l.space.spare };
+      index : IsIndexBut l.space.spare (length forms) (l.next - 1) (names_now forms l.k (l.next - 1)) (starts_now forms l.k (l.next - 1));
+    }

@@ -1,0 +1,78 @@
+use Rattle.std.proofs.Common.{◌≡◌, ◌+◌, slice_range, sym, ap, ◌∙◌, subst, arith}
+use Rattle.trac_space.specs.Lists.{Lists}
+use Rattle.trac_store.specs.Arguments.{before_comma, texts_between, AreParted}
+use Rattle.trac_store.specs.Parts.{IsTextPart, part_texts}
+use Rattle.trac_store.specs.FlatForms.{flat_forms}
+use Rattle.trac_store.specs.Removal.{with_marks}
+use Rattle.trac_store.specs.Stored.{forms_in}
+use Rattle.trac_store.proofs.Parted.{found-comma, parts-none}
+use Rattle.trac_store.proofs.Removals.{marks-none, part-within, first-part, left-parted, marked-first, marked-alone}
+use Rattle.trac_store.proofs.removal.mark_all.Goals as goal
+
+pub overflow_add-to : goal.overflow_add-to
+overflow_add-to c =
+    let s = c.loop-from.space in
+    let from = c.loop-from.from in
+    let left = c.loop-from.invariant.left in
+    let comma = found-comma c.neutral_part.result.now (slice_range s.neutral from c.args.names.1) c.before_comma.result c.neutral_part.ensures c.before_comma.ensures in
+    omega (arith, part-within s.neutral from c.args.names.1 c.before_comma.result left c.loop-from-test.true comma, left.bounded)
+
+pub mark_named-places-requires-clause-name_part : goal.mark_named-places-requires-clause-name_part
+mark_named-places-requires-clause-name_part c =
+    let s = c.loop-from.space in
+    let from = c.loop-from.from in
+    let comma = found-comma c.neutral_part.result.now (slice_range s.neutral from c.args.names.1) c.before_comma.result c.neutral_part.ensures c.before_comma.ensures in
+    let part = first-part s.neutral from c.args.names.1 c.before_comma.result c.loop-from.invariant.left c.loop-from-test.true comma in
+    subst (λ cells. IsTextPart cells from (from + c.before_comma.result)) (sym (ap (λ (w : Lists). w.neutral) c.keep_index.ensures.same)) part
+
+pub overflow_add-from : goal.overflow_add-from
+overflow_add-from c =
+    let s = c.loop-from.space in
+    let from = c.loop-from.from in
+    let left = c.loop-from.invariant.left in
+    let comma = found-comma c.neutral_part.result.now (slice_range s.neutral from c.args.names.1) c.before_comma.result c.neutral_part.ensures c.before_comma.ensures in
+    omega (arith, part-within s.neutral from c.args.names.1 c.before_comma.result left c.loop-from-test.true comma, left.bounded)
+
+pub loop-from-preserved : goal.loop-from-preserved
+loop-from-preserved c =
+    let s = c.loop-from.space in
+    let t = c.keep_index.new.space in
+    let u = c.mark_named-places.new.space in
+    let from = c.loop-from.from in
+    let end = c.args.names.1 in
+    let n = c.before_comma.result in
+    let i = c.loop-from.invariant in
+    let comma = found-comma c.neutral_part.result.now (slice_range s.neutral from end) n c.neutral_part.ensures c.before_comma.ensures in
+    let le = c.loop-from-test.true in
+    let same = c.keep_index.ensures.same in
+    let kept : t.neutral ≡ s.neutral = ap (λ (w : Lists). w.neutral) same in
+    let stored : t.store ≡ s.store = ap (λ (w : Lists). w.store) same in
+    let marked = c.mark_named-places.ensures.marked in
+    let neutral : u.neutral ≡ s.neutral = ap (λ (w : Lists). w.neutral) marked ∙ kept in
+    let parted : AreParted t.neutral from end = rw kept i.left in
+    let comma_there : n ≡ before_comma (slice_range t.neutral from end) = comma ∙ ap (λ cells. before_comma (slice_range cells from end)) (sym kept) in
+    record {
+      left = rw neutral (left-parted s.neutral from end n i.left le comma);
+      formed = c.mark_named-places.ensures.formed;
+      first = c.mark_named-places.ensures.first;
+      same = marked-alone c.args.space.now s t u _ i.same same marked;
+      marks = ap (λ cells. with_marks (texts_between cells (from + n + 1) end) (forms_in u.store)) (ap (λ (w : Lists). w.neutral) marked)
+          ∙ marked-first t.neutral from end n t u parted le comma_there marked
+          ∙ ap (λ cells. with_marks (texts_between cells from end) (forms_in t.store)) kept
+          ∙ ap (λ cells. with_marks (texts_between s.neutral from end) (forms_in cells)) stored
+          ∙ i.marks;
+    }
+
+pub returns : goal.returns
+returns c =
+    let s = c.loop-from.space in
+    let i = c.loop-from.invariant in
+    let old = c.args.space.now in
+    let none = ap (part_texts s.neutral) (parts-none s.neutral c.loop-from.from c.args.names.1 (omega (arith, c.loop-from-test.false))) in
+    let forms : forms_in s.store ≡ with_marks (texts_between old.neutral c.args.names.0 c.args.names.1) (forms_in old.store) =
+    sym (ap (λ texts. with_marks texts (forms_in s.store)) none ∙ marks-none (forms_in s.store)) ∙ i.marks in
+    record {
+      marked = i.same ∙ ap (λ cells. record old { store = cells; spare = s.spare }) (sym i.formed.whole ∙ ap flat_forms forms);
+      first = i.first;
+      index = i.formed.index;
+    }

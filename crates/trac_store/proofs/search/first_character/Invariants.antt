@@ -1,0 +1,6 @@
+use Rattle.trac_store.specs.Search.{NonePasses}
+use Rattle.trac_space.specs.Texts.{byte_cell_at}
+use Rattle.trac_store.proofs.search.first_character.Given as goal
+
+abbrev pub invariant-loop-i : goal.invariant-loop-i
+invariant-loop-i l = NonePasses (byte_cell_at l.cells) l.from l.i

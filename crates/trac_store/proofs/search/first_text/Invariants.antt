@@ -1,0 +1,8 @@
+use Rattle.std.proofs.Common.{map}
+use Rattle.trac_space.specs.Texts.{character_of}
+use Rattle.trac_store.specs.Search.{NonePasses}
+use Rattle.trac_store.specs.Gaps.{text_cells_at}
+use Rattle.trac_store.proofs.search.first_text.Given as goal
+
+abbrev pub invariant-loop-i : goal.invariant-loop-i
+invariant-loop-i l = NonePasses (text_cells_at (map character_of l.text) l.cells) l.from l.i

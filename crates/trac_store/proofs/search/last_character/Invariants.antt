@@ -1,0 +1,12 @@
+use Rattle.std.proofs.Common.{◌≡◌, ℕ, ◌<◌, ◌≤◌, false}
+use Rattle.trac_space.specs.Texts.{byte_cell_at}
+use Rattle.trac_store.proofs.search.last_character.Given as goal
+
+abbrev pub invariant-loop-end : goal.invariant-loop-end
+invariant-loop-end l = record {
+  within : l.end ≤ l.from;
+  none : (k : ℕ) → l.end ≤ k → k < l.from → byte_cell_at l.cells k ≡ false;
+}
+
+abbrev pub decreases-loop-end : goal.decreases-loop-end
+decreases-loop-end l = l.end

@@ -1,0 +1,19 @@
+use Rattle.std.proofs.Common.{◌<◌, length, map, ap, sym, ◌∙◌, arith}
+use Rattle.std.proofs.lemmas.List.{length-map}
+use Rattle.std.proofs.lemmas.List.Edits.{length-between}
+use Rattle.trac_space.specs.Cells.{seen}
+use Rattle.trac_space.specs.Texts.{character_of}
+use Rattle.trac_store.specs.Gaps.{begins_cells}
+use Rattle.trac_store.proofs.Gaps.{begins-seen, begins-other}
+use Rattle.trac_store.proofs.segment.stands_at.Goals as goal
+
+pub returns-then-not-is_same_byte : goal.returns-then-not-is_same_byte
+returns-then-not-is_same_byte c =
+    let s = c.args.space.now in
+    let cells = c.store_part-cells.result.now in
+    let some : 0 < length cells = omega (arith, ap length c.store_part-cells.ensures, length-map cells seen, length-between s.store c.args.from c.args.to c.requires.within) in
+    sym (begins-other _ _ cells c.args.text.0 c.args.text.1 c.args.first c.requires.text_order c.requires.text_within some c.store_part-cells.ensures c.requires.first (sym c.is_same_byte.ensures ∙ c.if-not-is_same_byte.true))
+
+pub returns : goal.returns
+returns c =
+    c.begins.ensures ∙ begins-seen c.neutral_part.result.now c.store_part-cells.result.now ∙ ap (λ l. begins_cells (map character_of l) (map seen c.store_part-cells.result.now)) c.neutral_part.ensures ∙ ap (begins_cells _) c.store_part-cells.ensures

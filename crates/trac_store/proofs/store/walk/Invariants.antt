@@ -1,0 +1,6 @@
+use Rattle.std.proofs.Common.{◌≡◌}
+use Rattle.trac_store.specs.Stored.{forms_in, start_of}
+use Rattle.trac_store.proofs.store.walk.Given as goal
+
+abbrev pub invariant-loop-form : goal.invariant-loop-form
+invariant-loop-form l = l.start ≡ start_of (forms_in l.space.store) l._form

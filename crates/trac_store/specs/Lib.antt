@@ -1,0 +1,11 @@
+pub mod FlatForms
+pub mod Forms
+pub mod Parts
+pub mod Search
+pub mod Stored
+pub mod Gaps
+pub mod Index
+pub mod Arguments
+pub mod Borders
+pub mod Removal
+pub mod Loading

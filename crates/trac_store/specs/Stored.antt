@@ -1,0 +1,67 @@
+-- How forms stand as the cells of a store.
+use Rattle.std.specs.Prelude.{◌≡◌, ℕ, suc, ◌+◌, List, [], ◌∷◌, length, ◌≤◌, map, take, drop}
+use Rattle.std.specs.Prelude.{Option, Some, None, slice_get}
+use Rattle.trac_language.specs.declared.item.Item.{Item}
+use Rattle.trac_language.specs.declared.item.Item.TheVariants as item
+use Rattle.trac_language.specs.Form.{Form}
+use Rattle.trac_language.specs.Text.{Text}
+use Rattle.trac_space.specs.declared.cell.Cell.{Cell}
+use Rattle.trac_space.specs.declared.cell.Cell.TheVariants.{Byte, Call, Comma, Gap, Head}
+use Rattle.trac_space.specs.Texts.{text_of_cells}
+use Rattle.trac_store.specs.FlatForms.{flat_forms}
+use Rattle.trac_store.specs.Forms.{IsNamedAt}
+
+-- the item of a cell, a gap of ordinal 0 of one that is none
+abbrev pub item_of : Cell → Item
+item_of (Byte b) = item.Byte b
+item_of (Call _ _) = item.Gap 0
+item_of Comma = item.Gap 0
+item_of (Gap ordinal) = item.Gap ordinal
+item_of (Head _) = item.Gap 0
+
+-- the forms that cells stand for, of which there are at most n
+abbrev pub read_forms : ℕ → List Cell → List Form
+read_forms (suc n) (Head name ∷ Head body ∷ Head pointer ∷ cells) =
+    record {
+      name = text_of_cells (take name cells);
+      body = map item_of (take body (drop name cells));
+      pointer = pointer;
+    } ∷ read_forms n (drop (name + body) cells)
+read_forms n cells = []
+
+abbrev pub forms_in : List Cell → List Form
+forms_in cells = read_forms (length cells) cells
+
+-- where form k begins among the cells of the forms
+abbrev pub start_of : List Form → ℕ → ℕ
+start_of forms k = length (flat_forms (take k forms))
+
+-- the number in a head cell
+abbrev pub head_number : Option Cell → ℕ
+head_number None = 0
+head_number (Some (Byte _)) = 0
+head_number (Some (Call _ _)) = 0
+head_number (Some Comma) = 0
+head_number (Some (Gap _)) = 0
+head_number (Some (Head n)) = n
+
+abbrev pub head_at : List Cell → ℕ → ℕ
+head_at cells i = head_number (slice_get cells i)
+
+-- the form at place k begins there; behind the last the cells end
+pub record IsPlace (forms : List Form) (k start : ℕ) : Type 0 where
+  pub within : k ≤ length forms
+  pub start_is : start ≡ start_of forms k
+
+-- the item in a cell of the store
+abbrev pub item_of_cell : Option Cell → Item
+item_of_cell None = item.Gap 0
+item_of_cell (Some cell) = item_of cell
+
+abbrev pub stored_item : List Cell → ℕ → Item
+stored_item cells i = item_of_cell (slice_get cells i)
+
+-- the form at the place has the name, and begins there
+pub record IsFoundAt (forms : List Form) (name : Text) (k start : ℕ) : Type 0 where
+  pub named : IsNamedAt forms name k
+  pub start_is : start ≡ start_of forms k

@@ -1,0 +1,126 @@
+//! The cells of forms, put into the store and taken out of it.
+ghost use Rattle.std.specs.Prelude.{◌≡◌, ◌+◌, ◌-◌, ◌≤◌, ◌<◌, ◌++◌, length};
+ghost use Rattle.std.specs.Prelude.{take, drop, slice_range, remove};
+ghost use Rattle.std.specs.Prelude.{MatchOption};
+ghost use Rattle.trac_language.specs.Store.{IsStore, NoneNamed, without};
+ghost use Rattle.trac_space.specs.Lists as lists;
+ghost use Rattle.trac_store.specs.FlatForms.{flat_form, flat_forms};
+ghost use Rattle.trac_store.specs.Parts.{IsTextPart, part_text, new_form};
+ghost use Rattle.trac_store.specs.Index.{IsIndexed, IsKept};
+ghost use Rattle.trac_store.specs.Stored.{forms_in, start_of, head_at, IsFoundAt};
+
+use crate::index::unindex;
+use crate::store::head;
+use trac_space::{Cell, Space};
+
+// Takes the form that begins at `start` out of the store.
+fn remove_form(space: &mut Space, start: u32)
+    requires bounded { length space.old.store ≤ 16777216 }
+    requires within { let store = space.old.store in
+        let cells = 3 + head_at store start + head_at store (start + 1) in
+        start + cells ≤ length store }
+    ensures { let store = space.old.store in
+        let cells = 3 + head_at store start + head_at store (start + 1) in
+        space.new ≡ record space.old {
+          store = take start store ++ drop (start + cells) store;
+        } }
+{
+    let cells = 3 + head(space, start) + head(space, start + 1);
+    space.remove_store(start, start + cells);
+}
+
+/// Takes form `k` of `count`, which begins at `start`, out of the store and of the index.
+pub fn take_out(space: &mut Space, k: u32, start: u32, count: u32)
+    requires whole { flat_forms (forms_in space.old.store) ≡ space.old.store }
+    requires bounded { length space.old.store ≤ 16777216 }
+    requires count_is { count ≡ length (forms_in space.old.store) }
+    requires within { k < count }
+    requires begins { start ≡ start_of (forms_in space.old.store) k }
+    requires index { IsIndexed space.old.spare (forms_in space.old.store) }
+    ensures gone { let rest = remove (forms_in space.old.store) k in
+        space.new ≡ record space.old { store = flat_forms rest; spare = space.new.spare } }
+    ensures index { IsIndexed space.new.spare (remove (forms_in space.old.store) k) }
+{
+    unindex(space, k, start, count);
+    remove_form(space, start);
+}
+
+/// Takes the form that was found for a name, a part of neutral, out of the store, if there is one,
+/// and gives how many forms there are then.
+pub fn remove_found(
+    space: &mut Space,
+    count: u32,
+    found: Option<(u32, u32)>,
+    name: (u32, u32),
+) -> u32
+    requires whole { flat_forms (forms_in space.old.store) ≡ space.old.store }
+    requires bounded { length space.old.store ≤ 16777216 }
+    requires count_is { count ≡ length (forms_in space.old.store) }
+    requires distinct { IsStore (forms_in space.old.store) }
+    requires found { let named = part_text space.old.neutral name.0 name.1 in
+        MatchOption found
+        (NoneNamed named (forms_in space.old.store))
+        (λ form. IsFoundAt (forms_in space.old.store) named form.0 form.1) }
+    requires index { IsIndexed space.old.spare (forms_in space.old.store) }
+    ensures gone { let named = part_text space.old.neutral name.0 name.1 in
+        let rest = without named (forms_in space.old.store) in
+        space.new ≡ record space.old { store = flat_forms rest; spare = space.new.spare } }
+    ensures index { let named = part_text space.old.neutral name.0 name.1 in
+        IsIndexed space.new.spare (without named (forms_in space.old.store)) }
+    ensures count { let named = part_text space.old.neutral name.0 name.1 in
+        result ≡ length (without named (forms_in space.old.store)) }
+{
+    match found {
+        Some((k, start)) => {
+            take_out(space, k, start, count);
+            count - 1
+        }
+        None => count,
+    }
+}
+
+// Puts the cells of neutral from place `a` up to `b` once more at its end.
+fn put_part(space: &mut Space, a: u32, b: u32)
+    requires part { IsTextPart space.old.neutral a b }
+    requires room { lists.HasWay (b - a) space.old }
+    ensures { space.new ≡ record space.old {
+      neutral = space.old.neutral ++ slice_range space.old.neutral a b;
+    } }
+{
+    space.put_from_neutral(a, b);
+}
+
+// Puts the cells of a new form at the end of neutral.
+fn put_form(space: &mut Space, name: (u32, u32), text: (u32, u32))
+    requires name_part { IsTextPart space.old.neutral name.0 name.1 }
+    requires text_part { IsTextPart space.old.neutral text.0 text.1 }
+    requires room { let need = 3 + (name.1 - name.0) + (text.1 - text.0) in
+        lists.HasWay need space.old }
+    ensures { let form = new_form space.old.neutral name.0 name.1 text.0 text.1 in
+        space.new ≡ record space.old { neutral = space.old.neutral ++ flat_form form } }
+{
+    space.put_neutral(Cell::Head(name.1 - name.0));
+    space.put_neutral(Cell::Head(text.1 - text.0));
+    space.put_neutral(Cell::Head(0));
+    put_part(space, name.0, name.1);
+    put_part(space, text.0, text.1);
+}
+
+/// Puts the cells of a new form, of which there are `need`, at the end of the store.
+pub fn store_form(space: &mut Space, need: u32, name: (u32, u32), text: (u32, u32))
+    requires name_part { IsTextPart space.old.neutral name.0 name.1 }
+    requires text_part { IsTextPart space.old.neutral text.0 text.1 }
+    requires need { need ≡ 3 + (name.1 - name.0) + (text.1 - text.0) }
+    requires room { lists.used space.old + need ≤ space.old.room }
+    ensures kept { IsKept space.old.spare space.new.spare }
+    ensures stored { let form = new_form space.old.neutral name.0 name.1 text.0 text.1 in
+        space.new ≡ record space.old {
+          store = space.old.store ++ flat_form form;
+          spare = space.new.spare;
+        } }
+{
+    space.make_way(need);
+    let from = space.neutral_len();
+    put_form(space, name, text);
+    space.neutral_to_store(from);
+}

@@ -1,0 +1,33 @@
+//! Forms as cells in the lists of a `Space`. The store has the forms, one behind the other, and
+//! nothing else; the spare list has an index of them, or nothing.
+//!
+//! A form is named by its place in the list of forms and by the place of the store where it begins.
+//! Places and lengths count cells.
+//!
+//! Forms, their gaps with ordinals, segmenting and the form pointer are those of Mooers, "TRAC, A
+//! Procedure-Describing Language for the Reactive Typewriter", CACM 9(3), 1966. How a form stands as
+//! cells, and its index, are this processor's own choice. Nothing here takes memory.
+#![tactic(auto)]
+
+mod arguments;
+mod borders;
+mod define;
+mod fill;
+mod index;
+mod removal;
+mod search;
+mod segment;
+mod store;
+
+pub use arguments::before_comma;
+pub use define::{remove_found, store_form, take_out};
+pub use fill::{fill_items, load_form};
+pub use index::{clear_index, index_form, keep_index, shift_starts};
+pub use removal::{mark_all, take_out_marked};
+pub use search::{find_text, first_character, first_gap, last_character};
+pub use segment::segment_store;
+pub use store::{
+    FEW, find_few, find_named, head, heads, is_first_named, item_in, item_of, number_in_head,
+    place_of,
+};
+pub use trac_language::Item;
