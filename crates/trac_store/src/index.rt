@@ -198,10 +198,10 @@ fn add(space: &mut Space, first: usize, k: u32, start: u32) -> bool
     }
 }
 
-/// Puts form `k`, which begins at `start`, into the table of those before it, if there is a table.
-/// Where it has no place for the form it is let go.
+// Puts form `k`, which begins at `start`, into the table of those before it, if there is a table.
+// Where it has no place for the form it is let go.
 #[inline(always)]
-pub fn index_form(space: &mut Space, k: u32, start: u32)
+pub(crate) fn index_form(space: &mut Space, k: u32, start: u32)
     requires whole { flat_forms (forms_in space.old.store) ≡ space.old.store }
     requires bounded { length space.old.store ≤ 16777216 }
     requires within { k < length (forms_in space.old.store) }
@@ -217,6 +217,43 @@ pub fn index_form(space: &mut Space, k: u32, start: u32)
     let to = from + head(space, start);
     let first = hash(space.store_part(from, to));
     if k >= space.spare_len() / 4 || !add(space, first, k, start) {
+        space.drop_spare();
+    }
+}
+
+/// Puts the last form, of number `k`, which begins at a place of the store, into the table of those
+/// before it, if there is a table. Where that is full a greater one is made, or it is let go.
+#[inline(always)]
+pub fn index_last(space: &mut Space, k: u32, start: u32)
+    requires whole { flat_forms (forms_in space.old.store) ≡ space.old.store }
+    requires bounded { length space.old.store ≤ 16777216 }
+    requires last { k + 1 ≡ length (forms_in space.old.store) }
+    requires begins { start ≡ start_of (forms_in space.old.store) k }
+    requires index { IsIndexed space.old.spare (take k (forms_in space.old.store)) }
+    ensures same { space.new ≡ record space.old { spare = space.new.spare } }
+    ensures index { IsIndexed space.new.spare (forms_in space.old.store) }
+{
+    if k >= space.spare_len() / 4 && space.spare_len() > 0 {
+        grow_index(space, k + 1);
+    } else {
+        index_form(space, k, start);
+    }
+}
+
+// Makes a table of all forms for four times as many, in place of the one that there is, or lets that
+// go where more than half of the free cells would be needed.
+#[inline(never)]
+fn grow_index(space: &mut Space, count: u32)
+    requires whole { flat_forms (forms_in space.old.store) ≡ space.old.store }
+    requires bounded { length space.old.store ≤ 16777216 }
+    requires count_is { count ≡ length (forms_in space.old.store) }
+    ensures same { space.new ≡ record space.old { spare = space.new.spare } }
+    ensures index { IsIndexed space.new.spare (forms_in space.old.store) }
+{
+    let cells = 4 * places_for(2 * count);
+    if cells <= space.free() / 2 {
+        index_all(space, count, cells);
+    } else {
         space.drop_spare();
     }
 }
@@ -369,7 +406,7 @@ pub(crate) fn unindex_from(space: &mut Space, k: u32, count: u32)
 
 // How many places a table has for so many forms and at least one more.
 fn places_for(count: u32) -> u32
-    requires { count ≤ 16777216 }
+    requires { count ≤ 33554432 }
     ensures { result ≤ 2 * count + 16 }
 {
     (count + 1).next_power_of_two().max(16)

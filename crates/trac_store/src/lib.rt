@@ -22,7 +22,7 @@ mod store;
 pub use arguments::before_comma;
 pub use define::{remove_found, store_form, take_out};
 pub use fill::{fill_items, load_form};
-pub use index::{clear_index, index_form, keep_index, shift_starts};
+pub use index::{clear_index, index_last, keep_index, shift_starts};
 pub use removal::{mark_all, take_out_marked};
 pub use search::{find_text, first_character, first_gap, last_character};
 pub use segment::segment_store;

@@ -18,7 +18,7 @@ use Rattle.trac_forms.proofs.Strings.{used-stored, shown-restored, redefined}
 use Rattle.trac_store.proofs.Stores.{cells-without}
 use Rattle.trac_forms.proofs.StoreChanges.{defined-stored}
 use Rattle.trac_forms.proofs.work.Work.define_form.Goals as goal
-use Rattle.trac_forms.proofs.work.Work.define_form.Goals.{After-store_form, After-index_form}
+use Rattle.trac_forms.proofs.work.Work.define_form.Goals.{After-store_form, After-index_last}
 
 -- the forms beside the new one, and it
 abbrev rest : After-store_form → List Form
@@ -34,14 +34,9 @@ put c = redefined c.self.inside.space c.remove_found-count.new.space c.store_for
 read : (c : After-store_form) → forms_in c.store_form.new.space.store ≡ rest c ++ form c ∷ []
 read c = ap (λ (w : Lists). forms_in w.store) (put c) ∙ forms_in-flat (rest c ++ form c ∷ [])
 
--- the table of all forms once the last is in it
-indexed : (c : After-store_form) (spare : List Cell) → IsIndexed spare (take (c.remove_found-count.result + 1) (forms_in c.store_form.new.space.store)) → IsIndexed spare (forms_in c.store_form.new.space.store)
-indexed c spare index =
-    subst (IsIndexed spare) (take_all (c.remove_found-count.result + 1) (forms_in c.store_form.new.space.store) (omega (arith, ap length (read c), c.remove_found-count.ensures.count, length_push (rest c) (form c)))) index
-
-stored : (c : After-index_form) → IsIndexed c.index_form.new.space.spare (forms_in c.store_form.new.space.store) → IsStored c.index_form.new.space (c.remove_found-count.result + 1) c.remove_found-count.result c.store_len-start.result
-stored c index =
-    defined-stored c.self.inside.space c.remove_found-count.new.space c.store_form.new.space c.index_form.new.space c.self.inside.count c.self.inside.last c.self.inside.start c.args.name.0 c.args.name.1 c.args.text.0 c.args.text.1 c.remove_found-count.result c.store_len-start.result c.self.invariant (rw (← c.self.view_is) at c.requires.name_part.within) (rw (← c.self.view_is) at c.requires.text_part.within) (omega (arith, c.free-free.ensures)) c.remove_found-count.ensures.gone c.remove_found-count.ensures.count c.store_len-start.ensures c.store_form.ensures.stored index c.index_form.ensures.same
+stored : (c : After-index_last) → IsStored c.index_last.new.space (c.remove_found-count.result + 1) c.remove_found-count.result c.store_len-start.result
+stored c =
+    defined-stored c.self.inside.space c.remove_found-count.new.space c.store_form.new.space c.index_last.new.space c.self.inside.count c.self.inside.last c.self.inside.start c.args.name.0 c.args.name.1 c.args.text.0 c.args.text.1 c.remove_found-count.result c.store_len-start.result c.self.invariant (rw (← c.self.view_is) at c.requires.name_part.within) (rw (← c.self.view_is) at c.requires.text_part.within) (omega (arith, c.free-free.ensures)) c.remove_found-count.ensures.gone c.remove_found-count.ensures.count c.store_len-start.ensures c.store_form.ensures.stored c.index_last.ensures.index c.index_last.ensures.same
 
 pub returns-then-free-need-clause-full : goal.returns-then-free-need-clause-full
 returns-then-free-need-clause-full c =
@@ -62,34 +57,34 @@ store_form-requires-clause-room c =
     let room = ap (λ v. v.room) gone in
     omega (arith, cells-without, c.free-free.ensures, length-flat (without name forms), length-flat forms, ap length c.self.invariant.whole)
 
-pub index_form-requires-clause-whole : goal.index_form-requires-clause-whole
-index_form-requires-clause-whole c =
-    let k = (goal.at.index_form-requires-clause-whole c).After-store_form in
+pub index_last-requires-clause-whole : goal.index_last-requires-clause-whole
+index_last-requires-clause-whole c =
+    let k = (goal.at.index_last-requires-clause-whole c).After-store_form in
     ap flat_forms (read k) ∙ sym (ap (λ (w : Lists). w.store) (put k))
 
-pub index_form-requires-clause-within : goal.index_form-requires-clause-within
-index_form-requires-clause-within c =
-    let k = (goal.at.index_form-requires-clause-within c).After-store_form in
+pub index_last-requires-clause-last : goal.index_last-requires-clause-last
+index_last-requires-clause-last c =
+    let k = (goal.at.index_last-requires-clause-last c).After-store_form in
     omega (arith, ap length (read k), length_push (rest k) (form k), c.remove_found-count.ensures.count)
 
-pub index_form-requires-clause-begins : goal.index_form-requires-clause-begins
-index_form-requires-clause-begins c =
-    let k = (goal.at.index_form-requires-clause-begins c).After-store_form in
+pub index_last-requires-clause-begins : goal.index_last-requires-clause-begins
+index_last-requires-clause-begins c =
+    let k = (goal.at.index_last-requires-clause-begins c).After-store_form in
     let first = take_at (rest k) (form k ∷ []) (length (rest k)) refl in
     let place : c.store_len-start.result ≡ start_of (rest k ++ form k ∷ []) (length (rest k)) = c.store_len-start.ensures ∙ ap (λ (w : Lists). length w.store) c.remove_found-count.ensures.gone ∙ ap (λ fs. length (flat_forms fs)) (sym first) in
     place ∙ ap (start_of (rest k ++ form k ∷ [])) (sym c.remove_found-count.ensures.count) ∙ ap (λ fs. start_of fs c.remove_found-count.result) (sym (read k))
 
-pub index_form-requires-clause-index : goal.index_form-requires-clause-index
-index_form-requires-clause-index c =
-    let k = (goal.at.index_form-requires-clause-index c).After-store_form in
+pub index_last-requires-clause-index : goal.index_last-requires-clause-index
+index_last-requires-clause-index c =
+    let k = (goal.at.index_last-requires-clause-index c).After-store_form in
     let front = ap (take c.remove_found-count.result) (read k) ∙ take_at (rest k) (form k ∷ []) c.remove_found-count.result (sym c.remove_found-count.ensures.count) in
     subst (IsIndexed c.store_form.new.space.spare) (sym front) (index-kept c.remove_found-count.new.space.spare c.store_form.new.space.spare (rest k) c.store_form.ensures.kept c.remove_found-count.ensures.index)
 
-pub index_form-requires-clause-bounded : goal.index_form-requires-clause-bounded
-index_form-requires-clause-bounded c =
+pub index_last-requires-clause-bounded : goal.index_last-requires-clause-bounded
+index_last-requires-clause-bounded c =
     let s = c.self.inside.space in
     let h = c.self.invariant in
-    let k = (goal.at.index_form-requires-clause-bounded c).After-store_form in
+    let k = (goal.at.index_last-requires-clause-bounded c).After-store_form in
     let name_in = rw (← c.self.view_is) at c.requires.name_part.within in
     let text_in = rw (← c.self.view_is) at c.requires.text_part.within in
     let there = ap (λ (w : Lists). length w.store) (put k) in
@@ -107,7 +102,7 @@ overflow_add-self c =
 pub invariant_of-self : goal.invariant_of-self
 invariant_of-self c =
     let at = goal.at.invariant_of-self c in
-    stored at.After-index_form (indexed at.After-store_form _ c.index_form.ensures.index)
+    stored at.After-index_last
 
 pub returns-clause-full : goal.returns-clause-full
 returns-clause-full c =
@@ -118,9 +113,9 @@ returns-clause-full c =
 pub returns-clause-ok : goal.returns-clause-ok
 returns-clause-ok c =
     let k = (goal.at.returns-clause-ok c).After-store_form in
-    rw (← c.self.view_is) (shown-restored _ c.self.inside.space _ (rest k ++ form k ∷ []) (c.index_form.ensures.same ∙ ap (λ (w : Lists). record w { spare = c.index_form.new.space.spare }) (put k)))
+    rw (← c.self.view_is) (shown-restored _ c.self.inside.space _ (rest k ++ form k ∷ []) (c.index_last.ensures.same ∙ ap (λ (w : Lists). record w { spare = c.index_last.new.space.spare }) (put k)))
 
 pub returns-clause-sound : goal.returns-clause-sound
 returns-clause-sound c =
     let at = goal.at.returns-clause-sound c in
-    (stored at.After-index_form (indexed at.After-store_form _ c.index_form.ensures.index)).sound
+    (stored at.After-index_last).sound
