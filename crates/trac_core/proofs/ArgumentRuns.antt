@@ -1,22 +1,6 @@
 -- Runs of ordinary characters and commas in a call: each is added or begins an argument.
-use Rattle.std.proofs.Common.{◌≡◌, ℕ, zero, suc, ◌<◌, ◌≤◌, ◌+◌, Bool, true, false, List, [], ◌∷◌, ◌++◌, length, take, drop, map, All, Some, slice_get, get_or, refl, sym, ap, ◌∙◌, subst, arith, append_assoc, append-nil, length-append, ⊎_elim, inl, inr}
-use Rattle.std.specs.Prelude.{◌==◌, ◌⊎◌, if◌then◌else◌}
-use Rattle.std.specs.List.{range_with_len}
-use Rattle.std.proofs.lemmas.Bool.{ne_eqb, eqb-true, cases_lt}
-use Rattle.std.proofs.lemmas.List.{length-drop, get_or_past, get_or_append_left, drop-append-le}
-use Rattle.std.proofs.lemmas.List.FromFn.{get_or-map-range_with_len, length-map-range_with_len}
-use Rattle.std.proofs.lemmas.List.Elements.{All-head, All-tail, All-push}
-use Rattle.std.proofs.Math.Seq.{drop-append-add}
-use Rattle.trac_space.specs.declared.cell.Cell.{Cell}
-use Rattle.trac_space.specs.declared.cell.Cell.TheVariants.{Byte, Call, Comma, Gap, Head}
-use Rattle.trac_space.specs.Calls.{IsLastCall}
-use Rattle.trac_space.specs.Cells.{is_call, IsNoCall, NoComma}
-use Rattle.trac_space.specs.Texts.{text_of_cells, character_of, IsByte}
-use Rattle.trac_space.specs.Runs.{IsInRun, number_in, turned, turned_by}
-use Rattle.trac_forms.specs.Contents.{Contents, used}
-use Rattle.trac_functions.specs.Flat.{memory_of}
-use Rattle.trac_core.specs.Attempts.{Scans}
-use Rattle.trac_core.specs.StepsInRow.{is_special, kind_of, IsOrdinary, IsPlainFrom, PassesTimes}
+use Rattle.trac_core.proofs.Words.{◌≡◌, ℕ, zero, suc, ◌<◌, ◌≤◌, ◌+◌, Bool, true, false, List, [], ◌∷◌, ◌++◌, length, take, drop, map, All, Some, slice_get, get_or, refl, sym, ap, ◌∙◌, subst, arith, append_assoc, append-nil, length-append, ⊎_elim, inl, inr, ◌==◌, ◌⊎◌, if◌then◌else◌, range_with_len, ne_eqb, eqb-true, cases_lt, length-drop, get_or_past, get_or_append_left, drop-append-le, get_or-map-range_with_len, length-map-range_with_len, All-head, All-tail, All-push, drop-append-add, Cell, Byte, Call, Comma, Gap, Head, IsLastCall, is_call, IsNoCall, NoComma, text_of_cells, character_of, IsByte, turned, Contents, used, memory_of, Scans, is_special, kind_of, IsOrdinary, IsPlainFrom, PassesTimes}
+use Rattle.trac_space.specs.Runs.{IsInRun, number_in, turned_by}
 use Rattle.trac_core.proofs.Scanning.{scans-other, scans-comma}
 use Rattle.trac_core.proofs.StepsInRow.{passes-scans, ordinary-layout, ordinary-not}
 

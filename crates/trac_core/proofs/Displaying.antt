@@ -1,26 +1,7 @@
 -- The display of a form.
-use Rattle.std.proofs.Common.{◌≡◌, ◌≢◌, ℕ, ◌+◌, ◌-◌, ◌<◌, ◌≤◌, false, List, [], ◌∷◌, ◌++◌, length, take, drop, slice_get, slice_range, Option, Some, None, refl, sym, ap, ◌∙◌, subst, arith, append_assoc, append-nil}
-use Rattle.std.specs.Prelude.{Result, Ok, Err, OnErr, codes, decimal}
-use Rattle.std.proofs.Math.Seq.{take-add, drop-cons}
-use Rattle.std.proofs.lemmas.List.{take-append-drop, drop-drop, take_rest, length-append}
-use Rattle.std.proofs.lemmas.Option.{slice_get-get_or}
-use Rattle.trac_language.specs.declared.item.Item.{Item}
+use Rattle.trac_core.proofs.Words.{◌≡◌, ◌≢◌, ℕ, ◌+◌, ◌-◌, ◌<◌, ◌≤◌, false, List, [], ◌∷◌, ◌++◌, length, take, drop, slice_get, slice_range, Option, Some, None, refl, sym, ap, ◌∙◌, subst, arith, append_assoc, append-nil, Result, Ok, Err, OnErr, codes, decimal, take-add, drop-cons, take-append-drop, drop-drop, take_rest, slice_get-get_or, Item, PrintForm, OutputFailed, Text, Form, before_pointer, after_pointer, form_named, argument, World, on_form, printing, show, show_form, meaning_of, value_length, Contents, used, Stream, Breaks, Prints, mode_at, arguments_at, world, ending, Defined, Over, scene, IsCall, AnswersCall, display, shown}
+use Rattle.std.proofs.lemmas.List.{length-append}
 use Rattle.trac_language.specs.declared.item.Item.TheVariants.{Byte, Gap}
-use Rattle.trac_language.specs.declared.function.Function.TheVariants.{PrintForm}
-use Rattle.trac_language.specs.declared.fate.Fate.TheVariants.{OutputFailed}
-use Rattle.trac_language.specs.Text.{Text}
-use Rattle.trac_language.specs.Form.{Form, before_pointer, after_pointer}
-use Rattle.trac_language.specs.Store.{form_named}
-use Rattle.trac_language.specs.State.{argument}
-use Rattle.trac_language.specs.Meaning.{World, on_form, printing, show, show_form, meaning_of, value_length}
-use Rattle.trac_forms.specs.Contents.{Contents, used}
-use Rattle.trac_devices.specs.Devices.{Stream, Breaks, Prints}
-use Rattle.trac_functions.specs.Flat.{mode_at, arguments_at}
-use Rattle.trac_functions.specs.Calls.{world}
-use Rattle.trac_core.specs.Machine.{ending}
-use Rattle.trac_functions.specs.declared.arguments.Made.TheVariants.{Defined, Over}
-use Rattle.trac_core.specs.Attempts.{scene, IsCall, AnswersCall}
-use Rattle.trac_core.specs.Display.{display, shown}
 use Rattle.trac_core.proofs.Performing.{closed, delivered-null, tried-answer, tried-broken}
 
 pub show-append : (xs ys : List Item) → show (xs ++ ys) ≡ show xs ++ show ys

@@ -1,16 +1,7 @@
 -- The search for the right parenthesis that matches, character by character.
-use Rattle.std.proofs.Common.{◌≡◌, ◌≢◌, ℕ, zero, suc, ◌+◌, ◌-◌, ◌*◌, ◌/◌, ◌%◌, ◌<◌, ◌≤◌, Bool, true, false, ◌&&◌, subst, List, [], ◌∷◌, ◌++◌, length, take, drop, Some, None, get_or, refl, sym, ap, ◌∙◌, arith, eq-eqb, sum_by, ⊎_elim}
-use Rattle.std.specs.Prelude.{◌==◌, if◌then◌else◌}
-use Rattle.std.proofs.lemmas.Bool.{ne_eqb, eqb-true, cases_Bool}
-use Rattle.std.proofs.lemmas.List.{drop_more, take_more, length-take, length-map}
-use Rattle.std.proofs.lemmas.List.Sums.{sum_by-cons, sum_by-append, count_by-le-length}
+use Rattle.trac_core.proofs.Words.{◌≡◌, ◌≢◌, ℕ, zero, suc, ◌+◌, ◌-◌, ◌*◌, ◌/◌, ◌%◌, ◌<◌, ◌≤◌, Bool, true, false, ◌&&◌, subst, List, [], ◌∷◌, ◌++◌, length, take, drop, Some, None, get_or, refl, sym, ap, ◌∙◌, arith, eq-eqb, sum_by, ⊎_elim, ◌==◌, if◌then◌else◌, ne_eqb, eqb-true, cases_Bool, drop_more, take_more, length-take, length-map, sum_by-cons, take-add, Cell, text_of_cells, character_of, Text, count, split_at_match, protected, IsAt, side_of, side_in}
+use Rattle.std.proofs.lemmas.List.Sums.{sum_by-append, count_by-le-length}
 use Rattle.std.proofs.Math.ListN.{drop_of_length-le}
-use Rattle.std.proofs.Math.Seq.{take-add}
-use Rattle.trac_space.specs.declared.cell.Cell.{Cell}
-use Rattle.trac_space.specs.Texts.{text_of_cells, character_of}
-use Rattle.trac_language.specs.Text.{Text}
-use Rattle.trac_language.specs.Protected.{count, split_at_match, protected}
-use Rattle.trac_core.specs.Matching.{IsAt, side_of, side_in}
 use Rattle.trac_core.proofs.Scanning.{take-text, drop-text}
 use Rattle.trac_laws.proofs.Parentheses.{weight, count_push, matches, split_found, split_passed, split_none}
 

@@ -1,14 +1,5 @@
 -- Texts with and without the meta character, and a text that is read.
-use Rattle.std.proofs.Common.{◌≡◌, ℕ, suc, ◌+◌, ◌≤◌, Bool, true, false, not, ◌||◌, cond, [], ◌∷◌, ◌++◌, length, take, drop, refl, ap, ◌∙◌, arith, append_assoc, eqb}
-use Rattle.std.specs.Prelude.{◌==◌}
-use Rattle.std.specs.List.{before_first, position_or_len, list_any}
-use Rattle.std.proofs.lemmas.List.{take_at, drop_at, map-append, length-take-le}
-use Rattle.std.proofs.Math.Seq.{take-length, drop-length}
-use Rattle.trac_language.specs.Text.{Text}
-use Rattle.trac_space.specs.declared.cell.Cell.TheVariants.{Byte}
-use Rattle.trac_space.specs.Texts.{flat_text}
-use Rattle.trac_forms.specs.Contents.{Contents}
-use Rattle.trac_devices.specs.HeldBytes.{Reads}
+use Rattle.trac_core.proofs.Words.{◌≡◌, ℕ, suc, ◌+◌, ◌≤◌, Bool, true, false, not, ◌||◌, cond, [], ◌∷◌, ◌++◌, length, take, drop, refl, ap, ◌∙◌, arith, append_assoc, eqb, ◌==◌, before_first, position_or_len, list_any, take_at, drop_at, map-append, length-take-le, take-length, drop-length, Text, Byte, flat_text, Contents, Reads}
 
 module _ (p : ℕ → Bool) where
   none-head : (c : ℕ) (text : Text) → list_any p (c ∷ text) ≡ false → p c ≡ false

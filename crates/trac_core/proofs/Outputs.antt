@@ -1,14 +1,7 @@
 -- A run prints the same after anything that was printed before it.
-use Rattle.std.proofs.Common.{◌≡◌, ℕ, zero, suc, List, [], ◌∷◌, ◌++◌, Bool, true, false, refl, sym, ap, ◌∙◌, append_assoc, append-nil}
-use Rattle.std.specs.Prelude.{nat_lt}
-use Rattle.trac_language.specs.declared.mode.Mode.{Mode}
-use Rattle.trac_language.specs.Text.{Text}
-use Rattle.trac_language.specs.State.{OpenCall, Memory, Input, State}
-use Rattle.trac_language.specs.Meaning.{Meaning, Gives, Ends}
-use Rattle.trac_language.specs.Rule.{Rule, LoadIdling, DeleteLayout, AddProtected, ClearActive, BeginArgument, BeginCall, EndCall, AddCharacter, rule}
-use Rattle.trac_language.specs.Step.{Outcome, Next, Over, deliver, perform, end_call, with_active, follow, end_need, need_by, step, need}
-use Rattle.trac_language.specs.Run.{Run, within, go_on, one_more, run}
-use Rattle.trac_core.specs.Machine.{state_with}
+use Rattle.trac_core.proofs.Words.{◌≡◌, ℕ, zero, suc, List, [], ◌∷◌, ◌++◌, Bool, true, false, refl, sym, ap, ◌∙◌, append_assoc, append-nil, nat_lt, Mode, Text, OpenCall, Memory, Input, State, Meaning, Gives, Ends, Rule, LoadIdling, DeleteLayout, AddProtected, ClearActive, BeginArgument, BeginCall, EndCall, AddCharacter, rule, Outcome, Next, deliver, perform, end_call, with_active, follow, end_need, need_by, step, need, Run, run, state_with}
+use Rattle.trac_language.specs.Step.{Over}
+use Rattle.trac_language.specs.Run.{within, go_on, one_more}
 
 module _ (before : Text) where
   -- the state after more was printed before it

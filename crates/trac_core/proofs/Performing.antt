@@ -1,41 +1,11 @@
 -- A call that is performed, over the contents of a workspace.
-use Rattle.std.proofs.Common.{◌≡◌, ◌≢◌, ℕ, ◌+◌, ◌-◌, ◌<◌, ◌≤◌, max, Bool, true, false, not, ◌&&◌, ◌||◌, List, [], ◌∷◌, ◌++◌, length, take, drop, All, Option, Some, None, refl, sym, ap, ◌∙◌, subst, arith, append-nil, length-append}
-use Rattle.std.specs.Prelude.{◌==◌, slice_get, unwrap_or, nat_le}
-use Rattle.std.proofs.lemmas.Option.{unwrap_or-slice_get}
-use Rattle.std.specs.List.{list_any}
-use Rattle.std.proofs.lemmas.List.{length-map, length-drop, get_or_append_left}
-use Rattle.std.proofs.Math.Seq.{drop-append_seam, take-append_seam, take-length}
-use Rattle.trac_language.specs.declared.mode.Mode.{Mode}
-use Rattle.trac_language.specs.declared.mode.Mode.TheVariants.{Active, Neutral as NeutralMode}
-use Rattle.trac_language.specs.declared.function.Function.{Function}
-use Rattle.trac_language.specs.declared.function.Function.TheVariants.{ReadString, ReadCharacter, ChangeMeta, PrintString, PrintForm, Halt}
-use Rattle.trac_language.specs.declared.fate.Fate.{Fate}
-use Rattle.trac_language.specs.declared.fate.Fate.TheVariants.{Workspace, Steps, InputFailed, OutputFailed}
-use Rattle.trac_language.specs.Text.{Text}
-use Rattle.trac_language.specs.Form.{Form}
-use Rattle.trac_language.specs.Function.{function_named}
-use Rattle.trac_language.specs.State.{Input, State, arguments, argument, size}
-use Rattle.trac_language.specs.Meaning.{Answer, Gives, Ends, meaning_of, meaning, built}
-use Rattle.trac_language.specs.Rule.{EndCall, rule}
-use Rattle.trac_language.specs.Step.{Next, function_of, deliver, perform, end_call, follow, end_need, need_by, step, need}
-use Rattle.trac_laws.specs.LastRead.{is_read_string, reads_last, end_reads_last, reads_last_by, reads_to_end}
+use Rattle.trac_core.proofs.Words.{◌≡◌, ◌≢◌, ℕ, ◌+◌, ◌-◌, ◌<◌, ◌≤◌, max, Bool, true, false, not, ◌&&◌, ◌||◌, List, [], ◌∷◌, ◌++◌, length, take, drop, All, Option, Some, None, refl, sym, ap, ◌∙◌, subst, arith, append-nil, length-append, ◌==◌, slice_get, unwrap_or, nat_le, unwrap_or-slice_get, list_any, length-map, length-drop, get_or_append_left, drop-append_seam, take-append_seam, take-length, Mode, Active, Function, ReadString, ReadCharacter, ChangeMeta, PrintString, PrintForm, Halt, Fate, Workspace, Steps, InputFailed, OutputFailed, Text, Form, function_named, Input, State, arguments, argument, size, Answer, Gives, Ends, meaning_of, meaning, built, EndCall, rule, Next, function_of, deliver, perform, end_call, follow, end_need, need_by, step, need, is_read_string, reads_last, end_reads_last, reads_last_by, reads_to_end, Cell, Byte, Call, Comma, Gap, Head, flat_text, text_of_cells, character_of, IsByte, IsLastCall, Contents, used, IsSound, Stream, Full, Value, Placed, Defined, Over, texts_of, Neutral, no_neutral, neutral_of, memory_with, memory_of, mode_of, mode_at, is_active_mode, arguments_at, texts_from, world, IsValue, IsPlaced, IsDefined, Makes, is_plain, performed_by, performs, MachineState, moment, ending, failing, state_with, state_of, failing_state_of, EndsRun, input_failures, output_failures, scene, TriedCall, ClosesCall, function_at, delivered, settled, AnswersCall, IsValueFrom, Stands, fate_after}
+use Rattle.trac_language.specs.declared.mode.Mode.TheVariants.{Neutral as NeutralMode}
 use Rattle.trac_laws.proofs.Rules.{rule_end}
-use Rattle.trac_space.specs.declared.cell.Cell.{Cell}
-use Rattle.trac_space.specs.declared.cell.Cell.TheVariants.{Byte, Call, Comma, Gap, Head}
-use Rattle.trac_space.specs.Texts.{flat_text, text_of_cells, character_of, IsByte}
-use Rattle.trac_space.specs.Calls.{IsLastCall}
 use Rattle.trac_space.proofs.Texts.{text_of_cells-append}
-use Rattle.trac_forms.specs.Contents.{Contents, used, IsSound}
-use Rattle.trac_devices.specs.Devices.{Stream}
 use Rattle.trac_functions.specs.declared.arguments.Made.{Made}
-use Rattle.trac_functions.specs.declared.arguments.Made.TheVariants.{Full, Value, Placed, Defined, Over}
-use Rattle.trac_functions.specs.Flat.{texts_of, Neutral, no_neutral, neutral_of, memory_with, memory_of, mode_of, mode_at, is_active_mode, arguments_at}
-use Rattle.trac_functions.specs.Calls.{texts_from, world, IsValue, IsPlaced, IsDefined, Makes}
 use Rattle.trac_functions.proofs.FlatLemmas.{with_cells-append, with_cells-text, text_of-flat, neutral_of-innermost, call_at, opened, texts_of-some, grown-mode, arguments-call_at, size-used}
 use Rattle.trac_functions.proofs.ArgumentLemmas.{bytes-flat}
-use Rattle.trac_core.specs.Performed.{is_plain, performed_by, performs}
-use Rattle.trac_core.specs.Machine.{MachineState, moment, ending, failing, state_with, state_of, failing_state_of, EndsRun, input_failures, output_failures}
-use Rattle.trac_core.specs.Attempts.{scene, TriedCall, ClosesCall, function_at, delivered, settled, AnswersCall, IsValueFrom, Stands, fate_after}
 
 -- the contents without the innermost call
 abbrev pub closed : Contents → ℕ → Contents
@@ -456,12 +426,17 @@ pub function-performs : (old w : Contents) (place meta : ℕ) → ClosesCall old
 function-performs old w place meta p = performs-call old w place p (function_at w.neutral place) refl meta
 
 -- all arguments of the innermost call
-pub texts-all : (neutral : List Cell) (place : ℕ) → place < length neutral → texts_from neutral (place + 1) (length neutral) ≡ arguments_at neutral place
-texts-all neutral place within =
+pub texts-all : (neutral : List Cell) (place end : ℕ) → end ≡ length neutral → place < length neutral → texts_from neutral (place + 1) end ≡ arguments_at neutral place
+texts-all neutral place end end_is within =
     let le : place + 1 ≤ length neutral = omega arith in
     let yes_le : nat_le (place + 1) (length neutral) ≡ true = grind arith in
     let long : length neutral - (place + 1) ≡ length (drop (place + 1) neutral) = sym (length-drop (place + 1) neutral) in
-    rw yes_le (ap texts_of (ap (λ n. take n (drop (place + 1) neutral)) long ∙ take-length (drop (place + 1) neutral)))
+    rw (end_is, yes_le) (ap texts_of (ap (λ n. take n (drop (place + 1) neutral)) long ∙ take-length (drop (place + 1) neutral)))
+
+-- the function that the first of them names
+pub named-at : (w : Contents) (place end : ℕ) (o : Option Function) {found : Option Function} → end ≡ length w.neutral → IsLastCall w.neutral place → found ≡ function_named (argument (texts_from w.neutral (place + 1) end) 0) → found ≡ o → function_at w.neutral place ≡ o
+named-at w place end o end_is innermost named is =
+    ap (λ l. function_named (argument l 0)) (sym (texts-all w.neutral place end end_is innermost.mark.0)) ∙ sym named ∙ is
 
 -- the functions that have no arm of their own are plain
 pub plain-rest : (f : Function) → f ≢ ReadString → f ≢ ReadCharacter → f ≢ ChangeMeta → f ≢ PrintString → f ≢ PrintForm → f ≢ Halt → is_plain f ≡ true

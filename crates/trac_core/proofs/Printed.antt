@@ -1,32 +1,10 @@
 -- What a step prints, and how long it is.
-use Rattle.std.proofs.Common.{◌≡◌, ◌≢◌, ℕ, ◌+◌, ◌-◌, ◌<◌, Bool, true, false, List, [], ◌∷◌, ◌++◌, length, take, drop, slice_range, slice_get, get_or, Option, Some, None, refl, sym, ap, ◌∙◌, arith}
-use Rattle.std.specs.Prelude.{codes, ℤ}
-use Rattle.std.proofs.lemmas.List.{length-append, length-map, take-append-drop, take_more}
+use Rattle.trac_core.proofs.Words.{◌≡◌, ◌≢◌, ℕ, ◌+◌, ◌-◌, ◌<◌, Bool, true, false, List, [], ◌∷◌, ◌++◌, length, take, drop, slice_range, slice_get, get_or, Option, Some, None, refl, sym, ap, ◌∙◌, arith, codes, ℤ, length-map, take-append-drop, take_more, slice_get-get_or, Mode, Item, Function, ReadString, ReadCharacter, ChangeMeta, Halt, PrintString, PrintForm, DefineString, SegmentString, DeleteDefinition, DeleteAll, ListNames, CallForm, CallSegment, CallCharacter, CallNumber, InitialPart, CallRestore, Equal, Greater, Arithmetic, Union, Intersection, Complement, Shift, Rotate, Text, Form, before_pointer, after_pointer, OpenCall, Memory, Input, arguments, argument, World, Meaning, Gives, Ends, on_form, take_part, result_or, read_all, read_string, read_character, change_meta, show, show_form, meaning, meaning_of, before_meta, from_meta, form_of_call, Rule, LoadIdling, DeleteLayout, AddProtected, ClearActive, BeginArgument, BeginCall, EndCall, AddCharacter, rule, function_of, world_of, perform, end_call, follow, step, with_active, Cell, IsLastCall, text_of_cells, character_of, Contents, IsTextPart, IsSound, part_text, memory_of, mode_at, arguments_at, world, state_with, performed_by, performs, prints_output, function_at, display, shown, printed_in}
+use Rattle.std.proofs.lemmas.List.{length-append}
 use Rattle.std.proofs.lemmas.List.Edits.{length-between}
-use Rattle.std.proofs.lemmas.Option.{slice_get-get_or}
-use Rattle.trac_language.specs.declared.mode.Mode.{Mode}
-use Rattle.trac_language.specs.declared.item.Item.{Item}
 use Rattle.trac_language.specs.declared.item.Item.TheVariants.{Byte}
-use Rattle.trac_language.specs.declared.function.Function.{Function}
-use Rattle.trac_language.specs.declared.function.Function.TheVariants.{ReadString, ReadCharacter, ChangeMeta, Halt, PrintString, PrintForm, DefineString, SegmentString, DeleteDefinition, DeleteAll, ListNames, CallForm, CallSegment, CallCharacter, CallNumber, InitialPart, CallRestore, Equal, Greater, Arithmetic, Union, Intersection, Complement, Shift, Rotate}
-use Rattle.trac_language.specs.Text.{Text}
-use Rattle.trac_language.specs.Form.{Form, before_pointer, after_pointer}
 use Rattle.trac_language.specs.Part.{Part}
-use Rattle.trac_language.specs.State.{OpenCall, Memory, Input, arguments, argument}
-use Rattle.trac_language.specs.Meaning.{World, Meaning, Gives, Ends, on_form, take_part, result_or, read_all, read_string, read_character, change_meta, show, show_form, meaning, meaning_of, before_meta, from_meta, form_of_call}
-use Rattle.trac_language.specs.Rule.{Rule, LoadIdling, DeleteLayout, AddProtected, ClearActive, BeginArgument, BeginCall, EndCall, AddCharacter, rule}
-use Rattle.trac_language.specs.Step.{function_of, world_of, perform, end_call, follow, step, with_active}
-use Rattle.trac_space.specs.declared.cell.Cell.{Cell}
-use Rattle.trac_space.specs.Calls.{IsLastCall}
-use Rattle.trac_space.specs.Texts.{text_of_cells, character_of}
-use Rattle.trac_forms.specs.Contents.{Contents, IsTextPart, IsSound, part_text}
-use Rattle.trac_functions.specs.Flat.{memory_of, mode_at, arguments_at}
-use Rattle.trac_functions.specs.Calls.{world}
-use Rattle.trac_core.specs.Machine.{state_with}
-use Rattle.trac_core.specs.Performed.{performed_by, performs, prints_output}
-use Rattle.trac_core.specs.Attempts.{function_at}
-use Rattle.trac_core.specs.Display.{display, shown}
-use Rattle.trac_core.specs.Session.{printed_in, output_after, step_prints}
+use Rattle.trac_core.specs.Session.{output_after, step_prints}
 use Rattle.trac_core.proofs.Displaying.{show-append}
 use Rattle.trac_core.proofs.Performing.{closed, performs-closed, step-performs}
 

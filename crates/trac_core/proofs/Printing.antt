@@ -1,18 +1,5 @@
 -- The calls that print, change the meta character and stop.
-use Rattle.std.proofs.Common.{◌≡◌, ◌≢◌, ℕ, ◌+◌, false, List, [], ◌∷◌, ◌++◌, drop, Some, None, refl, sym, ap, ◌∙◌, arith, slice_get}
-use Rattle.std.proofs.lemmas.List.{get_or-drop}
-use Rattle.trac_language.specs.declared.function.Function.TheVariants.{PrintString, ChangeMeta, Halt}
-use Rattle.trac_language.specs.declared.fate.Fate.TheVariants.{Halted, OutputFailed}
-use Rattle.trac_language.specs.Text.{Text}
-use Rattle.trac_language.specs.State.{argument}
-use Rattle.trac_language.specs.Meaning.{World, change_meta, silent, meaning_of, value_length}
-use Rattle.trac_forms.specs.Contents.{Contents, used}
-use Rattle.trac_devices.specs.Devices.{Stream}
-use Rattle.trac_functions.specs.Flat.{mode_at, arguments_at}
-use Rattle.trac_functions.specs.Calls.{world}
-use Rattle.trac_core.specs.Machine.{ending}
-use Rattle.trac_functions.specs.declared.arguments.Made.TheVariants.{Defined, Over}
-use Rattle.trac_core.specs.Attempts.{scene, IsCall, AnswersCall}
+use Rattle.trac_core.proofs.Words.{◌≡◌, ◌≢◌, ℕ, ◌+◌, false, List, [], ◌∷◌, ◌++◌, drop, Some, None, refl, sym, ap, ◌∙◌, arith, slice_get, get_or-drop, PrintString, ChangeMeta, Halt, Halted, OutputFailed, Text, argument, World, change_meta, silent, meaning_of, value_length, Contents, used, Stream, mode_at, arguments_at, world, ending, Defined, Over, scene, IsCall, AnswersCall}
 use Rattle.trac_core.proofs.Performing.{closed, delivered-null, tried-answer, tried-quiet, tried-end, tried-broken}
 
 -- the first argument after the name

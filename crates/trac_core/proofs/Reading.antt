@@ -1,23 +1,5 @@
 -- The calls that read.
-use Rattle.std.proofs.Common.{◌≡◌, ℕ, ◌+◌, ◌-◌, ◌<◌, ◌≤◌, Bool, true, false, not, ◌||◌, List, [], ◌∷◌, ◌++◌, length, drop, Some, refl, sym, ap, ◌∙◌, arith, append_assoc, length-append, ⊎_elim, eq-eqb}
-use Rattle.std.specs.Prelude.{◌==◌}
-use Rattle.std.specs.List.{before_first, position_or_len, list_any}
-use Rattle.std.proofs.lemmas.List.{length-map}
-use Rattle.std.proofs.lemmas.Bool.{cases_lt}
-use Rattle.trac_language.specs.declared.function.Function.TheVariants.{ReadString, ReadCharacter}
-use Rattle.trac_language.specs.declared.fate.Fate.TheVariants.{InputEnded, InputFailed}
-use Rattle.trac_language.specs.Text.{Text}
-use Rattle.trac_language.specs.Meaning.{World, meaning_of, built, before_meta, from_meta, read_string, read_all, valued, with_input}
-use Rattle.trac_space.specs.declared.cell.Cell.TheVariants.{Byte}
-use Rattle.trac_space.specs.Texts.{flat_text}
-use Rattle.trac_forms.specs.Contents.{Contents, used, IsSound}
-use Rattle.trac_devices.specs.Devices.{Stream, has_byte}
-use Rattle.trac_devices.specs.HeldBytes.{Reads}
-use Rattle.trac_functions.specs.Flat.{arguments_at}
-use Rattle.trac_functions.specs.Calls.{world}
-use Rattle.trac_core.specs.Machine.{ending, failing}
-use Rattle.trac_functions.specs.declared.arguments.Made.TheVariants.{Full, Value, Over}
-use Rattle.trac_core.specs.Attempts.{scene, IsCall, settled, AnswersCall, IsValueFrom, TakesFrom}
+use Rattle.trac_core.proofs.Words.{◌≡◌, ℕ, ◌+◌, ◌-◌, ◌<◌, ◌≤◌, Bool, true, false, not, ◌||◌, List, [], ◌∷◌, ◌++◌, length, drop, Some, refl, sym, ap, ◌∙◌, arith, append_assoc, length-append, ⊎_elim, eq-eqb, ◌==◌, before_first, position_or_len, list_any, length-map, cases_lt, ReadString, ReadCharacter, InputEnded, InputFailed, Text, World, meaning_of, built, before_meta, from_meta, read_string, read_all, valued, with_input, Byte, flat_text, Contents, used, IsSound, Stream, has_byte, Reads, arguments_at, world, ending, failing, Full, Value, Over, scene, IsCall, settled, AnswersCall, IsValueFrom, TakesFrom}
 use Rattle.trac_core.proofs.MetaCharacters.{position-past, before-none, from-none, before-at, from-at, length-before, any-at}
 use Rattle.trac_core.proofs.Performing.{tried-quiet, tried-full, tried-end, tried-failed, delivered-value, text-stands}
 

@@ -1,16 +1,8 @@
 -- What a run reports at its last step.
-use Rattle.std.proofs.Common.{◌≡◌, ℕ, ◌+◌, ◌-◌, max, [], ◌++◌, Some, refl, sym, ap, ◌∙◌, subst, arith, append_assoc}
-use Rattle.std.proofs.lemmas.List.{append_cancel_left}
-use Rattle.trac_language.specs.declared.fate.Fate.{Fate}
-use Rattle.trac_language.specs.declared.fate.Fate.TheVariants.{Halted, InputEnded, Workspace, Steps, InputFailed, OutputFailed}
-use Rattle.trac_language.specs.Text.{Text}
-use Rattle.trac_language.specs.State.{Input, State, first}
-use Rattle.trac_language.specs.Step.{need}
-use Rattle.trac_language.specs.Run.{Run, counted, run}
+use Rattle.trac_core.proofs.Words.{◌≡◌, ℕ, ◌+◌, ◌-◌, max, [], ◌++◌, Some, refl, sym, ap, ◌∙◌, subst, arith, append_assoc, append_cancel_left, Fate, Halted, InputEnded, Workspace, Steps, InputFailed, OutputFailed, Text, Input, State, first, need, Run, run, Report, MachineState, Moment, ending, failing, state_with, state_of, failing_state_of, StopsAtAllowance, StopsAtRoom, StopsAtInput, StopsAtOutput, EndsRun, Answers, Course, IsReportOf, RanThrough, RanToFailure, BrokeOff, ReportsOf, Reports, Resumes, after_steps, first_runs, later_runs, made}
+use Rattle.trac_language.specs.Run.{counted}
 use Rattle.trac_laws.proofs.Reached.{reached_over, reached_full, reached_spent, reached_unwritten}
 use Rattle.trac_laws.proofs.ReachedWhileReading.{anywhere_failed}
-use Rattle.trac_core.specs.declared.machine.Report.{Report}
-use Rattle.trac_core.specs.Machine.{MachineState, Moment, ending, failing, state_with, state_of, failing_state_of, StopsAtAllowance, StopsAtRoom, StopsAtInput, StopsAtOutput, EndsRun, Answers, Course, IsReportOf, RanThrough, RanToFailure, BrokeOff, ReportsOf, Reports, Resumes, after_steps, first_runs, later_runs, made}
 use Rattle.trac_core.proofs.Outputs.{later_run, run-from}
 use Rattle.trac_core.proofs.Moments.{Along}
 

@@ -1,32 +1,9 @@
 -- The rules that perform no call, over the contents of a workspace.
-use Rattle.std.proofs.Common.{◌≡◌, ◌≢◌, ℕ, ◌+◌, ◌-◌, ◌<◌, true, false, List, [], ◌∷◌, ◌++◌, length, take, drop, map, All, Option, Some, None, refl, sym, ap, ◌∙◌, subst, ⊎_elim, arith, slice_get}
-use Rattle.std.specs.Prelude.{MatchOption, is_some, slice_range}
-use Rattle.std.proofs.lemmas.Bool.{cases_eq}
-use Rattle.std.proofs.lemmas.List.{drop-map, take-map, length-drop, drop-drop}
-use Rattle.std.proofs.lemmas.List.Elements.{All-take, All-drop}
-use Rattle.std.proofs.Math.Seq.{take-length}
-use Rattle.trac_language.specs.declared.mode.Mode.{Mode}
-use Rattle.trac_language.specs.declared.mode.Mode.TheVariants.{Active, Neutral as NeutralMode}
-use Rattle.trac_language.specs.Text.{Text}
-use Rattle.trac_language.specs.Form.{Form}
-use Rattle.trac_language.specs.Store.{cells}
-use Rattle.trac_language.specs.Protected.{protected}
-use Rattle.trac_language.specs.State.{Input, OpenCall, add, begin_argument, begin_call}
-use Rattle.trac_language.specs.Rule.{Rule, LoadIdling, DeleteLayout, AddProtected, ClearActive, BeginArgument, BeginCall, EndCall, AddCharacter, parenthesis_rule, is_layout, rule}
-use Rattle.trac_language.specs.Step.{Next, idling, end_call, with_active, follow, end_need, need_by, step, need, world_of}
-use Rattle.trac_laws.specs.LastRead.{end_reads_last, reads_last_by}
+use Rattle.trac_core.proofs.Words.{◌≡◌, ◌≢◌, ℕ, ◌+◌, ◌-◌, ◌<◌, true, false, List, [], ◌∷◌, ◌++◌, length, take, drop, map, All, Option, Some, None, refl, sym, ap, ◌∙◌, subst, ⊎_elim, arith, slice_get, MatchOption, is_some, slice_range, cases_eq, drop-map, take-map, length-drop, drop-drop, All-take, All-drop, take-length, Mode, Active, Text, Form, cells, protected, Input, OpenCall, add, begin_argument, begin_call, Rule, LoadIdling, DeleteLayout, AddProtected, ClearActive, BeginArgument, BeginCall, EndCall, AddCharacter, parenthesis_rule, is_layout, rule, Next, idling, end_call, with_active, follow, end_need, need_by, step, need, world_of, end_reads_last, reads_last_by, Cell, Byte, Call, Comma, NoCall, IsLastCall, flat_text, text_of_cells, character_of, IsByte, Contents, used, IsSound, Neutral, with_cell, neutral_of, memory_with, memory_of, state_with, Scans}
+use Rattle.trac_language.specs.declared.mode.Mode.TheVariants.{Neutral as NeutralMode}
 use Rattle.trac_laws.proofs.Rules.{rule_comma, rule_end, rule_active, rule_neutral, rule_sign_last, rule_two_signs_last, rule_sign, rule_two_signs, rule_other}
-use Rattle.trac_space.specs.declared.cell.Cell.{Cell}
-use Rattle.trac_space.specs.declared.cell.Cell.TheVariants.{Byte, Call, Comma}
-use Rattle.trac_space.specs.Cells.{NoCall}
-use Rattle.trac_space.specs.Calls.{IsLastCall}
-use Rattle.trac_space.specs.Texts.{flat_text, text_of_cells, character_of, IsByte}
-use Rattle.trac_forms.specs.Contents.{Contents, used, IsSound}
-use Rattle.trac_functions.specs.Flat.{Neutral, with_cell, neutral_of, memory_with, memory_of}
 use Rattle.trac_functions.proofs.FlatLemmas.{with_cells-append, neutral_of-push, neutral_of-innermost, size-used, with_cells-text, calls-none}
 use Rattle.trac_functions.proofs.ArgumentLemmas.{flat-bytes}
-use Rattle.trac_core.specs.Machine.{state_with}
-use Rattle.trac_core.specs.Attempts.{Scans}
 
 -- ---- texts
 

@@ -1,21 +1,8 @@
 -- The function that a step performs, by what stands in the active and in the neutral string.
-use Rattle.std.proofs.Common.{◌≡◌, ◌≢◌, ℕ, Bool, true, false, [], ◌∷◌, List, drop, take, slice_get, Option, Some, None, refl, sym, ap, ◌∙◌}
-use Rattle.std.specs.Prelude.{◌==◌, if◌then◌else◌, bytes_eq, codes}
-use Rattle.std.proofs.lemmas.Bool.{ne_eqb}
-use Rattle.trac_language.specs.declared.mode.Mode.TheVariants.{Active, Neutral}
-use Rattle.trac_language.specs.Text.{Text}
-use Rattle.trac_language.specs.Protected.{protected}
-use Rattle.trac_language.specs.State.{OpenCall}
-use Rattle.trac_language.specs.Rule.{DeleteLayout, BeginArgument, BeginCall, EndCall, AddCharacter, is_layout, number_sign_rule, parenthesis_rule, rule}
+use Rattle.trac_core.proofs.Words.{◌≡◌, ◌≢◌, ℕ, Bool, true, false, [], ◌∷◌, List, drop, take, slice_get, Option, Some, None, refl, sym, ap, ◌∙◌, ◌==◌, if◌then◌else◌, bytes_eq, codes, ne_eqb, Active, Text, protected, OpenCall, DeleteLayout, BeginArgument, BeginCall, EndCall, AddCharacter, is_layout, number_sign_rule, parenthesis_rule, rule, NoCall, IsLastCall, text_of_cells, Contents, IsSound, memory_of, neutral_of, performed_by, performs, function_at}
+use Rattle.trac_language.specs.declared.mode.Mode.TheVariants.{Neutral}
 use Rattle.trac_laws.proofs.Rules.{rule_end}
-use Rattle.trac_space.specs.Cells.{NoCall}
-use Rattle.trac_space.specs.Calls.{IsLastCall}
-use Rattle.trac_space.specs.Texts.{text_of_cells}
-use Rattle.trac_forms.specs.Contents.{Contents, IsSound}
-use Rattle.trac_functions.specs.Flat.{memory_of, neutral_of}
 use Rattle.trac_functions.proofs.FlatLemmas.{calls-none}
-use Rattle.trac_core.specs.Performed.{performed_by, performs}
-use Rattle.trac_core.specs.Attempts.{function_at}
 use Rattle.trac_core.proofs.Performing.{performs-closed, function-performs}
 use Rattle.trac_core.proofs.Scanning.{first-rest}
 

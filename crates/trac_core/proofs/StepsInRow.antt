@@ -1,24 +1,7 @@
 -- Steps in a row: ordinary characters are added one by one, layout characters deleted, and the steps of any rule that
 -- performs no call follow one another.
-use Rattle.std.proofs.Common.{◌≡◌, ◌≢◌, ℕ, zero, suc, ◌<◌, ◌≤◌, ◌+◌, ◌-◌, max, ◌⊎◌, inl, inr, Bool, true, false, ◌||◌, List, [], ◌∷◌, ◌++◌, length, take, drop, All, Some, None, slice_get, refl, sym, ap, ◌∙◌, subst, arith, append_assoc, append-nil, length-append}
-use Rattle.std.specs.Prelude.{◌==◌}
-use Rattle.std.proofs.lemmas.List.{length-drop, take-take}
-use Rattle.std.proofs.lemmas.List.Elements.{All-head, All-tail, All-cons}
-use Rattle.trac_language.specs.Text.{Text}
-use Rattle.trac_language.specs.State.{Memory, size}
-use Rattle.trac_language.specs.Rule.{is_layout}
-use Rattle.trac_language.specs.Step.{step, need}
-use Rattle.trac_laws.specs.LastRead.{reads_to_end}
-use Rattle.trac_space.specs.declared.cell.Cell.{Cell}
-use Rattle.trac_space.specs.declared.cell.Cell.TheVariants.{Byte, Call, Comma, Gap, Head}
-use Rattle.trac_space.specs.Texts.{text_of_cells, IsByte}
-use Rattle.trac_forms.specs.Contents.{Contents, used, IsSound}
-use Rattle.trac_devices.specs.Devices.{Stream}
-use Rattle.trac_functions.specs.Flat.{memory_of}
+use Rattle.trac_core.proofs.Words.{◌≡◌, ◌≢◌, ℕ, zero, suc, ◌<◌, ◌≤◌, ◌+◌, ◌-◌, max, ◌⊎◌, inl, inr, Bool, true, false, ◌||◌, List, [], ◌∷◌, ◌++◌, length, take, drop, All, Some, None, slice_get, refl, sym, ap, ◌∙◌, subst, arith, append_assoc, append-nil, length-append, ◌==◌, length-drop, take-take, All-head, All-tail, All-cons, Text, Memory, size, is_layout, step, need, reads_to_end, Cell, Byte, Call, Comma, Gap, Head, text_of_cells, IsByte, Contents, used, IsSound, Stream, memory_of, moment, ending, state_with, state_of, Scans, scene, Tried, is_special, IsOrdinary, IsLayout, Passes, PassesTimes, Advances, SomeSteps, peak_after}
 use Rattle.trac_functions.proofs.FlatLemmas.{size-used}
-use Rattle.trac_core.specs.Machine.{moment, ending, state_with, state_of}
-use Rattle.trac_core.specs.Attempts.{Scans, scene, Tried}
-use Rattle.trac_core.specs.StepsInRow.{is_special, IsOrdinary, IsLayout, Passes, PassesTimes, Advances, SomeSteps, peak_after}
 use Rattle.trac_core.proofs.Scanning.{scans-other, scans-layout, first-rest}
 
 -- no rule of its own

@@ -1,8 +1,4 @@
-use Rattle.std.proofs.Common.{◌++◌, false, take, drop, sym, ap, ◌∙◌, arith}
-use Rattle.std.proofs.lemmas.List.{take-take}
-use Rattle.trac_space.specs.Texts.{flat_text, text_of_cells}
-use Rattle.trac_forms.specs.Contents.{Contents}
-use Rattle.trac_functions.specs.Flat.{mode_at}
+use Rattle.trac_core.proofs.Words.{◌++◌, false, take, drop, sym, ap, ◌∙◌, arith, take-take, flat_text, text_of_cells, Contents, mode_at}
 use Rattle.trac_functions.proofs.ArgumentLemmas.{flat-bytes}
 use Rattle.trac_core.proofs.Performing.{delivered-active, delivered-neutral}
 use Rattle.trac_core.proofs.delivery.deliver.Goals as goal

@@ -1,6 +1,4 @@
-use Rattle.std.proofs.Common.{sym, ◌∙◌}
-use Rattle.trac_functions.specs.Flat.{arguments_at}
-use Rattle.trac_functions.specs.Calls.{texts}
+use Rattle.trac_core.proofs.Words.{sym, ◌∙◌, arguments_at, texts}
 use Rattle.trac_core.proofs.Performing.{stands-null}
 use Rattle.trac_core.proofs.Printing.{answers-print, answers-print-broken, argument-one}
 use Rattle.trac_core.proofs.input_output.print_string.Goals as goal

@@ -1,5 +1,4 @@
-use Rattle.std.proofs.Common.{◌∷◌, [], ap, arith}
-use Rattle.trac_devices.specs.Devices.{Stream}
+use Rattle.trac_core.proofs.Words.{◌∷◌, [], ap, arith, Stream}
 use Rattle.trac_core.proofs.Reading.{character-read, character-full, character-ended, character-failed, not-less}
 use Rattle.trac_core.proofs.input_output.read_character.Goals as goal
 

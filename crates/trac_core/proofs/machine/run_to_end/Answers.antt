@@ -1,10 +1,4 @@
-use Rattle.std.proofs.Common.{◌≡◌, ◌-◌, Some, None, refl, sym, ap, ◌∙◌, subst, arith, inl}
-use Rattle.std.proofs.lemmas.List.{length-drop}
-use Rattle.trac_forms.specs.Contents.{Contents}
-use Rattle.trac_functions.specs.Flat.{memory_of}
-use Rattle.trac_core.specs.Attempts.{scene, Tried}
-use Rattle.trac_core.specs.Machine.{moment, input_failures, output_failures}
-use Rattle.trac_core.specs.StepsInRow.{running}
+use Rattle.trac_core.proofs.Words.{◌≡◌, ◌-◌, Some, None, refl, sym, ap, ◌∙◌, subst, arith, inl, length-drop, Contents, memory_of, scene, Tried, moment, input_failures, output_failures, running}
 use Rattle.trac_core.proofs.Moments.{Along, along-none}
 use Rattle.trac_core.proofs.RunningOn.{with_left, need-fits, need-counted, along-run, along-step, ends-step, ends-allowance}
 use Rattle.trac_core.proofs.Sending.{sent-more}

@@ -1,9 +1,4 @@
-use Rattle.std.proofs.Common.{◌≡◌, ℕ, List, ◌+◌, ◌-◌, ◌/◌, ◌%◌, ◌<◌, ◌≤◌, Option, Some, None, MatchOption, length, take, drop, arith}
-use Rattle.std.proofs.lemmas.List.{length-map}
-use Rattle.trac_space.specs.declared.cell.Cell.{Cell}
-use Rattle.trac_space.specs.Texts.{text_of_cells, character_of}
-use Rattle.trac_language.specs.Protected.{protected}
-use Rattle.trac_core.specs.Matching.{IsAt}
+use Rattle.trac_core.proofs.Words.{◌≡◌, ℕ, List, ◌+◌, ◌-◌, ◌/◌, ◌%◌, ◌<◌, ◌≤◌, Option, Some, None, MatchOption, length, take, drop, arith, length-map, Cell, text_of_cells, character_of, protected, IsAt}
 use Rattle.trac_core.proofs.Matching.{passes-block, passes-few, unmatched}
 use Rattle.trac_core.proofs.runs.matching.Goals as goal
 use Rattle.trac_core.proofs.runs.matching.Goals.{then-found-gt0, then-rights-depth+in_default, else-rights-depth, else-found-gt0}

@@ -1,7 +1,4 @@
-use Rattle.std.proofs.Common.{◌≡◌, ◌+◌, ◌<◌, length, get_or, sym, ◌∙◌, arith}
-use Rattle.std.proofs.lemmas.List.{length-map, get_or-map}
-use Rattle.trac_space.specs.declared.cell.Cell.TheVariants.{Byte}
-use Rattle.trac_space.specs.Texts.{text_of_cells, character_of}
+use Rattle.trac_core.proofs.Words.{◌≡◌, ◌+◌, ◌<◌, length, get_or, sym, ◌∙◌, arith, length-map, get_or-map, Byte, text_of_cells, character_of}
 use Rattle.trac_core.proofs.Matching.{matched, passes-left, passes-right, passes-other}
 use Rattle.trac_core.proofs.runs.matching_among.Goals as goal
 use Rattle.trac_core.proofs.runs.matching_among.Goals.{then-character-eq40, else-character-eq40+then-character-eq41+else-depth-eq0, else-character-eq40+else-character-eq41}

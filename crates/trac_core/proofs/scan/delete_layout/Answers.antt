@@ -1,7 +1,4 @@
-use Rattle.std.proofs.Common.{◌≡◌, ◌+◌, length, take, drop, sym, ap, ◌∙◌, arith}
-use Rattle.std.proofs.lemmas.List.{length-map, length-drop}
-use Rattle.trac_space.specs.Texts.{text_of_cells, character_of}
-use Rattle.trac_core.specs.StepsInRow.{IsLayout}
+use Rattle.trac_core.proofs.Words.{◌≡◌, ◌+◌, length, take, drop, sym, ap, ◌∙◌, arith, length-map, length-drop, text_of_cells, character_of, IsLayout}
 use Rattle.trac_core.proofs.Scanning.{some-active}
 use Rattle.trac_core.proofs.StepsInRow.{layouts-pass, All-after}
 use Rattle.trac_core.proofs.scan.delete_layout.Goals as goal

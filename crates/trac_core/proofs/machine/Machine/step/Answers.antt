@@ -1,8 +1,5 @@
-use Rattle.std.proofs.Common.{◌<◌, ◌≤◌, ◌+◌, [], length, refl, arith, sym, ap, subst}
-use Rattle.trac_forms.specs.Contents.{Contents, used}
-use Rattle.trac_functions.specs.Flat.{memory_of}
+use Rattle.trac_core.proofs.Words.{◌<◌, ◌≤◌, ◌+◌, [], length, refl, arith, sym, ap, subst, Contents, used, memory_of, MachineState}
 use Rattle.trac_functions.proofs.FlatLemmas.{size-used}
-use Rattle.trac_core.specs.Machine.{MachineState}
 use Rattle.trac_core.proofs.StepsInRow.{tried-passed}
 use Rattle.trac_core.proofs.machine.Machine.step.Goals as goal
 
