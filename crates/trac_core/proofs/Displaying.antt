@@ -106,7 +106,6 @@ module _ (w : Contents) (place : ℕ) where
   pub answers-display : IsCall w place (Some PrintForm) → (meta : ℕ) (source : Stream) (written : Text) → AnswersCall place (scene w meta source written) (Defined 0) (scene w meta source (written ++ display (form_named (argument (arguments_at w.neutral place) 1) w.forms)))
   unfolding meaning_of
   answers-display call meta source written =
-      let fits = call.sound.fits in
       let means = displays (form_named (argument (arguments_at w.neutral place) 1) w.forms) (world w.forms meta (ending source.bytes)) in
       tried-answer w (closed w place) place (Some PrintForm) meta meta source source written (display (form_named (argument (arguments_at w.neutral place) 1) w.forms)) (used w + 0) [] false w.forms call.names
       (record {
@@ -121,6 +120,5 @@ module _ (w : Contents) (place : ℕ) where
   pub answers-display-broken : IsCall w place (Some PrintForm) → (meta : ℕ) (source : Stream) (written put rest : Text) → display (form_named (argument (arguments_at w.neutral place) 1) w.forms) ≡ put ++ rest → put ++ rest ≢ [] → AnswersCall place (scene w meta source written) (Over OutputFailed) (scene w meta source (written ++ put))
   unfolding meaning_of
   answers-display-broken call meta source written put rest parts some =
-      let fits = call.sound.fits in
       let means = displays (form_named (argument (arguments_at w.neutral place) 1) w.forms) (world w.forms meta (ending source.bytes)) in
       tried-broken w w place (Some PrintForm) meta source written put rest (used w) _ call.names means parts some (let none_built = ap value_length means in omega arith) (omega arith)

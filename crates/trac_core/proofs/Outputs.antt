@@ -28,14 +28,8 @@ module _ (before : Text) where
   end_call-later (call ∷ outer) s = perform-later call.mode _ (record s { memory = record s.memory { calls = outer } })
 
   follow-later : (r : Rule) (s : State) → follow r (record s { output = before ++ s.output }) ≡ later_outcome (follow r s)
-  follow-later LoadIdling s = refl
-  follow-later (DeleteLayout rest) s = refl
-  follow-later (AddProtected inside rest) s = refl
-  follow-later ClearActive s = refl
-  follow-later (BeginArgument rest) s = refl
-  follow-later (BeginCall mode rest) s = refl
   follow-later (EndCall rest) s = end_call-later s.memory.calls (with_active rest s)
-  follow-later (AddCharacter c rest) s = refl
+  follow-later _ s = refl
 
   step-later : (s : State) → step (record s { output = before ++ s.output }) ≡ later_outcome (step s)
   unfolding step
@@ -46,14 +40,8 @@ module _ (before : Text) where
   end_need-later (call ∷ outer) s = refl
 
   need_by-later : (r : Rule) (s : State) → need_by r (record s { output = before ++ s.output }) ≡ need_by r s
-  need_by-later LoadIdling s = refl
-  need_by-later (DeleteLayout rest) s = refl
-  need_by-later (AddProtected inside rest) s = refl
-  need_by-later ClearActive s = refl
-  need_by-later (BeginArgument rest) s = refl
-  need_by-later (BeginCall mode rest) s = refl
   need_by-later (EndCall rest) s = end_need-later s.memory.calls s
-  need_by-later (AddCharacter c rest) s = refl
+  need_by-later _ s = refl
 
   need-later : (s : State) → need (record s { output = before ++ s.output }) ≡ need s
   unfolding need

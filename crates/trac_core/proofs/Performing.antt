@@ -1,5 +1,5 @@
 -- A call that is performed, over the contents of a workspace.
-use Rattle.trac_core.proofs.Words.{◌≡◌, ◌≢◌, ℕ, ◌+◌, ◌-◌, ◌<◌, ◌≤◌, max, Bool, true, false, not, ◌&&◌, ◌||◌, List, [], ◌∷◌, ◌++◌, length, take, drop, All, Option, Some, None, refl, sym, ap, ◌∙◌, subst, arith, append-nil, length-append, ◌==◌, slice_get, unwrap_or, nat_le, unwrap_or-slice_get, list_any, length-map, length-drop, get_or_append_left, drop-append_seam, take-append_seam, take-length, Mode, Active, Function, ReadString, ReadCharacter, ChangeMeta, PrintString, PrintForm, Halt, Fate, Workspace, Steps, InputFailed, OutputFailed, Text, Form, function_named, Input, State, arguments, argument, size, Answer, Gives, Ends, meaning_of, meaning, built, EndCall, rule, Next, function_of, deliver, perform, end_call, follow, end_need, need_by, step, need, is_read_string, reads_last, end_reads_last, reads_last_by, reads_to_end, Cell, Byte, Call, Comma, Gap, Head, flat_text, text_of_cells, character_of, IsByte, IsLastCall, Contents, used, IsSound, Stream, Full, Value, Placed, Defined, Over, texts_of, Neutral, no_neutral, neutral_of, memory_with, memory_of, mode_of, mode_at, is_active_mode, arguments_at, texts_from, world, IsValue, IsPlaced, IsDefined, Makes, is_plain, performed_by, performs, MachineState, moment, ending, failing, state_with, state_of, failing_state_of, EndsRun, input_failures, output_failures, scene, TriedCall, ClosesCall, function_at, delivered, settled, AnswersCall, IsValueFrom, Stands, fate_after}
+use Rattle.trac_core.proofs.Words.{◌≡◌, ◌≢◌, ℕ, ◌+◌, ◌-◌, ◌<◌, ◌≤◌, max, Bool, true, false, not, ◌&&◌, ◌||◌, List, [], ◌∷◌, ◌++◌, length, take, drop, All, Option, Some, None, refl, sym, ap, ◌∙◌, subst, arith, append-nil, length-append, ◌==◌, slice_get, unwrap_or, nat_le, unwrap_or-slice_get, list_any, length-map, length-drop, get_or_append_left, drop-append_seam, take-append_seam, take-length, Mode, Active, Function, ReadString, ReadCharacter, ChangeMeta, PrintString, PrintForm, Halt, Fate, Workspace, Steps, InputFailed, OutputFailed, Text, Form, function_named, Input, State, arguments, argument, size, Answer, Gives, Ends, meaning_of, meaning, built, EndCall, rule, Next, function_of, deliver, perform, end_call, follow, end_need, need_by, step, need, is_read_string, reads_last, end_reads_last, reads_last_by, reads_to_end, Cell, Byte, Call, Comma, Gap, Head, flat_text, text_of_cells, character_of, IsByte, IsLastCall, Contents, used, IsSound, Stream, Full, Value, Placed, Defined, Over, texts_of, Neutral, no_neutral, neutral_of, memory_with, memory_of, mode_of, mode_at, is_active_mode, arguments_at, texts_from, world, IsValue, IsPlaced, IsDefined, Makes, is_plain, performed_by, performs, MachineState, moment, ending, failing, state_with, state_of, failing_state_of, EndsRun, input_failures, output_failures, scene, TriedCall, ClosesCall, function_at, delivered, settled, AnswersCall, IsValueFrom, Stands, fate_after, or_right, true≢false}
 use Rattle.trac_language.specs.declared.mode.Mode.TheVariants.{Neutral as NeutralMode}
 use Rattle.trac_laws.proofs.Rules.{rule_end}
 use Rattle.trac_space.proofs.Texts.{text_of_cells-append}
@@ -94,7 +94,6 @@ tried-answer w new place f meta meta' source source' written put needed value fo
     let here : state_of (moment m source written) ≡ s = ap (λ memory. state_with memory input written) memory_is in
     let need_is : need s ≡ needed = need-performs old w place p f names meta input written ∙ sym a.needs in
     let room = room-performs old w place p in
-    let fits = a.fits in
     let mode = mode_at w.neutral place in
     record {
       may = record { allowed = allowed; fits = rw here (omega arith) };
@@ -211,10 +210,9 @@ delivered-active NeutralMode true value place w h = refl
 delivered-active NeutralMode false value place w h = absurd cc
 
 pub delivered-neutral : (mode : Mode) (forced : Bool) (value : Text) (place : ℕ) (w : Contents) → (forced || is_active_mode mode) ≡ false → delivered mode forced value place w ≡ record w { neutral = take place w.neutral ++ flat_text value }
-delivered-neutral Active true value place w h = absurd cc
-delivered-neutral Active false value place w h = absurd cc
-delivered-neutral NeutralMode true value place w h = absurd cc
 delivered-neutral NeutralMode false value place w h = refl
+delivered-neutral NeutralMode true value place w h = absurd cc
+delivered-neutral Active forced value place w h = absurd (true≢false (sym (or_right forced true refl) ∙ h))
 
 -- the function's name and what follows it
 pub whole-arguments : (neutral : List Cell) (place : ℕ) (rest : List Text) → rest ≡ drop 1 (arguments_at neutral place) → argument (arguments_at neutral place) 0 ∷ rest ≡ arguments_at neutral place
@@ -227,11 +225,6 @@ whole-arguments neutral place rest e = ap (λ l. argument (arguments_at neutral 
 -- a plain function reads nothing
 plain-reads : (f : Function) → is_plain f ≡ true → is_read_string f ≡ false
 plain-reads ReadString h = absurd cc
-plain-reads ReadCharacter h = absurd cc
-plain-reads ChangeMeta h = absurd cc
-plain-reads PrintString h = absurd cc
-plain-reads PrintForm h = absurd cc
-plain-reads Halt h = absurd cc
 plain-reads _ h = refl
 
 -- a value that stands behind what was there is delivered
@@ -258,7 +251,6 @@ module _ (w mid : Contents) (place : ℕ) (f : Function) (rest : List Text) (sca
       let built_is = sym (ap (λ args. built (Some f) args here) (sym all) ∙ is.valued.builds meta (ending source.bytes)) in
       let long : length mid.neutral - end ≡ length value =
       ap (λ n. length n - end) neutral ∙ rw (end_is, length-append w.neutral (flat_text value), length-map value Byte) (omega arith) in
-      let fits = is.fits in
       tried-quiet w new place (Some f) meta meta source source written needed value forced mid.forms names
       (record {
         means = ap (λ args. meaning_of f args here) (sym all) ∙ is.valued.means meta (ending source.bytes);
@@ -276,7 +268,6 @@ module _ (w mid : Contents) (place : ℕ) (f : Function) (rest : List Text) (sca
       let here = world w.forms meta (ending source.bytes) in
       let built_is = sym (ap (λ args. built (Some f) args here) (sym all) ∙ is.valued.builds meta (ending source.bytes)) in
       let goes : (forced || is_active_mode (mode_at w.neutral place)) ≡ true = ap (λ b. forced || b) (sym mode_is) ∙ is.goes in
-      let fits = is.fits in
       tried-quiet w (closed mid place) place (Some f) meta meta source source written (used w + size) value forced mid.forms names
       (record {
         means = ap (λ args. meaning_of f args here) (sym all) ∙ is.valued.means meta (ending source.bytes);
@@ -293,7 +284,6 @@ module _ (w mid : Contents) (place : ℕ) (f : Function) (rest : List Text) (sca
       let all = whole-arguments w.neutral place rest rest_is in
       let here = world w.forms meta (ending source.bytes) in
       let built_is = sym (ap (λ args. built (Some f) args here) (sym all) ∙ is.builds meta (ending source.bytes)) in
-      let fits = is.fits in
       tried-quiet w new place (Some f) meta meta source source written needed [] false mid.forms names
       (record {
         means = ap (λ args. meaning_of f args here) (sym all) ∙ is.means meta (ending source.bytes);
@@ -324,7 +314,6 @@ module _ (w mid : Contents) (place : ℕ) (f : Function) (rest : List Text) (sca
 -- a call of no function
 pub answers-nothing : (w : Contents) (place : ℕ) → function_named (argument (arguments_at w.neutral place) 0) ≡ None → IsSound w → (meta : ℕ) (source : Stream) (written : Text) → AnswersCall place (scene w meta source written) (Defined 0) (scene w meta source written)
 answers-nothing w place names sound meta source written =
-    let fits = sound.fits in
     tried-quiet w (closed w place) place None meta meta source source written (used w + 0) [] false w.forms names
     (record {
       means = refl;
@@ -361,12 +350,10 @@ stands-made f args scanned w mid Full is = tt
 stands-made f args scanned w mid Value is = value-stands f args w mid false is.0 is.1
 stands-made f args scanned w mid (Placed size) is =
     let placed = is.1.1 in
-    let fits = placed.fits in
     let neutral = ap (λ (w : Contents). length w.neutral) placed.stands in
     let room = ap (λ (w : Contents). w.room) placed.stands in
     record { within = omega arith; fits = omega arith }
 stands-made f args scanned w mid (Defined cells) is =
-    let fits = is.fits in
     let neutral = ap (λ (w : Contents). length w.neutral) is.stands in
     let room = ap (λ (w : Contents). w.room) is.stands in
     record { within = omega arith; fits = omega arith }
@@ -374,27 +361,20 @@ stands-made f args scanned w mid (Over fate) is = tt
 
 -- a function without devices ends no run
 pub no-failure-made : (f : Function) (args : List Text) (scanned : Bool) (w mid : Contents) (made : Made) → Makes f args scanned w made mid → (input_failures None (fate_after made) ≡ 0) × ((output_failures None (fate_after made) ≡ 0) × (made ≢ Over Steps))
-no-failure-made f args scanned w mid Full is = (refl, (refl, λ e. absurd cc))
-no-failure-made f args scanned w mid Value is = (refl, (refl, λ e. absurd cc))
-no-failure-made f args scanned w mid (Placed size) is = (refl, (refl, λ e. absurd cc))
-no-failure-made f args scanned w mid (Defined cells) is = (refl, (refl, λ e. absurd cc))
 no-failure-made f args scanned w mid (Over fate) is = absurd is
+no-failure-made f args scanned w mid _ is = (refl, (refl, λ e. absurd cc))
 
 -- what ends the run, or isn't done, was made of nothing but too few cells
 pub only-full : (f : Function) (args : List Text) (scanned : Bool) (w mid : Contents) (made : Made) → Makes f args scanned w made mid → fate_after made ≢ None → made ≡ Full
 only-full f args scanned w mid Full is some = refl
-only-full f args scanned w mid Value is some = absurd (some refl)
-only-full f args scanned w mid (Placed size) is some = absurd (some refl)
-only-full f args scanned w mid (Defined cells) is some = absurd (some refl)
 only-full f args scanned w mid (Over fate) is some = absurd is
+only-full f args scanned w mid _ is some = absurd (some refl)
 
 -- and then nothing is settled
 pub unsettled : (made : Made) (place from : ℕ) (w : Contents) → fate_after made ≢ None → settled made place from w ≡ w
 unsettled Full place from w some = refl
-unsettled Value place from w some = absurd (some refl)
-unsettled (Placed cells) place from w some = absurd (some refl)
-unsettled (Defined cells) place from w some = absurd (some refl)
 unsettled (Over fate) place from w some = refl
+unsettled _ place from w some = absurd (some refl)
 
 -- a null value stands anywhere
 pub stands-null : (w : Contents) → IsSound w → Stands (Defined 0) (used w) (length w.neutral) w
@@ -404,10 +384,7 @@ stands-null w sound = let fits = sound.fits in record { within = omega arith; fi
 
 byte-first : (cell : Cell) (c : ℕ) → IsByte cell → character_of cell ≡ c → cell ≡ Byte c
 byte-first (Byte b) c h e = ap Byte e
-byte-first (Call mode k) c h e = absurd h
-byte-first Comma c h e = absurd h
-byte-first (Gap k) c h e = absurd h
-byte-first (Head k) c h e = absurd h
+byte-first _ c h e = absurd h
 
 first-byte : (cells : List Cell) (c : ℕ) → All IsByte cells → slice_get (text_of_cells cells) 0 ≡ Some c → cells ≡ Byte c ∷ drop 1 cells
 first-byte [] c h e = absurd cc

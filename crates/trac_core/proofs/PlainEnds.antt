@@ -3,10 +3,7 @@ use Rattle.trac_core.proofs.Words.{◌≡◌, ℕ, ◌-◌, ◌+◌, true, false
 
 no-comma : (cell : Cell) → IsByte cell → is_comma cell ≡ false
 no-comma (Byte c) h = refl
-no-comma (Call mode k) h = absurd h
-no-comma Comma h = absurd h
-no-comma (Gap k) h = absurd h
-no-comma (Head k) h = absurd h
+no-comma _ h = absurd h
 
 -- characters are no comma marks
 pub bytes-plain : (cells : List Cell) → All IsByte cells → NoComma cells

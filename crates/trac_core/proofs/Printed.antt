@@ -69,12 +69,7 @@ plain-prints ReadString args w e = read_string-prints (before_meta w) (from_meta
 plain-prints ReadCharacter args w e = read_character-prints w.input.text w.input.fails w
 plain-prints ChangeMeta args w e = change_meta-prints (argument args 1) w
 plain-prints PrintString args w e = absurd cc
-plain-prints Halt args w e = refl
-plain-prints DefineString args w e = refl
 plain-prints SegmentString args w e = on_form-prints (form_of_call args w) _ w (λ form. refl)
-plain-prints DeleteDefinition args w e = refl
-plain-prints DeleteAll args w e = refl
-plain-prints ListNames args w e = refl
 plain-prints PrintForm args w e = absurd cc
 plain-prints CallForm args w e = on_form-prints (form_of_call args w) _ w (λ form. refl)
 plain-prints CallSegment args w e = on_form-prints (form_of_call args w) _ w (λ form. take_part-prints (argument args 1) (argument args 2) _ w)
@@ -82,14 +77,8 @@ plain-prints CallCharacter args w e = on_form-prints (form_of_call args w) _ w (
 plain-prints CallNumber args w e = on_form-prints (form_of_call args w) _ w (λ form. take_part-prints (argument args 1) (argument args 3) _ w)
 plain-prints InitialPart args w e = on_form-prints (form_of_call args w) _ w (λ form. take_part-prints (argument args 1) (argument args 3) _ w)
 plain-prints CallRestore args w e = on_form-prints (form_of_call args w) _ w (λ form. refl)
-plain-prints Equal args w e = refl
-plain-prints Greater args w e = refl
 plain-prints (Arithmetic operation) args w e = result_or-prints _ _ (argument args 3) w
-plain-prints Union args w e = refl
-plain-prints Intersection args w e = refl
-plain-prints Complement args w e = refl
-plain-prints Shift args w e = refl
-plain-prints Rotate args w e = refl
+plain-prints _ args w e = refl
 
 -- a function that doesn't print, or none
 pub other-prints : (f : Option Function) (args : List Text) (w : World) → f ≢ Some PrintString → f ≢ Some PrintForm → [] ≡ printed_in (meaning f args w)
@@ -99,29 +88,7 @@ other-prints (Some f) args w string form = sym (plain-prints f args w (go f stri
     go : (f : Function) → Some f ≢ Some PrintString → Some f ≢ Some PrintForm → prints_output (Some f) ≡ false
     go PrintString string form = absurd (string refl)
     go PrintForm string form = absurd (form refl)
-    go ReadString string form = refl
-    go ReadCharacter string form = refl
-    go ChangeMeta string form = refl
-    go Halt string form = refl
-    go DefineString string form = refl
-    go SegmentString string form = refl
-    go DeleteDefinition string form = refl
-    go DeleteAll string form = refl
-    go ListNames string form = refl
-    go CallForm string form = refl
-    go CallSegment string form = refl
-    go CallCharacter string form = refl
-    go CallNumber string form = refl
-    go InitialPart string form = refl
-    go CallRestore string form = refl
-    go Equal string form = refl
-    go Greater string form = refl
-    go (Arithmetic operation) string form = refl
-    go Union string form = refl
-    go Intersection string form = refl
-    go Complement string form = refl
-    go Shift string form = refl
-    go Rotate string form = refl
+    go _ string form = refl
 
 pub string-prints : (args : List Text) (w : World) → printed_in (meaning (Some PrintString) args w) ≡ argument args 1
 unfolding meaning_of
@@ -143,12 +110,6 @@ perform-prints mode (Ends fate) memory input = refl
 
 -- one that performs no call of a function prints nothing
 rule-prints : (r : Rule) (memory : Memory) (input : Input) → performed_by r memory.calls ≡ None → output_after (follow r (state_with memory input [])) ≡ []
-rule-prints LoadIdling memory input none = refl
-rule-prints (DeleteLayout rest) memory input none = refl
-rule-prints (AddProtected inside rest) memory input none = refl
-rule-prints ClearActive memory input none = refl
-rule-prints (BeginArgument rest) memory input none = refl
-rule-prints (BeginCall mode rest) memory input none = refl
 rule-prints (EndCall rest) memory input none = go memory.calls none
   where
     go : (calls : List OpenCall) → performed_by (EndCall rest) calls ≡ None → output_after (end_call calls (with_active rest (state_with memory input []))) ≡ []
@@ -157,7 +118,7 @@ rule-prints (EndCall rest) memory input none = go memory.calls none
         let here = world_of (with_active rest (state_with memory input [])) in
         perform-prints call.mode (meaning (function_of call) (arguments call) here) (record memory { active = rest; calls = outer }) input
         ∙ ap (λ f. printed_in (meaning f (arguments call) here)) none
-rule-prints (AddCharacter c rest) memory input none = refl
+rule-prints _ memory input none = refl
 
 pub step-prints-none : (memory : Memory) (input : Input) → None ≡ performs memory → [] ≡ step_prints memory input
 unfolding step

@@ -34,7 +34,6 @@ module _ (start : MachineState) (bytes before : Text) (w new : Contents) (meta a
   pub along-run : (done need top : ℕ) (source : Stream) (written : Text) → new.room ≡ w.room → IsSound w → done ≤ left → 0 < done → Advances done w new → IsNeed need (used w) peak → top ≡ max peak need → Along start bytes before (moment (running w meta (with_left allowance left peak)) source written) → Along start bytes before (moment (running new meta (with_left allowance (left - done) top)) source written)
   along-run done need top source written stays sound within some passes known is along =
       let m = running w meta (with_left allowance left peak) in
-      let fits = sound.fits in
       let target = memory_of meta new in
       let all = along-passes done start bytes before m target source written room_is (omega (arith, size-used meta w)) (omega arith) (passes meta) along in
       let steps : allowance - left + done ≡ allowance - (left - done) = omega arith in

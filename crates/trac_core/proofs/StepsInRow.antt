@@ -1,6 +1,6 @@
 -- Steps in a row: ordinary characters are added one by one, layout characters deleted, and the steps of any rule that
 -- performs no call follow one another.
-use Rattle.trac_core.proofs.Words.{◌≡◌, ◌≢◌, ℕ, zero, suc, ◌<◌, ◌≤◌, ◌+◌, ◌-◌, max, ◌⊎◌, inl, inr, Bool, true, false, ◌||◌, List, [], ◌∷◌, ◌++◌, length, take, drop, All, Some, None, slice_get, refl, sym, ap, ◌∙◌, subst, arith, append_assoc, append-nil, length-append, ◌==◌, length-drop, take-take, All-head, All-tail, All-cons, Text, Memory, size, is_layout, step, need, reads_to_end, Cell, Byte, Call, Comma, Gap, Head, text_of_cells, IsByte, Contents, used, IsSound, Stream, memory_of, moment, ending, state_with, state_of, Scans, scene, Tried, is_special, IsOrdinary, IsLayout, Passes, PassesTimes, Advances, SomeSteps, peak_after}
+use Rattle.trac_core.proofs.Words.{◌≡◌, ◌≢◌, ℕ, zero, suc, ◌<◌, ◌≤◌, ◌+◌, ◌-◌, max, ◌⊎◌, inl, inr, Bool, true, false, ◌||◌, List, [], ◌∷◌, ◌++◌, length, take, drop, All, Some, None, slice_get, refl, sym, ap, ◌∙◌, subst, arith, append_assoc, append-nil, length-append, ◌==◌, length-drop, take-take, All-head, All-tail, All-cons, Text, Memory, size, is_layout, step, need, reads_to_end, Cell, Byte, Call, Comma, Gap, Head, text_of_cells, IsByte, Contents, used, IsSound, Stream, memory_of, moment, ending, state_with, state_of, Scans, scene, Tried, is_special, IsOrdinary, IsLayout, Passes, PassesTimes, Advances, SomeSteps, peak_after, or_parts}
 use Rattle.trac_functions.proofs.FlatLemmas.{size-used}
 use Rattle.trac_core.proofs.Scanning.{scans-other, scans-layout, first-rest}
 
@@ -120,7 +120,6 @@ tried-passed old new n needed passes one sound needs meta source written = λ m 
     let input = ending source.bytes in
     let here : state_of (moment m source written) ≡ state_with (memory_of meta old) input written = ap (λ memory. state_with memory input written) memory_is in
     let need_is : need (state_with (memory_of meta old) input written) ≡ needed = pass.needs input written ∙ size-used meta old ∙ sym needs in
-    let fits = sound.fits in
     record {
       may = record { allowed = allowed; fits = rw here (omega arith) };
       goes = ap step here ∙ pass.goes input written;
@@ -149,7 +148,6 @@ pub passes-smaller : (n : ℕ) (old new : Memory) → PassesTimes n old new → 
 passes-smaller zero old new passes = let same = ap size passes in omega arith
 passes-smaller (suc n) old new passes =
     let later = passes-smaller n passes.0 new passes.1.1 in
-    let here = passes.1.0.no_larger in
     omega arith
 
 -- after some steps the peak is what it was or the need of the first, which has not to be this one

@@ -1,7 +1,8 @@
 -- The words that the proofs of this crate cite.
 pub use Rattle.std.proofs.Common.{rules, All, Bool, List, MatchOption, None, Option, Some, [], ap, append-nil, append_assoc, arith, cond, drop, eq-eqb, eqb, false, get_or, inl, inr, length, length-append, map, max, not, refl, slice_get, slice_range, subst, suc, sum_by, sym, take, true, zero, ℕ, ⊎_elim, ◌%◌, ◌&&◌, ◌*◌, ◌++◌, ◌+◌, ◌-◌, ◌/◌, ◌<◌, ◌||◌, ◌∙◌, ◌∷◌, ◌≡◌, ◌≢◌, ◌≤◌, ◌⊎◌}
 pub use Rattle.std.proofs.Math.Seq.{drop-append-add, drop-append_seam, drop-cons, drop-length, take-add, take-append_seam, take-length}
-pub use Rattle.std.proofs.lemmas.Bool.{cases_Bool, cases_eq, cases_lt, eqb-true, false_from_ne_true, ne_eqb}
+pub use Rattle.std.proofs.lemmas.Bool.{or_parts, or_right, true≢false, cases_Bool, cases_eq, cases_lt, eqb-true, false_from_ne_true, ne_eqb}
+pub use Rattle.std.proofs.lemmas.Bool.Decides.{nat_tests}
 pub use Rattle.std.proofs.lemmas.List.{append_cancel_left, drop-append-le, drop-drop, drop-map, drop_at, drop_more, get_or-drop, get_or-map, get_or_append_left, get_or_past, get_or_push, length-drop, length-map, length-take, length-take-le, map-append, take-append-drop, take-map, take-take, take_at, take_more, take_rest}
 pub use Rattle.std.proofs.lemmas.List.Elements.{All-append, All-cons, All-drop, All-head, All-push, All-tail, All-take}
 pub use Rattle.std.proofs.lemmas.List.FromFn.{get_or-map-range_with_len, length-map-range_with_len}

@@ -16,7 +16,6 @@ returns-else-push_neutral-clause-answers g c = λ told place meta written call.
 pub returns-else-push_neutral-clause-takes : goal.returns-else-push_neutral-clause-takes
 returns-else-push_neutral-clause-takes g c = λ told.
     let gives = c.in-Byte.ensures.gives told in
-    let fits = c.requires.sound.fits in
     (c.in-Byte.byte ∷ [], record { consumed = gives.0; few = omega arith })
 
 pub returns-in-End-clause-answers : goal.returns-in-End-clause-answers
@@ -32,5 +31,4 @@ returns-in-Failed-clause-answers g c = λ told place meta written call.
 pub returns-then-push_neutral-clause-takes : goal.returns-then-push_neutral-clause-takes
 returns-then-push_neutral-clause-takes g c = λ told.
     let gives = c.in-Byte.ensures.gives told in
-    let fits = c.requires.sound.fits in
     (c.in-Byte.byte ∷ [], record { consumed = gives.0; few = omega arith })

@@ -32,7 +32,6 @@ loop-i-preserved c =
             | else-rights-depth v ↦ passes-few cells i depth found within is at (omega arith)
           ] in
           let block = passes-block cells i depth found is at after in
-          let small = block.2 in
           let same : c.if-found-gt0.depth ≡ depth + found % 16 - found / 16 = omega arith in
           record { at = rw same block.1; bound = omega arith; within = within })
       | else-found-gt0 w ↦ (

@@ -21,7 +21,6 @@ loop-count-preserved c =
     let i = c.args.from + c.loop-count.count in
     let depth = c.loop-count.depth in
     let at = c.loop-count.invariant.at in
-    let bound = c.loop-count.invariant.bound in
     let within : i < length cells = omega arith in
     let long : length text ≡ length cells = length-map cells character_of in
     let inside : i < length text = omega arith in
