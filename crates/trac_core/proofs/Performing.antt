@@ -28,50 +28,21 @@ module _ (old w : Contents) (place : ℕ) (p : ClosesCall old w place) (f : Opti
   pub step-performs : (meta : ℕ) (input : Input) (output : Text) → step (state_with (memory_of meta old) input output) ≡ perform (mode_at w.neutral place) (meaning f (arguments_at w.neutral place) (world w.forms meta input)) (state_with (memory_of meta (closed w place)) input output)
   unfolding step
   step-performs meta input output =
-      let t = text_of_cells w.active in
-      let s = state_with (memory_of meta (record w { active = Byte 41 ∷ w.active })) input output in
-      let after = state_with (memory_of meta (closed w place)) input output in
-      let here = world w.forms meta input in
-      let open_call = call_at w.neutral place in
-      ap (λ (o : Contents). follow (rule (text_of_cells o.active)) (state_with (memory_of meta o) input output)) p.same
-      ∙ ap (λ r. follow r s) (rule_end t)
-      ∙ ap (λ (n : Neutral). end_call n.calls (state_with (memory_with n t w.forms meta) input output)) (neutral_of-innermost w.neutral place p.innermost)
-      ∙ ap (λ m. perform m (meaning (function_of open_call) (arguments open_call) here) after) (grown-mode (opened (mode_at w.neutral place)) (drop (place + 1) w.neutral))
-      ∙ ap (λ args. perform (mode_at w.neutral place) (meaning (function_named (argument args 0)) args here) after) (arguments-call_at w.neutral place p.innermost)
-      ∙ ap (λ f. perform (mode_at w.neutral place) (meaning f (arguments_at w.neutral place) here) after) names
+      rw (p.same, rule_end (text_of_cells w.active), neutral_of-innermost w.neutral place p.innermost, grown-mode (opened (mode_at w.neutral place)) (drop (place + 1) w.neutral), arguments-call_at w.neutral place p.innermost, names) refl
 
   pub need-performs : (meta : ℕ) (input : Input) (output : Text) → need (state_with (memory_of meta old) input output) ≡ used w + built f (arguments_at w.neutral place) (world w.forms meta input)
   unfolding need
   need-performs meta input output =
-      let t = text_of_cells w.active in
-      let o = record w { active = Byte 41 ∷ w.active } in
-      let s = state_with (memory_of meta o) input output in
-      let here = world w.forms meta input in
-      let cells = size-used meta (record w { active = Byte 41 ∷ w.active }) in
-      let less : size (memory_of meta (record w { active = Byte 41 ∷ w.active })) - 1 ≡ used w = omega arith in
-      ap (λ (o : Contents). need_by (rule (text_of_cells o.active)) (state_with (memory_of meta o) input output)) p.same
-      ∙ ap (λ r. need_by r s) (rule_end t)
-      ∙ ap (λ calls. end_need calls s) (ap (λ (n : Neutral). n.calls) (neutral_of-innermost w.neutral place p.innermost))
-      ∙ ap (λ args. size s.memory - 1 + built (function_named (argument args 0)) args here) (arguments-call_at w.neutral place p.innermost)
-      ∙ ap (λ f. size s.memory - 1 + built f (arguments_at w.neutral place) here) names
-      ∙ ap (λ n. n + built f (arguments_at w.neutral place) here) less
+      let cells = rw (neutral_of-innermost w.neutral place p.innermost) at (size-used meta (record w { active = Byte 41 ∷ w.active })) in
+      rw (p.same, rule_end (text_of_cells w.active), neutral_of-innermost w.neutral place p.innermost, arguments-call_at w.neutral place p.innermost, names) (omega arith)
 
   pub performs-call : (meta : ℕ) → performs (memory_of meta old) ≡ f
   performs-call meta =
-      ap (λ (o : Contents). performed_by (rule (text_of_cells o.active)) (memory_of meta o).calls) p.same
-      ∙ ap (λ r. performed_by r (neutral_of w.neutral).calls) (rule_end (text_of_cells w.active))
-      ∙ ap (performed_by (EndCall (text_of_cells w.active))) (ap (λ (n : Neutral). n.calls) (neutral_of-innermost w.neutral place p.innermost))
-      ∙ ap (λ args. function_named (argument args 0)) (arguments-call_at w.neutral place p.innermost)
-      ∙ names
+      rw (p.same, rule_end (text_of_cells w.active), neutral_of-innermost w.neutral place p.innermost, arguments-call_at w.neutral place p.innermost) names
 
   pub reads-call : (meta : ℕ) (input : Input) (output : Text) → reads_to_end (state_with (memory_of meta old) input output) ≡ reads_last f (world w.forms meta input)
   reads-call meta input output =
-      let here = world w.forms meta input in
-      ap (λ (o : Contents). reads_last_by (rule (text_of_cells o.active)) (state_with (memory_of meta o) input output)) p.same
-      ∙ ap (λ r. reads_last_by r (state_with (memory_of meta (record w { active = Byte 41 ∷ w.active })) input output)) (rule_end (text_of_cells w.active))
-      ∙ ap (λ calls. end_reads_last calls here) (ap (λ (n : Neutral). n.calls) (neutral_of-innermost w.neutral place p.innermost))
-      ∙ ap (λ args. reads_last (function_named (argument args 0)) here) (arguments-call_at w.neutral place p.innermost)
-      ∙ ap (λ f. reads_last f here) names
+      rw (p.same, rule_end (text_of_cells w.active), neutral_of-innermost w.neutral place p.innermost, arguments-call_at w.neutral place p.innermost, names) refl
 
 -- ---- what a machine is told
 
