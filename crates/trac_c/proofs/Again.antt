@@ -27,16 +27,7 @@ wants-none : (most : ℕ) (fate : Fate) (printed : ℕ) → wanted_by (last_over
 wants-none zero fate printed = refl
 wants-none (suc n) fate printed = refl
 
-abbrev report : ℕ → ℕ → ℕ → ℕ → ℕ → ℕ → TracReport
-report fate peak steps written consumed wanted =
-    record { fate = fate; peak = peak; steps = steps; written = written; consumed = consumed; wanted = wanted }
-
 pub told-again : (most : ℕ) (fate : Fate) (m : MachineState) (last : Turn) (told : TracReport) (printed : ℕ) → last ≡ last_over most fate → told.fate ≡ turn_number last → told.peak ≡ m.peak → told.steps ≡ m.steps → told.written ≡ 0 → told.consumed ≡ 0 → told.wanted ≡ wanted_by last printed → told ≡ told_again most fate m
 told-again most fate m last told printed is fated peak steps written consumed wanted =
-    let again = turn_number (last_over most fate) in
-    ap (λ (n : ℕ). report n told.peak told.steps told.written told.consumed told.wanted) (fated ∙ ap turn_number is)
-    ∙ ap (λ (n : ℕ). report again n told.steps told.written told.consumed told.wanted) peak
-    ∙ ap (λ (n : ℕ). report again m.peak n told.written told.consumed told.wanted) steps
-    ∙ ap (λ (n : ℕ). report again m.peak m.steps n told.consumed told.wanted) written
-    ∙ ap (λ (n : ℕ). report again m.peak m.steps 0 n told.wanted) consumed
-    ∙ ap (λ (n : ℕ). report again m.peak m.steps 0 0 n) (wanted ∙ ap (λ (t : Turn). wanted_by t printed) is ∙ wants-none most fate printed)
+    let wants = wanted ∙ ap (λ (t : Turn). wanted_by t printed) is ∙ wants-none most fate printed in
+    λ i. record { fate = (fated ∙ ap turn_number is) i; peak = peak i; steps = steps i; written = written i; consumed = consumed i; wanted = wants i }

@@ -22,12 +22,7 @@ codes-character (call ∷ outer) c n e =
 codes-comma : (calls : List OpenCall) (n : Neutral) → n.calls ≡ calls → codes_of_neutral (with_comma calls n) ≡ calls_codes calls n.base ++ comma_code (has_call calls) ∷ []
 codes-comma [] n e = ap (λ calls. calls_codes calls (n.base ++ 44 ∷ [])) e
 codes-comma (call ∷ outer) n e =
-    let before = calls_codes outer n.base in
-    let opened = mark_code call.mode ∷ with_commas call.earlier in
-    append-nil (before ++ mark_code call.mode ∷ with_commas (arguments call))
-    ∙ ap (λ l. before ++ mark_code call.mode ∷ l) (with_commas-append call.earlier call.last)
-    ∙ sym (append_assoc before opened (call.last ++ 258 ∷ []))
-    ∙ sym (append_assoc (before ++ opened) call.last (258 ∷ []))
+    rw (append-nil (calls_codes outer n.base ++ mark_code call.mode ∷ with_commas (arguments call)), with_commas-append call.earlier call.last, append_assoc) (sym (rw append_assoc refl))
 
 -- a cell more is a code more
 pub codes-cell : (n : Neutral) (cell : Cell) → codes_of_neutral (with_cell n cell) ≡ codes_of_neutral n ++ cell_code (has_call n.calls) cell ∷ []

@@ -67,19 +67,11 @@ module _ (m : MachineState) (bytes : Text) where
 
   rule-ends : (written : Text) (r : Rule) → is_short (awaited (performed_by r m.memory.calls)) m bytes ≡ false → need_by r (state_with m.memory (ending bytes) written) ≤ m.room → reads_last_by r (state_with m.memory (ending bytes) written) ≡ false
   unfolding world
-  rule-ends written LoadIdling enough fits = refl
-  rule-ends written (DeleteLayout rest) enough fits = refl
-  rule-ends written (AddProtected inside rest) enough fits = refl
-  rule-ends written ClearActive enough fits = refl
-  rule-ends written (BeginArgument rest) enough fits = refl
-  rule-ends written (BeginCall mode rest) enough fits = refl
   rule-ends written (EndCall rest) enough fits = innermost-ends rest written m.memory.calls enough fits
-  rule-ends written (AddCharacter c rest) enough fits = refl
+  rule-ends written _ enough fits = refl
 
   performs-next : m.fate ≡ None → m.steps < m.allowance → next_function m ≡ performs m.memory
-  performs-next going allowed =
-      ap (λ f. if is_none f && nat_lt m.steps m.allowance then performs m.memory else None) going
-      ∙ ap (λ b. if b then performs m.memory else None) (lt-ltb m.steps m.allowance allowed)
+  performs-next going allowed = rw (going, lt-ltb m.steps m.allowance allowed) refl
 
   step-ends : (written : Text) → m.fate ≡ None → m.steps < m.allowance → is_short (awaited (next_function m)) m bytes ≡ false → need (state_with m.memory (ending bytes) written) ≤ m.room → reads_to_end (state_with m.memory (ending bytes) written) ≡ false
   unfolding need

@@ -23,15 +23,7 @@ pub told_turn :
     last
     (moment told (stream_in source') (take written given))
 told_turn ended most old new told source source' sink sink' last input given written at_source none holds count same turned =
-    let from : stands old source sink ≡ moment old (record { bytes = input; ended = false }) [] =
-    ap (λ (s : Stream). moment old s (take sink.len sink.room.now)) at_source
-    ∙ ap (λ (k : ℕ). moment old (record { bytes = input; ended = false }) (take k sink.room.now)) none in
-    let to : stands new source' sink' ≡ moment told (stream_in source') (take written given) =
-    ap (λ (t : Text). moment new (stream_in source') (take sink'.len t)) holds
-    ∙ ap (λ (k : ℕ). moment new (stream_in source') (take k given)) (sym count)
-    ∙ ap (λ (m : MachineState). moment m (stream_in source') (take written given)) (sym same) in
-    subst (λ (b : Moment). SomeTurned ended most (moment old (record { bytes = input; ended = false }) []) last b) to
-    (subst (λ (a : Moment). SomeTurned ended most a last (stands new source' sink')) from turned)
+    rw (at_source, none, holds, ← count, ← same) at turned
 
 -- what is wanted has no room
 pub told_full :
@@ -41,7 +33,5 @@ pub told_full :
     (last ≡ Full → LacksRoom m sink) → last ≡ Full → length given < written + wanted
 told_full last m sink given written wanted holds count asks lacks full =
     let least = lacks full (ending []) in
-    let lengths : length sink.room.now ≡ length given = ap (λ (t : Text). length t) holds in
-    let asked : wanted ≡ length (next_printed m (ending [])) =
-    subst (λ (t : Turn). wanted ≡ wanted_by t (length (next_printed m (ending [])))) full (asks (ending [])) in
-    omega (arith, least, asked, lengths, count)
+    let asked = rw full at (asks (ending [])) in
+    rw (← holds) (omega arith)

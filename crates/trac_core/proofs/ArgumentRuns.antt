@@ -90,10 +90,7 @@ run-passes meta (suc n) place w last bytes within run = go w.active refl (run-pa
         ∙ ap (λ cells. record w { active = drop n rest; neutral = cells }) (append_assoc w.neutral (cell ∷ []) (turned table (take n rest)))
         ∙ ap (λ cells. record w { active = drop (suc n) cells; neutral = w.neutral ++ turned table (take (suc n) cells) }) (sym is) in
         (memory_of meta next, (passes-scans meta w next scans same, subst (λ v. PassesTimes n (memory_of meta next) (memory_of meta v)) end others))
-    go (Call mode k ∷ rest) is later bytes within run = absurd (All-head IsByte (Call mode k) rest bytes)
-    go (Comma ∷ rest) is later bytes within run = absurd (All-head IsByte Comma rest bytes)
-    go (Gap k ∷ rest) is later bytes within run = absurd (All-head IsByte (Gap k) rest bytes)
-    go (Head k ∷ rest) is later bytes within run = absurd (All-head IsByte (Head k) rest bytes)
+    go (cell ∷ rest) is later bytes within run = absurd (All-head IsByte cell rest bytes)
 
 -- behind the last comma mark of what is added none stands
 pub plain-turned : (neutral more : List Cell) (place last : ℕ) → place ≡ length neutral + last → NoComma (drop last more) → IsPlainFrom place (neutral ++ more)

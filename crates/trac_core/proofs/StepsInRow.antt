@@ -53,10 +53,7 @@ characters-pass meta (suc n) w bytes within ordinary = go w.active refl (charact
         ∙ ap (λ cells. record w { active = drop n rest; neutral = cells }) (append_assoc w.neutral (Byte c ∷ []) (take n rest))
         ∙ ap (λ cells. record w { active = drop (suc n) cells; neutral = w.neutral ++ take (suc n) cells }) (sym is) in
         (memory_of meta next, (passes-scans meta w next scans same, subst (λ v. PassesTimes n (memory_of meta next) (memory_of meta v)) end others))
-    go (Call mode k ∷ rest) is later bytes within ordinary = absurd (All-head IsByte (Call mode k) rest bytes)
-    go (Comma ∷ rest) is later bytes within ordinary = absurd (All-head IsByte Comma rest bytes)
-    go (Gap k ∷ rest) is later bytes within ordinary = absurd (All-head IsByte (Gap k) rest bytes)
-    go (Head k ∷ rest) is later bytes within ordinary = absurd (All-head IsByte (Head k) rest bytes)
+    go (cell ∷ rest) is later bytes within ordinary = absurd (All-head IsByte cell rest bytes)
 
 -- the contents without the first n cells of active
 abbrev pub dropped : ℕ → Contents → Contents
@@ -82,10 +79,7 @@ layouts-pass meta (suc n) w bytes within layout = go w.active refl (layouts-pass
         let end : dropped n next ≡ dropped (suc n) w =
         ap (λ cells. record w { active = drop n cells }) after ∙ ap (λ cells. record w { active = drop (suc n) cells }) (sym is) in
         (memory_of meta next, (passes-scans meta w next scans fewer, subst (λ v. PassesTimes n (memory_of meta next) (memory_of meta v)) end others))
-    go (Call mode k ∷ rest) is later bytes within layout = absurd (All-head IsByte (Call mode k) rest bytes)
-    go (Comma ∷ rest) is later bytes within layout = absurd (All-head IsByte Comma rest bytes)
-    go (Gap k ∷ rest) is later bytes within layout = absurd (All-head IsByte (Gap k) rest bytes)
-    go (Head k ∷ rest) is later bytes within layout = absurd (All-head IsByte (Head k) rest bytes)
+    go (cell ∷ rest) is later bytes within layout = absurd (All-head IsByte cell rest bytes)
 
 -- one step, and some and then others
 pub passes-once : (old new : Memory) → Passes old new → PassesTimes 1 old new
@@ -117,15 +111,13 @@ pub tried-passed : (old new : Contents) (n needed : ℕ) → Advances n old new 
 tried-passed old new n needed passes one sound needs meta source written = λ m room_is memory_is allowed.
     let once = subst (λ k. PassesTimes k (memory_of meta old) (memory_of meta new)) one (passes meta) in
     let pass : Passes (memory_of meta old) (memory_of meta new) = subst (Passes (memory_of meta old)) once.1.1 once.1.0 in
-    let input = ending source.bytes in
-    let here : state_of (moment m source written) ≡ state_with (memory_of meta old) input written = ap (λ memory. state_with memory input written) memory_is in
-    let need_is : need (state_with (memory_of meta old) input written) ≡ needed = pass.needs input written ∙ size-used meta old ∙ sym needs in
+    let need_is : need (state_of (moment m source written)) ≡ needed = rw memory_is (pass.needs (ending source.bytes) written ∙ size-used meta old ∙ sym needs) in
     record {
-      may = record { allowed = allowed; fits = rw here (omega arith) };
-      goes = ap step here ∙ pass.goes input written;
-      counts = record { steps = refl; peak = rw (here, need_is) refl };
+      may = record { allowed = allowed; fits = omega arith };
+      goes = rw memory_is (pass.goes (ending source.bytes) written);
+      counts = record { steps = refl; peak = ap (max m.peak) (sym need_is) };
       stays_ended = λ e. e;
-      read_all = λ reads. absurd (let none = pass.reads input written in let some = sym (ap reads_to_end here) ∙ reads in cc);
+      read_all = λ reads. absurd (let none = pass.reads (ending source.bytes) written in let some = rw memory_is at reads in cc);
     }
 
 -- some steps that take a character each
