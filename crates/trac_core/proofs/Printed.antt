@@ -1,5 +1,5 @@
 -- What a step prints, and how long it is.
-use Rattle.trac_core.proofs.Words.{◌≡◌, ◌≢◌, ℕ, ◌+◌, ◌-◌, ◌<◌, Bool, true, false, List, [], ◌∷◌, ◌++◌, length, take, drop, slice_range, slice_get, get_or, Option, Some, None, refl, sym, ap, ◌∙◌, arith, codes, ℤ, length-map, take-append-drop, take_more, slice_get-get_or, Mode, Item, Function, ReadString, ReadCharacter, ChangeMeta, Halt, PrintString, PrintForm, DefineString, SegmentString, DeleteDefinition, DeleteAll, ListNames, CallForm, CallSegment, CallCharacter, CallNumber, InitialPart, CallRestore, Equal, Greater, Arithmetic, Union, Intersection, Complement, Shift, Rotate, Text, Form, before_pointer, after_pointer, OpenCall, Memory, Input, arguments, argument, World, Meaning, Gives, Ends, on_form, take_part, result_or, read_all, read_string, read_character, change_meta, show, show_form, meaning, meaning_of, before_meta, from_meta, form_of_call, Rule, LoadIdling, DeleteLayout, AddProtected, ClearActive, BeginArgument, BeginCall, EndCall, AddCharacter, rule, function_of, world_of, perform, end_call, follow, step, with_active, Cell, IsLastCall, text_of_cells, character_of, Contents, IsTextPart, IsSound, part_text, memory_of, mode_at, arguments_at, world, state_with, performed_by, performs, prints_output, function_at, display, shown, printed_in}
+use Rattle.trac_core.proofs.Words.{◌≡◌, ◌≢◌, ℕ, ◌+◌, ◌-◌, ◌<◌, Bool, true, false, List, [], ◌∷◌, ◌++◌, length, take, drop, slice_range, slice_get, get_or, Option, Some, None, refl, sym, ap, ◌∙◌, arith, codes, ℤ, length-map, take-append-drop, take_more, slice_get-get_or, Mode, Item, Function, ReadString, ReadCharacter, ChangeMeta, PrintString, PrintForm, SegmentString, CallForm, CallSegment, CallCharacter, CallNumber, InitialPart, CallRestore, Arithmetic, Text, Form, before_pointer, after_pointer, OpenCall, Memory, Input, arguments, argument, World, Meaning, Gives, Ends, on_form, take_part, result_or, read_all, read_string, read_character, change_meta, show, show_form, meaning, meaning_of, before_meta, from_meta, form_of_call, Rule, EndCall, rule, function_of, world_of, perform, end_call, follow, step, with_active, Cell, IsLastCall, text_of_cells, character_of, Contents, IsTextPart, IsSound, part_text, memory_of, mode_at, arguments_at, world, state_with, performed_by, performs, prints_output, function_at, display, shown, printed_in}
 use Rattle.std.proofs.lemmas.List.{length-append}
 use Rattle.std.proofs.lemmas.List.Edits.{length-between}
 use Rattle.trac_language.specs.declared.item.Item.TheVariants.{Byte}

@@ -27,9 +27,14 @@ loop-byte-preserved g c =
 pub returns-in-Byte-clause-reads : goal.returns-in-Byte-clause-reads
 returns-in-Byte-clause-reads g c =
     let i = c.loop-byte.invariant in
-    let on = reads-on c.args.meta c.args.work.now c.loop-byte.work c.take_held.new.work _ _ _ i.reads c.take_held.ensures.reads i.told in
-    (on.0, (on.1.0, λ told. let s = streams-byte _ _ (g.I.Source.stream c.next.new.self) on.0 (on.1.1 told) c.in-Byte.byte (c.in-Byte.ensures.gives (c.take_held.ensures.told (i.told told))) in
-    (s.0 ∙ ap (λ b. on.0 ++ b ∷ (g.I.Source.stream c.next.new.self).bytes) c.if-byte-meta.true, s.1)))
+    let on = reads-on c.args.meta c.args.work.now c.loop-byte.work c.take_held.new.work _ _ _ i.reads c.take_held.ensures.reads i.told in (
+      on.0,
+      (
+        on.1.0,
+        λ told. let s = streams-byte _ _ (g.I.Source.stream c.next.new.self) on.0 (on.1.1 told) c.in-Byte.byte (c.in-Byte.ensures.gives (c.take_held.ensures.told (i.told told))) in
+            (s.0 ∙ ap (λ b. on.0 ++ b ∷ (g.I.Source.stream c.next.new.self).bytes) c.if-byte-meta.true, s.1),
+      ),
+    )
 
 pub returns-then-not-push_neutral-clause-reads : goal.returns-then-not-push_neutral-clause-reads
 returns-then-not-push_neutral-clause-reads g c =
