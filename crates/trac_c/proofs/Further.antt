@@ -1,6 +1,6 @@
 -- The steps of a turn that didn't wait are steps over all bytes that may come behind its input.
-use Rattle.std.proofs.Common.{◌≡◌, ℕ, zero, suc, ◌+◌, ◌-◌, ◌<◌, ◌≤◌, max, Bool, false, not, ◌&&◌, List, [], ◌∷◌, ◌++◌, length, take, Option, Some, None, refl, sym, ap, subst, ◌∙◌, ⊎_elim, arith, length-append}
-use Rattle.std.specs.Prelude.{◌==◌, nat_le, nat_lt, is_none, if◌then◌else◌}
+use Rattle.std.proofs.Common.{◌≡◌, ℕ, zero, suc, ◌+◌, ◌-◌, ◌<◌, ◌≤◌, max, Bool, false, not, List, [], ◌∷◌, ◌++◌, length, take, Option, Some, None, refl, sym, ap, subst, ◌∙◌, ⊎_elim, arith, length-append}
+use Rattle.std.specs.Prelude.{◌==◌, nat_le}
 use Rattle.std.specs.List.{before_first, list_any}
 use Rattle.std.proofs.lemmas.Bool.{and_cases, and_left, and_right, cases_Bool, true≢false, lt-ltb, leb-false, lt-leb, ne_eqb}
 use Rattle.std.proofs.lemmas.List.Folds.{list_any-append}
@@ -8,7 +8,7 @@ use Rattle.trac_language.specs.declared.function.Function.{Function}
 use Rattle.trac_language.specs.Text.{Text}
 use Rattle.trac_language.specs.State.{Input, OpenCall, arguments, size}
 use Rattle.trac_language.specs.Meaning.{World, built}
-use Rattle.trac_language.specs.Rule.{Rule, LoadIdling, DeleteLayout, AddProtected, ClearActive, BeginArgument, BeginCall, EndCall, AddCharacter, rule}
+use Rattle.trac_language.specs.Rule.{Rule, EndCall, rule}
 use Rattle.trac_language.specs.Step.{function_of, end_need, need_by, need}
 use Rattle.trac_devices.specs.Devices.{Stream}
 use Rattle.trac_laws.specs.LastRead.{is_read_string, reads_last, end_reads_last, reads_last_by, reads_to_end}

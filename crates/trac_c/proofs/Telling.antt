@@ -1,10 +1,9 @@
 -- A turn between a source over its input and a sink over its buffer, in their bytes.
-use Rattle.std.proofs.Common.{◌≡◌, ℕ, [], Bool, false, ◌+◌, ◌<◌, length, take, sym, ap, ◌∙◌, subst, arith}
+use Rattle.std.proofs.Common.{◌≡◌, ℕ, [], Bool, false, ◌+◌, ◌<◌, length, take, arith}
 use Rattle.trac_language.specs.Text.{Text}
 use Rattle.trac_language.specs.State.{Input}
-use Rattle.trac_devices.specs.Devices.{Stream}
 use Rattle.trac_devices.specs.Slices.{SliceInput, stream_in}
-use Rattle.trac_core.specs.Machine.{MachineState, Moment, moment, ending}
+use Rattle.trac_core.specs.Machine.{MachineState, moment, ending}
 use Rattle.trac_core.specs.Session.{next_printed}
 use Rattle.trac_c.specs.Turned.{SomeTurned, LacksRoom, stands, wanted_by}
 use Rattle.trac_c.specs.declared.filling.FillingSink.{FillingSink}

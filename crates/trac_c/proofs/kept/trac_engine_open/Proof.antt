@@ -1,5 +1,5 @@
 -- `trac_engine_open` refuses a number of cells, or fills the block, lends it for good, and writes the machine over it to its place. Assumes `Logic`.
-use Rattle.trac_c.proofs.Walking.{ℕ, ◌≤◌, ◌<◌, ◌^◌, arith, ◌≡◌, refl, ap, ◌∙◌, List, [], ◌∷◌, ◌++◌, inl, inr, lit<, ltb→lt, nltb→le, length, ftrue, flft, froom, full_share, id⊢, emp, fact, fact_i, tables, Array, u32, u64, Is, shows, part_at, uint_vals, uint_Tells, uint_Makes, RattleType, Ptr, block_ptr, rawptr_vals, rawptr_Tells, in_a_block, lies_at, room_at, slice_val, nothing, owned, peeks, heard, calls_at, lasts, on_entry, triple_of, framed, w32, w64, erased, Val, vint, WpFn, alloc_all, pass_all, free_all, look_at, get, sets, lands_as, through, env, Post, ‵, raw, ◌⊛◌, some, later, prop, ◌$◌, ◌∵◌, !, qed, move, drop, use0, use1, use2, join, split, pick, await, rewrite, regoal, fjoin, fpack, at_ret, agg, stop, no_more, and_then, returns, returns_within, enter, of_opd, lit, bin, init, assigns, first, skips, branches, exec, MachineState, made, machine, Owed, meets_by, gives}
+use Rattle.trac_c.proofs.Walking.{ℕ, ◌≤◌, ◌<◌, ◌^◌, arith, ◌≡◌, refl, ap, ◌∙◌, List, [], ◌∷◌, ◌++◌, inl, inr, lit<, ltb→lt, nltb→le, length, ftrue, flft, froom, full_share, id⊢, emp, fact, fact_i, tables, Array, u32, u64, Is, shows, part_at, uint_vals, uint_Tells, uint_Makes, RattleType, Ptr, block_ptr, rawptr_vals, rawptr_Tells, in_a_block, lies_at, room_at, slice_val, nothing, owned, peeks, heard, calls_at, lasts, on_entry, triple_of, framed, w32, w64, erased, Val, vint, WpFn, alloc_all, pass_all, free_all, look_at, get, sets, lands_as, through, env, ‵, raw, ◌⊛◌, some, later, prop, ◌$◌, ◌∵◌, !, qed, move, drop, use0, use1, use2, join, split, pick, await, rewrite, regoal, fjoin, fpack, at_ret, agg, stop, no_more, and_then, returns, returns_within, enter, of_opd, lit, bin, init, assigns, first, skips, branches, exec, MachineState, made, machine, Owed, meets_by, gives}
 use borrow.Table.OneValue.{reroom, part_in_at}
 use denote.Param.{layout}
 use Rattle.trac_space.specs.contracts.cell.Cell as C

@@ -1,5 +1,5 @@
 -- `fill` writes the cells one by one, from the first on. Assumes `Logic`.
-use Rattle.trac_c.proofs.Walking.{ℕ, ◌+◌, ◌-◌, ◌*◌, ◌≤◌, ◌<◌, ◌^◌, arith, ◌≡◌, refl, List, [], ◌∷◌, ◌++◌, lit<, ltb→lt, nltb→le, froom, fex, full_share, SProp, id⊢, fact, tables, Array, usize, yes, row, Is, part_at, uint_vals, uint_Tells, Ptr, RawPtr, block_ptr, rawptr_vals, rawptr_Tells, in_a_block, room_at, plain, nothing, owned, heard, on_entry, Stays, stay_dropped, walk_of, ends_at, Goes-dropped, w8, w64, ty_array, Val, vptr, vint, vunit, vstruct, vcons, vnil, has_ty, WT, WpFn, Out, Wp, at_return, after_seq, after_block, alloc_all, pass_all, free_all, look_at, get, sets, sets_last, through, env, holding, forget_but, Item, Post, ‵, raw, ◌⊛◌, prop, ◌$◌, ◌∵◌, !, qed, move, drop, use0, use1, use2, join, split, rewrite, regoal, fpick, fpack, feq_i, suffices, group, done, any_q, at_ret, agg, stop, no_more, and_then, returns, enter, of_opd, lit, bin, unit_lit, init, assigns, first, blocks, skips, jumps, branches, exec, loops, again, Below, proved, Cell}
+use Rattle.trac_c.proofs.Walking.{ℕ, ◌+◌, ◌-◌, ◌*◌, ◌≤◌, ◌<◌, ◌^◌, arith, ◌≡◌, refl, List, [], ◌∷◌, ◌++◌, lit<, ltb→lt, nltb→le, froom, fex, full_share, SProp, id⊢, fact, tables, Array, usize, yes, Is, part_at, uint_vals, uint_Tells, Ptr, RawPtr, block_ptr, rawptr_vals, rawptr_Tells, in_a_block, room_at, plain, nothing, owned, heard, on_entry, Stays, stay_dropped, walk_of, ends_at, Goes-dropped, w8, w64, ty_array, Val, vptr, vint, vunit, vstruct, vcons, vnil, has_ty, WT, WpFn, Out, Wp, at_return, after_seq, after_block, alloc_all, pass_all, free_all, look_at, get, sets, sets_last, through, env, holding, forget_but, Item, ‵, raw, ◌⊛◌, prop, ◌$◌, ◌∵◌, !, qed, move, drop, use0, use1, use2, join, split, rewrite, regoal, fpick, fpack, feq_i, suffices, group, done, any_q, at_ret, agg, stop, no_more, and_then, returns, enter, of_opd, lit, bin, unit_lit, init, assigns, first, blocks, skips, jumps, branches, exec, loops, again, Below, proved, Cell}
 use mathlib.Core.WellFounded.InvImage
 use lib.Dec.{T}
 use lib.WfN.{lt-wf_rel}
