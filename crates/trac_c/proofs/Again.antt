@@ -1,14 +1,5 @@
 -- A turn of a machine whose run is over.
-use Rattle.std.proofs.Common.{◌≡◌, ℕ, [], zero, suc, ◌<◌, ◌≤◌, Some, refl, ap, ◌∙◌, arith}
-use Rattle.std.specs.Prelude.{is_none, nat_lt, ◌&&◌, if◌then◌else◌}
-use Rattle.trac_language.specs.declared.fate.Fate.{Fate}
-use Rattle.trac_language.specs.State.{Input}
-use Rattle.trac_core.specs.Machine.{MachineState}
-use Rattle.trac_core.specs.Session.{next_printed, step_prints}
-use Rattle.trac_c.specs.Turned.{last_over, told_again, turn_number, wanted_by}
-use Rattle.trac_c.specs.declared.report.TracReport.{TracReport}
-use Rattle.trac_c.specs.declared.turn.Turn.{Turn}
-use Rattle.trac_c.specs.declared.turn.Turn.TheVariants.{Went, Over}
+use Rattle.trac_c.proofs.Words.{◌≡◌, ℕ, [], zero, suc, ◌<◌, ◌≤◌, Some, refl, ap, ◌∙◌, arith, is_none, nat_lt, ◌&&◌, if◌then◌else◌, Fate, Input, MachineState, next_printed, step_prints, last_over, told_again, turn_number, wanted_by, TracReport, Turn, Went, Over}
 
 -- and prints nothing
 pub prints-none : (m : MachineState) (fate : Fate) (input : Input) → m.fate ≡ Some fate → next_printed m input ≡ []

@@ -1,12 +1,8 @@
 -- The codes of a neutral string, cell by cell.
-use Rattle.std.proofs.Common.{◌≡◌, ℕ, ◌+◌, List, [], ◌∷◌, ◌++◌, length, sum_by, refl, sym, ap, ◌∙◌, arith, append_assoc, append-nil, length-append}
+use Rattle.trac_c.proofs.Words.{◌≡◌, ℕ, ◌+◌, List, [], ◌∷◌, ◌++◌, length, sum_by, refl, sym, ap, ◌∙◌, arith, append_assoc, append-nil, length-append, Text, OpenCall, arguments, call_cells, Byte, Neutral, no_neutral, with_character, with_comma, with_cell, with_cells, neutral_of, mark_code, with_commas, calls_codes, codes_of_neutral, comma_code, cell_code, is_open_after, has_call}
 use Rattle.std.proofs.lemmas.List.Sums.{sum_by-cons}
-use Rattle.trac_language.specs.Text.{Text}
-use Rattle.trac_language.specs.State.{OpenCall, arguments, call_cells}
 use Rattle.trac_space.specs.declared.cell.Cell.{Cell}
-use Rattle.trac_space.specs.declared.cell.Cell.TheVariants.{Byte, Call, Comma, Gap, Head}
-use Rattle.trac_functions.specs.Flat.{Neutral, no_neutral, with_character, with_comma, with_cell, with_cells, neutral_of}
-use Rattle.trac_c.specs.View.{mark_code, with_commas, calls_codes, codes_of_neutral, comma_code, cell_code, is_open_after, has_call}
+use Rattle.trac_space.specs.declared.cell.Cell.TheVariants.{Call, Comma, Gap, Head}
 
 with_commas-append : (texts : List Text) (text : Text) → with_commas (texts ++ text ∷ []) ≡ with_commas texts ++ (text ++ 258 ∷ [])
 with_commas-append [] text = refl

@@ -1,12 +1,9 @@
 -- The steps of a turn that didn't wait are steps over all bytes that may come behind its input.
-use Rattle.std.proofs.Common.{◌≡◌, ℕ, zero, suc, ◌+◌, ◌-◌, ◌<◌, ◌≤◌, max, Bool, false, not, List, [], ◌∷◌, ◌++◌, length, take, Option, Some, None, refl, sym, ap, subst, ◌∙◌, ⊎_elim, arith, length-append}
-use Rattle.std.specs.Prelude.{◌==◌, nat_le}
+use Rattle.trac_c.proofs.Words.{◌≡◌, ℕ, zero, suc, ◌+◌, ◌-◌, ◌<◌, ◌≤◌, max, Bool, false, not, List, [], ◌∷◌, ◌++◌, length, take, Option, Some, None, refl, sym, ap, subst, ◌∙◌, ⊎_elim, arith, length-append, ◌==◌, nat_le, Text, Input, OpenCall, arguments, size, MachineState, Moment, moment, GoesOn, ending, state_with, state_of, awaited, next_function, next_printed, is_short, waits_for_input, followed_by, Goes, SomeTurned, TellsTurn, turn_number, wanted_by, TracReport, Turn, Full}
 use Rattle.std.specs.List.{before_first, list_any}
 use Rattle.std.proofs.lemmas.Bool.{and_cases, and_left, and_right, cases_Bool, true≢false, lt-ltb, leb-false, lt-leb, ne_eqb}
 use Rattle.std.proofs.lemmas.List.Folds.{list_any-append}
 use Rattle.trac_language.specs.declared.function.Function.{Function}
-use Rattle.trac_language.specs.Text.{Text}
-use Rattle.trac_language.specs.State.{Input, OpenCall, arguments, size}
 use Rattle.trac_language.specs.Meaning.{World, built}
 use Rattle.trac_language.specs.Rule.{Rule, EndCall, rule}
 use Rattle.trac_language.specs.Step.{function_of, end_need, need_by, need}
@@ -16,14 +13,8 @@ use Rattle.trac_laws.proofs.TakenInput.{Kind, IsString, IsCharacter, IsOther, ki
 use Rattle.trac_laws.proofs.FurtherInput.{any_still, still_not_last, reads_no_further_law}
 use Rattle.trac_core.specs.declared.machine.session.Awaits.{Awaits}
 use Rattle.trac_core.specs.declared.machine.session.Awaits.TheVariants.{Nothing, Byte, Text as AwaitsText}
-use Rattle.trac_core.specs.Machine.{MachineState, Moment, moment, GoesOn, ending, state_with, state_of}
 use Rattle.trac_core.specs.Performed.{performed_by, performs}
-use Rattle.trac_core.specs.Session.{awaited, next_function, next_printed}
 use Rattle.trac_core.proofs.MetaCharacters.{before-none}
-use Rattle.trac_c.specs.Turned.{is_short, waits_for_input, followed_by, Goes, SomeTurned, TellsTurn, turn_number, wanted_by}
-use Rattle.trac_c.specs.declared.report.TracReport.{TracReport}
-use Rattle.trac_c.specs.declared.turn.Turn.{Turn}
-use Rattle.trac_c.specs.declared.turn.Turn.TheVariants.{Full}
 
 -- ---- a step that fits the room and doesn't wait doesn't read to the end
 

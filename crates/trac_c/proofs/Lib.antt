@@ -7,3 +7,4 @@ mod Laying
 mod Listing
 mod Telling
 mod Walking
+mod Words

@@ -1,14 +1,7 @@
 -- A turn between a source over its input and a sink over its buffer, in their bytes.
-use Rattle.std.proofs.Common.{◌≡◌, ℕ, [], Bool, false, ◌+◌, ◌<◌, length, take, arith}
-use Rattle.trac_language.specs.Text.{Text}
-use Rattle.trac_language.specs.State.{Input}
-use Rattle.trac_devices.specs.Slices.{SliceInput, stream_in}
-use Rattle.trac_core.specs.Machine.{MachineState, moment, ending}
-use Rattle.trac_core.specs.Session.{next_printed}
-use Rattle.trac_c.specs.Turned.{SomeTurned, LacksRoom, stands, wanted_by}
+use Rattle.trac_c.proofs.Words.{◌≡◌, ℕ, [], Bool, false, ◌+◌, ◌<◌, length, take, arith, Text, Input, stream_in, MachineState, moment, ending, next_printed, SomeTurned, LacksRoom, stands, wanted_by, Turn, Full}
+use Rattle.trac_devices.specs.Slices.{SliceInput}
 use Rattle.trac_c.specs.declared.filling.FillingSink.{FillingSink}
-use Rattle.trac_c.specs.declared.turn.Turn.{Turn}
-use Rattle.trac_c.specs.declared.turn.Turn.TheVariants.{Full}
 
 -- a turn between a source and a sink over these bytes and this buffer, which holds this at its end
 pub told_turn :
