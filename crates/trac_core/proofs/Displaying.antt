@@ -49,8 +49,7 @@ range-split body a b c ab bc =
 show-one : (body : List Item) (k : ℕ) → k < length body → show (slice_range body k (k + 1)) ≡ shown (slice_get body k)
 show-one body k lt =
     let one : (k + 1) - k ≡ 1 = omega arith in
-    ap (λ n. show (take n (drop k body))) one ∙ ap (λ items. show (take 1 items)) (drop-cons body k (Byte 0) lt)
-    ∙ ap shown (sym (slice_get-get_or body k (Byte 0) lt))
+    rw (one, drop-cons body k (Byte 0) lt) (ap shown (sym (slice_get-get_or body k (Byte 0) lt)))
 
 show-split : (body : List Item) (a b c : ℕ) → a ≤ b → b ≤ c → show (slice_range body a c) ≡ show (slice_range body a b) ++ show (slice_range body b c)
 show-split body a b c ab bc = ap show (range-split body a b c ab bc) ∙ show-append (slice_range body a b) (slice_range body b c)

@@ -12,11 +12,7 @@ use Rattle.trac_core.proofs.Performing.{closed, performs-closed, step-performs}
 
 pub length-show-more : (body : List Item) (k : ℕ) (item : Option Item) (n : ℕ) → k < length body → item ≡ slice_get body k → n ≡ length (shown item) → length (show (take (k + 1) body)) ≡ length (show (take k body)) + n
 length-show-more body k item n within is n_is =
-    ap (λ items. length (show items)) (take_more body k (Byte 0) within)
-    ∙ ap length (show-append (take k body) (get_or body k (Byte 0) ∷ []))
-    ∙ length-append (show (take k body)) (show (get_or body k (Byte 0) ∷ []))
-    ∙ ap (λ o. length (show (take k body)) + length (shown o)) (sym (is ∙ slice_get-get_or body k (Byte 0) within))
-    ∙ ap (λ m. length (show (take k body)) + m) (sym n_is)
+    rw (n_is, is ∙ slice_get-get_or body k (Byte 0) within, take_more body k (Byte 0) within, show-append (take k body) (get_or body k (Byte 0) ∷ [])) (length-append (show (take k body)) (show (get_or body k (Byte 0) ∷ [])))
 
 pub length-display : (form : Form) → length (show_form form) ≡ 3 + length (show form.body)
 length-display form =

@@ -57,11 +57,8 @@ row-sign text first second third = ap row_of (sym (sign-rule text first second t
 
 -- the number in a call mark makes no difference to the neutral string
 with_cell-seen : (n : Neutral) (cell : Cell) → with_cell n (seen cell) ≡ with_cell n cell
-with_cell-seen n (Byte c) = refl
 with_cell-seen n (Call mode k) = refl
-with_cell-seen n Comma = refl
-with_cell-seen n (Gap k) = refl
-with_cell-seen n (Head k) = refl
+with_cell-seen n _ = refl
 
 with_cells-seen : (n : Neutral) (cells : List Cell) → with_cells n (map seen cells) ≡ with_cells n cells
 with_cells-seen n [] = refl

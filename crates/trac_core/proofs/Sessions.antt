@@ -35,10 +35,7 @@ performs-other w meta other = sym (first-performs (text_of_cells w.active) (memo
 -- and that only where a call is open
 pub performs-none : (w : Contents) (meta : ℕ) → slice_get (text_of_cells w.active) 0 ≡ Some 41 → NoCall w.neutral → None ≡ performs (memory_of meta w)
 performs-none w meta first none =
-    let text = text_of_cells w.active in
-    sym (ap (λ t. performed_by (rule t) (neutral_of w.neutral).calls) (first-rest text 41 first)
-    ∙ ap (λ r. performed_by r (neutral_of w.neutral).calls) (rule_end (drop 1 text))
-    ∙ ap (performed_by (EndCall (drop 1 text))) (calls-none w.neutral none))
+    rw (first-rest (text_of_cells w.active) 41 first, rule_end (drop 1 (text_of_cells w.active)), calls-none w.neutral none) refl
 
 pub performs-innermost : (w : Contents) (place meta : ℕ) → IsSound w → slice_get (text_of_cells w.active) 0 ≡ Some 41 → IsLastCall w.neutral place → function_at w.neutral place ≡ performs (memory_of meta w)
 performs-innermost w place meta sound first last =
