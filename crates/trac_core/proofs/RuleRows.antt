@@ -1,5 +1,5 @@
 -- The row of the table of scanning rules, by the first characters, as a scanner tells them.
-use Rattle.trac_core.proofs.Words.{◌≡◌, ◌≢◌, ℕ, ◌-◌, ◌<◌, ◌≤◌, ⊎_elim, List, [], ◌∷◌, length, take, drop, map, Option, Some, None, refl, sym, ap, ◌∙◌, arith, slice_get, slice_range, cases_eq, ne_eqb, take-length, Text, protected, AddCharacter, parenthesis_rule, rule, Cell, Byte, Call, Comma, Gap, Head, seen, Neutral, no_neutral, with_cell, with_cells, neutral_of}
+use Rattle.trac_core.proofs.Words.{◌≡◌, ◌≢◌, ℕ, ◌-◌, ◌<◌, ◌≤◌, ⊎_elim, List, [], ◌∷◌, length, take, drop, map, Option, Some, None, refl, sym, ap, ◌∙◌, arith, slice_get, slice_range, cases_eq, ne_eqb, take-length, Text, protected, AddCharacter, parenthesis_rule, rule, Cell, Call, seen, Neutral, no_neutral, with_cell, with_cells, neutral_of}
 use Rattle.trac_laws.proofs.Rules.{rule_tab, rule_line_feed, rule_return, rule_comma, rule_end, rule_active, rule_neutral, rule_other}
 use Rattle.trac_core.specs.declared.machine.view.ScanningRule.TheVariants as row
 use Rattle.trac_core.specs.View.{row_of}

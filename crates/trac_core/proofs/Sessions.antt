@@ -1,5 +1,5 @@
 -- The function that a step performs, by what stands in the active and in the neutral string.
-use Rattle.trac_core.proofs.Words.{◌≡◌, ◌≢◌, ℕ, Bool, true, false, [], ◌∷◌, List, drop, take, slice_get, Option, Some, None, refl, sym, ap, ◌∙◌, ◌==◌, if◌then◌else◌, bytes_eq, codes, ne_eqb, Active, Text, protected, OpenCall, DeleteLayout, BeginArgument, BeginCall, EndCall, AddCharacter, is_layout, number_sign_rule, parenthesis_rule, rule, NoCall, IsLastCall, text_of_cells, Contents, IsSound, memory_of, neutral_of, performed_by, performs, function_at}
+use Rattle.trac_core.proofs.Words.{◌≡◌, ◌≢◌, ℕ, Bool, true, false, [], ◌∷◌, List, drop, take, slice_get, Option, Some, None, refl, sym, ap, ◌==◌, if◌then◌else◌, bytes_eq, codes, ne_eqb, Active, Text, protected, OpenCall, DeleteLayout, BeginArgument, BeginCall, EndCall, AddCharacter, is_layout, number_sign_rule, parenthesis_rule, rule, NoCall, IsLastCall, text_of_cells, Contents, IsSound, memory_of, performed_by, performs, function_at}
 use Rattle.trac_language.specs.declared.mode.Mode.TheVariants.{Neutral}
 use Rattle.trac_laws.proofs.Rules.{rule_end}
 use Rattle.trac_functions.proofs.FlatLemmas.{calls-none}
