@@ -1,14 +1,5 @@
 -- A turn of a machine whose run is over.
-use Rattle.std.proofs.Common.{◌≡◌, ℕ, [], zero, suc, ◌<◌, ◌≤◌, Some, refl, ap, ◌∙◌, arith}
-use Rattle.std.specs.Prelude.{is_none, nat_lt, ◌&&◌, if◌then◌else◌}
-use Rattle.trac_language.specs.declared.fate.Fate.{Fate}
-use Rattle.trac_language.specs.State.{Input}
-use Rattle.trac_core.specs.Machine.{MachineState}
-use Rattle.trac_core.specs.Session.{next_printed, step_prints}
-use Rattle.trac_c.specs.Turned.{last_over, told_again, turn_number, wanted_by}
-use Rattle.trac_c.specs.declared.report.TracReport.{TracReport}
-use Rattle.trac_c.specs.declared.turn.Turn.{Turn}
-use Rattle.trac_c.specs.declared.turn.Turn.TheVariants.{Went, Over}
+use Rattle.trac_c.proofs.Words.{◌≡◌, ℕ, [], zero, suc, ◌<◌, ◌≤◌, Some, refl, ap, ◌∙◌, arith, is_none, nat_lt, ◌&&◌, if◌then◌else◌, Fate, Input, MachineState, next_printed, step_prints, last_over, told_again, turn_number, wanted_by, TracReport, Turn, Went, Over}
 
 -- and prints nothing
 pub prints-none : (m : MachineState) (fate : Fate) (input : Input) → m.fate ≡ Some fate → next_printed m input ≡ []
@@ -27,16 +18,7 @@ wants-none : (most : ℕ) (fate : Fate) (printed : ℕ) → wanted_by (last_over
 wants-none zero fate printed = refl
 wants-none (suc n) fate printed = refl
 
-abbrev report : ℕ → ℕ → ℕ → ℕ → ℕ → ℕ → TracReport
-report fate peak steps written consumed wanted =
-    record { fate = fate; peak = peak; steps = steps; written = written; consumed = consumed; wanted = wanted }
-
 pub told-again : (most : ℕ) (fate : Fate) (m : MachineState) (last : Turn) (told : TracReport) (printed : ℕ) → last ≡ last_over most fate → told.fate ≡ turn_number last → told.peak ≡ m.peak → told.steps ≡ m.steps → told.written ≡ 0 → told.consumed ≡ 0 → told.wanted ≡ wanted_by last printed → told ≡ told_again most fate m
 told-again most fate m last told printed is fated peak steps written consumed wanted =
-    let again = turn_number (last_over most fate) in
-    ap (λ (n : ℕ). report n told.peak told.steps told.written told.consumed told.wanted) (fated ∙ ap turn_number is)
-    ∙ ap (λ (n : ℕ). report again n told.steps told.written told.consumed told.wanted) peak
-    ∙ ap (λ (n : ℕ). report again m.peak n told.written told.consumed told.wanted) steps
-    ∙ ap (λ (n : ℕ). report again m.peak m.steps n told.consumed told.wanted) written
-    ∙ ap (λ (n : ℕ). report again m.peak m.steps 0 n told.wanted) consumed
-    ∙ ap (λ (n : ℕ). report again m.peak m.steps 0 0 n) (wanted ∙ ap (λ (t : Turn). wanted_by t printed) is ∙ wants-none most fate printed)
+    let wants = wanted ∙ ap (λ (t : Turn). wanted_by t printed) is ∙ wants-none most fate printed in
+    λ i. record { fate = (fated ∙ ap turn_number is) i; peak = peak i; steps = steps i; written = written i; consumed = consumed i; wanted = wants i }

@@ -1,12 +1,8 @@
 -- The codes of a neutral string, cell by cell.
-use Rattle.std.proofs.Common.{◌≡◌, ℕ, ◌+◌, List, [], ◌∷◌, ◌++◌, length, sum_by, refl, sym, ap, ◌∙◌, arith, append_assoc, append-nil, length-append}
+use Rattle.trac_c.proofs.Words.{◌≡◌, ℕ, ◌+◌, List, [], ◌∷◌, ◌++◌, length, sum_by, refl, sym, ap, ◌∙◌, arith, append_assoc, append-nil, length-append, Text, OpenCall, arguments, call_cells, Byte, Neutral, no_neutral, with_character, with_comma, with_cell, with_cells, neutral_of, mark_code, with_commas, calls_codes, codes_of_neutral, comma_code, cell_code, is_open_after, has_call}
 use Rattle.std.proofs.lemmas.List.Sums.{sum_by-cons}
-use Rattle.trac_language.specs.Text.{Text}
-use Rattle.trac_language.specs.State.{OpenCall, arguments, call_cells}
 use Rattle.trac_space.specs.declared.cell.Cell.{Cell}
-use Rattle.trac_space.specs.declared.cell.Cell.TheVariants.{Byte, Call, Comma, Gap, Head}
-use Rattle.trac_functions.specs.Flat.{Neutral, no_neutral, with_character, with_comma, with_cell, with_cells, neutral_of}
-use Rattle.trac_c.specs.View.{mark_code, with_commas, calls_codes, codes_of_neutral, comma_code, cell_code, is_open_after, has_call}
+use Rattle.trac_space.specs.declared.cell.Cell.TheVariants.{Call, Comma, Gap, Head}
 
 with_commas-append : (texts : List Text) (text : Text) → with_commas (texts ++ text ∷ []) ≡ with_commas texts ++ (text ++ 258 ∷ [])
 with_commas-append [] text = refl
@@ -22,12 +18,7 @@ codes-character (call ∷ outer) c n e =
 codes-comma : (calls : List OpenCall) (n : Neutral) → n.calls ≡ calls → codes_of_neutral (with_comma calls n) ≡ calls_codes calls n.base ++ comma_code (has_call calls) ∷ []
 codes-comma [] n e = ap (λ calls. calls_codes calls (n.base ++ 44 ∷ [])) e
 codes-comma (call ∷ outer) n e =
-    let before = calls_codes outer n.base in
-    let opened = mark_code call.mode ∷ with_commas call.earlier in
-    append-nil (before ++ mark_code call.mode ∷ with_commas (arguments call))
-    ∙ ap (λ l. before ++ mark_code call.mode ∷ l) (with_commas-append call.earlier call.last)
-    ∙ sym (append_assoc before opened (call.last ++ 258 ∷ []))
-    ∙ sym (append_assoc (before ++ opened) call.last (258 ∷ []))
+    rw (append-nil (calls_codes outer n.base ++ mark_code call.mode ∷ with_commas (arguments call)), with_commas-append call.earlier call.last, append_assoc) (sym (rw append_assoc refl))
 
 -- a cell more is a code more
 pub codes-cell : (n : Neutral) (cell : Cell) → codes_of_neutral (with_cell n cell) ≡ codes_of_neutral n ++ cell_code (has_call n.calls) cell ∷ []

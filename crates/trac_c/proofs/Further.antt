@@ -1,14 +1,11 @@
 -- The steps of a turn that didn't wait are steps over all bytes that may come behind its input.
-use Rattle.std.proofs.Common.{◌≡◌, ℕ, zero, suc, ◌+◌, ◌-◌, ◌<◌, ◌≤◌, max, Bool, false, not, ◌&&◌, List, [], ◌∷◌, ◌++◌, length, take, Option, Some, None, refl, sym, ap, subst, ◌∙◌, ⊎_elim, arith, length-append}
-use Rattle.std.specs.Prelude.{◌==◌, nat_le, nat_lt, is_none, if◌then◌else◌}
+use Rattle.trac_c.proofs.Words.{◌≡◌, ℕ, zero, suc, ◌+◌, ◌-◌, ◌<◌, ◌≤◌, max, Bool, false, not, List, [], ◌∷◌, ◌++◌, length, take, Option, Some, None, refl, sym, ap, subst, ◌∙◌, ⊎_elim, arith, length-append, ◌==◌, nat_le, Text, Input, OpenCall, arguments, size, MachineState, Moment, moment, GoesOn, ending, state_with, state_of, awaited, next_function, next_printed, is_short, waits_for_input, followed_by, Goes, SomeTurned, TellsTurn, turn_number, wanted_by, TracReport, Turn, Full}
 use Rattle.std.specs.List.{before_first, list_any}
 use Rattle.std.proofs.lemmas.Bool.{and_cases, and_left, and_right, cases_Bool, true≢false, lt-ltb, leb-false, lt-leb, ne_eqb}
 use Rattle.std.proofs.lemmas.List.Folds.{list_any-append}
 use Rattle.trac_language.specs.declared.function.Function.{Function}
-use Rattle.trac_language.specs.Text.{Text}
-use Rattle.trac_language.specs.State.{Input, OpenCall, arguments, size}
 use Rattle.trac_language.specs.Meaning.{World, built}
-use Rattle.trac_language.specs.Rule.{Rule, LoadIdling, DeleteLayout, AddProtected, ClearActive, BeginArgument, BeginCall, EndCall, AddCharacter, rule}
+use Rattle.trac_language.specs.Rule.{Rule, EndCall, rule}
 use Rattle.trac_language.specs.Step.{function_of, end_need, need_by, need}
 use Rattle.trac_devices.specs.Devices.{Stream}
 use Rattle.trac_laws.specs.LastRead.{is_read_string, reads_last, end_reads_last, reads_last_by, reads_to_end}
@@ -16,14 +13,8 @@ use Rattle.trac_laws.proofs.TakenInput.{Kind, IsString, IsCharacter, IsOther, ki
 use Rattle.trac_laws.proofs.FurtherInput.{any_still, still_not_last, reads_no_further_law}
 use Rattle.trac_core.specs.declared.machine.session.Awaits.{Awaits}
 use Rattle.trac_core.specs.declared.machine.session.Awaits.TheVariants.{Nothing, Byte, Text as AwaitsText}
-use Rattle.trac_core.specs.Machine.{MachineState, Moment, moment, GoesOn, ending, state_with, state_of}
 use Rattle.trac_core.specs.Performed.{performed_by, performs}
-use Rattle.trac_core.specs.Session.{awaited, next_function, next_printed}
 use Rattle.trac_core.proofs.MetaCharacters.{before-none}
-use Rattle.trac_c.specs.Turned.{is_short, waits_for_input, followed_by, Goes, SomeTurned, TellsTurn, turn_number, wanted_by}
-use Rattle.trac_c.specs.declared.report.TracReport.{TracReport}
-use Rattle.trac_c.specs.declared.turn.Turn.{Turn}
-use Rattle.trac_c.specs.declared.turn.Turn.TheVariants.{Full}
 
 -- ---- a step that fits the room and doesn't wait doesn't read to the end
 
@@ -67,19 +58,11 @@ module _ (m : MachineState) (bytes : Text) where
 
   rule-ends : (written : Text) (r : Rule) → is_short (awaited (performed_by r m.memory.calls)) m bytes ≡ false → need_by r (state_with m.memory (ending bytes) written) ≤ m.room → reads_last_by r (state_with m.memory (ending bytes) written) ≡ false
   unfolding world
-  rule-ends written LoadIdling enough fits = refl
-  rule-ends written (DeleteLayout rest) enough fits = refl
-  rule-ends written (AddProtected inside rest) enough fits = refl
-  rule-ends written ClearActive enough fits = refl
-  rule-ends written (BeginArgument rest) enough fits = refl
-  rule-ends written (BeginCall mode rest) enough fits = refl
   rule-ends written (EndCall rest) enough fits = innermost-ends rest written m.memory.calls enough fits
-  rule-ends written (AddCharacter c rest) enough fits = refl
+  rule-ends written _ enough fits = refl
 
   performs-next : m.fate ≡ None → m.steps < m.allowance → next_function m ≡ performs m.memory
-  performs-next going allowed =
-      ap (λ f. if is_none f && nat_lt m.steps m.allowance then performs m.memory else None) going
-      ∙ ap (λ b. if b then performs m.memory else None) (lt-ltb m.steps m.allowance allowed)
+  performs-next going allowed = rw (going, lt-ltb m.steps m.allowance allowed) refl
 
   step-ends : (written : Text) → m.fate ≡ None → m.steps < m.allowance → is_short (awaited (next_function m)) m bytes ≡ false → need (state_with m.memory (ending bytes) written) ≤ m.room → reads_to_end (state_with m.memory (ending bytes) written) ≡ false
   unfolding need

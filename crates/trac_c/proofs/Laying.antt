@@ -1,8 +1,5 @@
 -- Items that are put into a buffer one after the other.
-use Rattle.std.proofs.Common.{◌≡◌, ℕ, zero, suc, ◌+◌, ◌<◌, ◌≤◌, List, [], ◌∷◌, ◌++◌, length, take, drop, map, min, refl, sym, ap, ◌∙◌, arith, slice_set, get_or}
-use Rattle.std.proofs.lemmas.List.{take_more, length-map, map-append}
-use Rattle.std.proofs.Math.Seq.{length-take-le}
-use Rattle.trac_c.specs.Laid.{laid, laid_from}
+use Rattle.trac_c.proofs.Words.{◌≡◌, ℕ, zero, suc, ◌+◌, ◌<◌, ◌≤◌, List, [], ◌∷◌, ◌++◌, length, take, drop, map, min, refl, sym, ap, ◌∙◌, arith, slice_set, get_or, take_more, length-map, map-append, length-take-le, laid, laid_from}
 
 module _ {A : Type 0} where
   pub laid-put : (x : A) (n : ℕ) (room : List A) → n < length room → slice_set room n x ≡ laid_from n (x ∷ []) room

@@ -1,9 +1,10 @@
 mod Again
 mod Coding
+mod Blocks
 mod Further
 mod KeptLooks
 mod Laying
-mod Limits
 mod Listing
-mod Rooms
 mod Telling
+mod Walking
+mod Words

@@ -1,15 +1,7 @@
 -- A turn between a source over its input and a sink over its buffer, in their bytes.
-use Rattle.std.proofs.Common.{◌≡◌, ℕ, [], Bool, false, ◌+◌, ◌<◌, length, take, sym, ap, ◌∙◌, subst, arith}
-use Rattle.trac_language.specs.Text.{Text}
-use Rattle.trac_language.specs.State.{Input}
-use Rattle.trac_devices.specs.Devices.{Stream}
-use Rattle.trac_devices.specs.Slices.{SliceInput, stream_in}
-use Rattle.trac_core.specs.Machine.{MachineState, Moment, moment, ending}
-use Rattle.trac_core.specs.Session.{next_printed}
-use Rattle.trac_c.specs.Turned.{SomeTurned, LacksRoom, stands, wanted_by}
+use Rattle.trac_c.proofs.Words.{◌≡◌, ℕ, [], Bool, false, ◌+◌, ◌<◌, length, take, arith, Text, Input, stream_in, MachineState, moment, ending, next_printed, SomeTurned, LacksRoom, stands, wanted_by, Turn, Full}
+use Rattle.trac_devices.specs.Slices.{SliceInput}
 use Rattle.trac_c.specs.declared.filling.FillingSink.{FillingSink}
-use Rattle.trac_c.specs.declared.turn.Turn.{Turn}
-use Rattle.trac_c.specs.declared.turn.Turn.TheVariants.{Full}
 
 -- a turn between a source and a sink over these bytes and this buffer, which holds this at its end
 pub told_turn :
@@ -23,15 +15,7 @@ pub told_turn :
     last
     (moment told (stream_in source') (take written given))
 told_turn ended most old new told source source' sink sink' last input given written at_source none holds count same turned =
-    let from : stands old source sink ≡ moment old (record { bytes = input; ended = false }) [] =
-    ap (λ (s : Stream). moment old s (take sink.len sink.room.now)) at_source
-    ∙ ap (λ (k : ℕ). moment old (record { bytes = input; ended = false }) (take k sink.room.now)) none in
-    let to : stands new source' sink' ≡ moment told (stream_in source') (take written given) =
-    ap (λ (t : Text). moment new (stream_in source') (take sink'.len t)) holds
-    ∙ ap (λ (k : ℕ). moment new (stream_in source') (take k given)) (sym count)
-    ∙ ap (λ (m : MachineState). moment m (stream_in source') (take written given)) (sym same) in
-    subst (λ (b : Moment). SomeTurned ended most (moment old (record { bytes = input; ended = false }) []) last b) to
-    (subst (λ (a : Moment). SomeTurned ended most a last (stands new source' sink')) from turned)
+    rw (at_source, none, holds, ← count, ← same) at turned
 
 -- what is wanted has no room
 pub told_full :
@@ -41,7 +25,5 @@ pub told_full :
     (last ≡ Full → LacksRoom m sink) → last ≡ Full → length given < written + wanted
 told_full last m sink given written wanted holds count asks lacks full =
     let least = lacks full (ending []) in
-    let lengths : length sink.room.now ≡ length given = ap (λ (t : Text). length t) holds in
-    let asked : wanted ≡ length (next_printed m (ending [])) =
-    subst (λ (t : Turn). wanted ≡ wanted_by t (length (next_printed m (ending [])))) full (asks (ending [])) in
-    omega (arith, least, asked, lengths, count)
+    let asked = rw full at (asks (ending [])) in
+    rw (← holds) (omega arith)

@@ -1,22 +1,6 @@
 -- Runs of ordinary characters and commas in a call: each is added or begins an argument.
-use Rattle.std.proofs.Common.{◌≡◌, ℕ, zero, suc, ◌<◌, ◌≤◌, ◌+◌, Bool, true, false, List, [], ◌∷◌, ◌++◌, length, take, drop, map, All, Some, slice_get, get_or, refl, sym, ap, ◌∙◌, subst, arith, append_assoc, append-nil, length-append, ⊎_elim, inl, inr}
-use Rattle.std.specs.Prelude.{◌==◌, ◌⊎◌, if◌then◌else◌}
-use Rattle.std.specs.List.{range_with_len}
-use Rattle.std.proofs.lemmas.Bool.{ne_eqb, eqb-true, cases_lt}
-use Rattle.std.proofs.lemmas.List.{length-drop, get_or_past, get_or_append_left, drop-append-le}
-use Rattle.std.proofs.lemmas.List.FromFn.{get_or-map-range_with_len, length-map-range_with_len}
-use Rattle.std.proofs.lemmas.List.Elements.{All-head, All-tail, All-push}
-use Rattle.std.proofs.Math.Seq.{drop-append-add}
-use Rattle.trac_space.specs.declared.cell.Cell.{Cell}
-use Rattle.trac_space.specs.declared.cell.Cell.TheVariants.{Byte, Call, Comma, Gap, Head}
-use Rattle.trac_space.specs.Calls.{IsLastCall}
-use Rattle.trac_space.specs.Cells.{is_call, IsNoCall, NoComma}
-use Rattle.trac_space.specs.Texts.{text_of_cells, character_of, IsByte}
-use Rattle.trac_space.specs.Runs.{IsInRun, number_in, turned, turned_by}
-use Rattle.trac_forms.specs.Contents.{Contents, used}
-use Rattle.trac_functions.specs.Flat.{memory_of}
-use Rattle.trac_core.specs.Attempts.{Scans}
-use Rattle.trac_core.specs.StepsInRow.{is_special, kind_of, IsOrdinary, IsPlainFrom, PassesTimes}
+use Rattle.trac_core.proofs.Words.{◌≡◌, ℕ, zero, suc, ◌<◌, ◌≤◌, ◌+◌, Bool, true, false, List, [], ◌∷◌, ◌++◌, length, take, drop, map, All, Some, slice_get, get_or, refl, sym, ap, ◌∙◌, subst, arith, append_assoc, append-nil, length-append, ⊎_elim, inl, inr, ◌==◌, ◌⊎◌, if◌then◌else◌, range_with_len, ne_eqb, eqb-true, cases_lt, get_or_past, get_or_append_left, drop-append-le, get_or-map-range_with_len, length-map-range_with_len, All-head, All-tail, All-push, drop-append-add, Cell, Byte, Comma, IsLastCall, is_call, IsNoCall, NoComma, text_of_cells, character_of, IsByte, turned, Contents, used, memory_of, Scans, is_special, kind_of, IsOrdinary, IsPlainFrom, PassesTimes}
+use Rattle.trac_space.specs.Runs.{IsInRun, number_in, turned_by}
 use Rattle.trac_core.proofs.Scanning.{scans-other, scans-comma}
 use Rattle.trac_core.proofs.StepsInRow.{passes-scans, ordinary-layout, ordinary-not}
 
@@ -80,36 +64,21 @@ abbrev pub run_moved : ℕ → Contents → Contents
 run_moved n w = record w { active = drop n w.active; neutral = w.neutral ++ turned (map kind_of (range_with_len 0 256)) (take n w.active) }
 
 pub run-passes : (meta n place : ℕ) (w : Contents) → IsLastCall w.neutral place → All IsByte w.active → n ≤ length w.active → All (IsInRun (map kind_of (range_with_len 0 256))) (take n w.active) → PassesTimes n (memory_of meta w) (memory_of meta (run_moved n w))
-run-passes meta zero place w last bytes within run = ap (λ cells. memory_of meta (record w { neutral = cells })) (sym (append-nil w.neutral))
-run-passes meta (suc n) place w last bytes within run = go w.active refl (run-passes meta n place) bytes within run
+run-passes meta n place w = go n w w.active
   where
-    go : (active : List Cell) → w.active ≡ active → ((w : Contents) → IsLastCall w.neutral place → All IsByte w.active → n ≤ length w.active → All (IsInRun (map kind_of (range_with_len 0 256))) (take n w.active) → PassesTimes n (memory_of meta w) (memory_of meta (run_moved n w))) → All IsByte active → suc n ≤ length active → All (IsInRun (map kind_of (range_with_len 0 256))) (take (suc n) active) → PassesTimes (suc n) (memory_of meta w) (memory_of meta (run_moved (suc n) w))
-    go [] is later bytes within run = absurd (omega arith)
-    go (Byte c ∷ rest) is later bytes within run =
-        let table = map kind_of (range_with_len 0 256) in
-        let cell = turned_by table (Byte c) in
-        let number = All-head (IsInRun table) (Byte c) (take n rest) run in
-        let less : kind_of c ≤ 1 = subst (λ k. k ≤ 1) (number-kind c) number in
-        let first : slice_get (text_of_cells w.active) 0 ≡ Some c = ap (λ cells. slice_get (text_of_cells cells) 0) is in
-        let next : Contents = record w { active = drop 1 w.active; neutral = w.neutral ++ cell ∷ [] } in
-        let scans = scans-run w c place first last less in
-        let long : length w.active ≡ suc (length rest) = ap length is in
-        let more = length-drop 1 w.active in
+    go : (n : ℕ) (w : Contents) (active : List Cell) → IsLastCall w.neutral place → All IsByte active → n ≤ length active → All (IsInRun (map kind_of (range_with_len 0 256))) (take n active) → PassesTimes n (memory_of meta (record w { active = active })) (memory_of meta (run_moved n (record w { active = active })))
+    go zero w active last bytes within run = ap (λ cells. memory_of meta (record w { active = active; neutral = cells })) (sym (append-nil w.neutral))
+    go (suc n) w [] last bytes within run = absurd (omega arith)
+    go (suc n) w (Byte c ∷ rest) last bytes within run =
+        let cell = turned_by (map kind_of (range_with_len 0 256)) (Byte c) in
+        let less : kind_of c ≤ 1 = subst (λ k. k ≤ 1) (number-kind c) (All-head (IsInRun (map kind_of (range_with_len 0 256))) (Byte c) (take n rest) run) in
+        let old : Contents = record w { active = Byte c ∷ rest } in
+        let next : Contents = record w { active = rest; neutral = w.neutral ++ cell ∷ [] } in
         let pushed = length-append w.neutral (cell ∷ []) in
-        let same : used next ≤ used w = omega arith in
-        let after : drop 1 w.active ≡ rest = ap (drop 1) is in
-        let others : PassesTimes n (memory_of meta next) (memory_of meta (run_moved n next)) =
-        later next (last-pushed w.neutral cell place (turned-no_call c) last) (subst (All IsByte) (sym after) (All-tail IsByte (Byte c) rest bytes)) (omega arith)
-        (subst (λ cells. All (IsInRun table) (take n cells)) (sym after) (All-tail (IsInRun table) (Byte c) (take n rest) run)) in
-        let end : run_moved n next ≡ run_moved (suc n) w =
-        ap (λ cells. record w { active = drop n cells; neutral = (w.neutral ++ cell ∷ []) ++ turned table (take n cells) }) after
-        ∙ ap (λ cells. record w { active = drop n rest; neutral = cells }) (append_assoc w.neutral (cell ∷ []) (turned table (take n rest)))
-        ∙ ap (λ cells. record w { active = drop (suc n) cells; neutral = w.neutral ++ turned table (take (suc n) cells) }) (sym is) in
-        (memory_of meta next, (passes-scans meta w next scans same, subst (λ v. PassesTimes n (memory_of meta next) (memory_of meta v)) end others))
-    go (Call mode k ∷ rest) is later bytes within run = absurd (All-head IsByte (Call mode k) rest bytes)
-    go (Comma ∷ rest) is later bytes within run = absurd (All-head IsByte Comma rest bytes)
-    go (Gap k ∷ rest) is later bytes within run = absurd (All-head IsByte (Gap k) rest bytes)
-    go (Head k ∷ rest) is later bytes within run = absurd (All-head IsByte (Head k) rest bytes)
+        let same : used next ≤ used old = omega arith in
+        let others = go n next rest (last-pushed w.neutral cell place (turned-no_call c) last) (All-tail IsByte (Byte c) rest bytes) (omega arith) (All-tail (IsInRun (map kind_of (range_with_len 0 256))) (Byte c) (take n rest) run) in
+        (memory_of meta next, (passes-scans meta old next (scans-run old c place refl last less) same, rw (append_assoc w.neutral (cell ∷ []) (turned (map kind_of (range_with_len 0 256)) (take n rest))) at others))
+    go (suc n) w (cell ∷ rest) last bytes within run = absurd (All-head IsByte cell rest bytes)
 
 -- behind the last comma mark of what is added none stands
 pub plain-turned : (neutral more : List Cell) (place last : ℕ) → place ≡ length neutral + last → NoComma (drop last more) → IsPlainFrom place (neutral ++ more)

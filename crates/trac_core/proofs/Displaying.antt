@@ -1,26 +1,7 @@
 -- The display of a form.
-use Rattle.std.proofs.Common.{◌≡◌, ◌≢◌, ℕ, ◌+◌, ◌-◌, ◌<◌, ◌≤◌, false, List, [], ◌∷◌, ◌++◌, length, take, drop, slice_get, slice_range, Option, Some, None, refl, sym, ap, ◌∙◌, subst, arith, append_assoc, append-nil}
-use Rattle.std.specs.Prelude.{Result, Ok, Err, OnErr, codes, decimal}
-use Rattle.std.proofs.Math.Seq.{take-add, drop-cons}
-use Rattle.std.proofs.lemmas.List.{take-append-drop, drop-drop, take_rest, length-append}
-use Rattle.std.proofs.lemmas.Option.{slice_get-get_or}
-use Rattle.trac_language.specs.declared.item.Item.{Item}
+use Rattle.trac_core.proofs.Words.{◌≡◌, ◌≢◌, ℕ, ◌+◌, ◌-◌, ◌<◌, ◌≤◌, false, List, [], ◌∷◌, ◌++◌, length, take, drop, slice_get, slice_range, Option, Some, None, refl, sym, ap, ◌∙◌, subst, arith, append_assoc, append-nil, Result, Ok, Err, OnErr, codes, decimal, take-add, drop-cons, take-append-drop, drop-drop, take_rest, slice_get-get_or, Item, PrintForm, OutputFailed, Text, Form, before_pointer, after_pointer, form_named, argument, World, on_form, printing, show, show_form, meaning_of, value_length, Contents, used, Stream, Breaks, Prints, mode_at, arguments_at, world, ending, Defined, Over, scene, IsCall, AnswersCall, display, shown}
+use Rattle.std.proofs.lemmas.List.{length-append}
 use Rattle.trac_language.specs.declared.item.Item.TheVariants.{Byte, Gap}
-use Rattle.trac_language.specs.declared.function.Function.TheVariants.{PrintForm}
-use Rattle.trac_language.specs.declared.fate.Fate.TheVariants.{OutputFailed}
-use Rattle.trac_language.specs.Text.{Text}
-use Rattle.trac_language.specs.Form.{Form, before_pointer, after_pointer}
-use Rattle.trac_language.specs.Store.{form_named}
-use Rattle.trac_language.specs.State.{argument}
-use Rattle.trac_language.specs.Meaning.{World, on_form, printing, show, show_form, meaning_of, value_length}
-use Rattle.trac_forms.specs.Contents.{Contents, used}
-use Rattle.trac_devices.specs.Devices.{Stream, Breaks, Prints}
-use Rattle.trac_functions.specs.Flat.{mode_at, arguments_at}
-use Rattle.trac_functions.specs.Calls.{world}
-use Rattle.trac_core.specs.Machine.{ending}
-use Rattle.trac_functions.specs.declared.arguments.Made.TheVariants.{Defined, Over}
-use Rattle.trac_core.specs.Attempts.{scene, IsCall, AnswersCall}
-use Rattle.trac_core.specs.Display.{display, shown}
 use Rattle.trac_core.proofs.Performing.{closed, delivered-null, tried-answer, tried-broken}
 
 pub show-append : (xs ys : List Item) → show (xs ++ ys) ≡ show xs ++ show ys
@@ -68,8 +49,7 @@ range-split body a b c ab bc =
 show-one : (body : List Item) (k : ℕ) → k < length body → show (slice_range body k (k + 1)) ≡ shown (slice_get body k)
 show-one body k lt =
     let one : (k + 1) - k ≡ 1 = omega arith in
-    ap (λ n. show (take n (drop k body))) one ∙ ap (λ items. show (take 1 items)) (drop-cons body k (Byte 0) lt)
-    ∙ ap shown (sym (slice_get-get_or body k (Byte 0) lt))
+    rw (one, drop-cons body k (Byte 0) lt) (ap shown (sym (slice_get-get_or body k (Byte 0) lt)))
 
 show-split : (body : List Item) (a b c : ℕ) → a ≤ b → b ≤ c → show (slice_range body a c) ≡ show (slice_range body a b) ++ show (slice_range body b c)
 show-split body a b c ab bc = ap show (range-split body a b c ab bc) ∙ show-append (slice_range body a b) (slice_range body b c)
@@ -125,7 +105,6 @@ module _ (w : Contents) (place : ℕ) where
   pub answers-display : IsCall w place (Some PrintForm) → (meta : ℕ) (source : Stream) (written : Text) → AnswersCall place (scene w meta source written) (Defined 0) (scene w meta source (written ++ display (form_named (argument (arguments_at w.neutral place) 1) w.forms)))
   unfolding meaning_of
   answers-display call meta source written =
-      let fits = call.sound.fits in
       let means = displays (form_named (argument (arguments_at w.neutral place) 1) w.forms) (world w.forms meta (ending source.bytes)) in
       tried-answer w (closed w place) place (Some PrintForm) meta meta source source written (display (form_named (argument (arguments_at w.neutral place) 1) w.forms)) (used w + 0) [] false w.forms call.names
       (record {
@@ -140,6 +119,5 @@ module _ (w : Contents) (place : ℕ) where
   pub answers-display-broken : IsCall w place (Some PrintForm) → (meta : ℕ) (source : Stream) (written put rest : Text) → display (form_named (argument (arguments_at w.neutral place) 1) w.forms) ≡ put ++ rest → put ++ rest ≢ [] → AnswersCall place (scene w meta source written) (Over OutputFailed) (scene w meta source (written ++ put))
   unfolding meaning_of
   answers-display-broken call meta source written put rest parts some =
-      let fits = call.sound.fits in
       let means = displays (form_named (argument (arguments_at w.neutral place) 1) w.forms) (world w.forms meta (ending source.bytes)) in
       tried-broken w w place (Some PrintForm) meta source written put rest (used w) _ call.names means parts some (let none_built = ap value_length means in omega arith) (omega arith)

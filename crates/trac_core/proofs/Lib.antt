@@ -18,3 +18,4 @@ pub mod Printed
 pub mod PlainEnds
 pub mod OrdinaryBlocks
 pub mod ArgumentRuns
+mod Words

@@ -1,16 +1,7 @@
 -- The search for the right parenthesis that matches, character by character.
-use Rattle.std.proofs.Common.{◌≡◌, ◌≢◌, ℕ, zero, suc, ◌+◌, ◌-◌, ◌*◌, ◌/◌, ◌%◌, ◌<◌, ◌≤◌, Bool, true, false, ◌&&◌, subst, List, [], ◌∷◌, ◌++◌, length, take, drop, Some, None, get_or, refl, sym, ap, ◌∙◌, arith, eq-eqb, sum_by, ⊎_elim}
-use Rattle.std.specs.Prelude.{◌==◌, if◌then◌else◌}
-use Rattle.std.proofs.lemmas.Bool.{ne_eqb, eqb-true, cases_Bool}
-use Rattle.std.proofs.lemmas.List.{drop_more, take_more, length-take, length-map}
-use Rattle.std.proofs.lemmas.List.Sums.{sum_by-cons, sum_by-append, count_by-le-length}
+use Rattle.trac_core.proofs.Words.{◌≡◌, ◌≢◌, ℕ, zero, suc, ◌+◌, ◌-◌, ◌*◌, ◌/◌, ◌%◌, ◌<◌, ◌≤◌, Bool, true, false, ◌&&◌, subst, List, [], ◌∷◌, ◌++◌, length, take, drop, Some, None, get_or, refl, sym, ap, ◌∙◌, arith, eq-eqb, sum_by, ⊎_elim, ◌==◌, if◌then◌else◌, ne_eqb, eqb-true, cases_Bool, drop_more, take_more, length-take, length-map, sum_by-cons, take-add, Cell, text_of_cells, character_of, Text, count, split_at_match, protected, IsAt, side_of, side_in, nat_tests}
+use Rattle.std.proofs.lemmas.List.Sums.{sum_by-append, count_by-le-length}
 use Rattle.std.proofs.Math.ListN.{drop_of_length-le}
-use Rattle.std.proofs.Math.Seq.{take-add}
-use Rattle.trac_space.specs.declared.cell.Cell.{Cell}
-use Rattle.trac_space.specs.Texts.{text_of_cells, character_of}
-use Rattle.trac_language.specs.Text.{Text}
-use Rattle.trac_language.specs.Protected.{count, split_at_match, protected}
-use Rattle.trac_core.specs.Matching.{IsAt, side_of, side_in}
 use Rattle.trac_core.proofs.Scanning.{take-text, drop-text}
 use Rattle.trac_laws.proofs.Parentheses.{weight, count_push, matches, split_found, split_passed, split_none}
 
@@ -23,7 +14,6 @@ module _ (text : Text) (i depth c : ℕ) (within : i < length text) (c_is : c �
 
   pub matched : c ≡ 41 → depth ≡ 0 → protected text ≡ Some (take i text, drop (i + 1) text)
   matched right closed =
-      let opens = at.open_is in
       let same : count 40 (take i text) ≡ count 41 (take i text) = omega arith in
       let yes_right : (c == 41) ≡ true = eq-eqb c 41 right in
       let yes_same : (count 40 (take i text) == count 41 (take i text)) ≡ true = eq-eqb _ _ same in
@@ -38,7 +28,6 @@ module _ (text : Text) (i depth c : ℕ) (within : i < length text) (c_is : c �
 
   pub passes-left : c ≡ 40 → IsAt text (i + 1) (depth + 1)
   passes-left left =
-      let opens = at.open_is in
       let wrong : (c == 41) ≡ false = ap (λ c. c == 41) left in
       let right : (c == 40) ≡ true = ap (λ c. c == 40) left in
       let l : count 40 (take (i + 1) text) ≡ count 40 (take i text) + 1 = counts 40 ∙ ap (λ b. count 40 (take i text) + weight b) right in
@@ -47,7 +36,6 @@ module _ (text : Text) (i depth c : ℕ) (within : i < length text) (c_is : c �
 
   pub passes-right : c ≡ 41 → 0 < depth → IsAt text (i + 1) (depth - 1)
   passes-right right more =
-      let opens = at.open_is in
       let yes_right : (c == 41) ≡ true = ap (λ c. c == 41) right in
       let no_left : (c == 40) ≡ false = ap (λ c. c == 40) right in
       let differ : count 40 (take i text) ≢ count 41 (take i text) = omega arith in
@@ -58,7 +46,6 @@ module _ (text : Text) (i depth c : ℕ) (within : i < length text) (c_is : c �
 
   pub passes-other : c ≢ 40 → c ≢ 41 → IsAt text (i + 1) depth
   passes-other not_left not_right =
-      let opens = at.open_is in
       let wrong : (c == 41) ≡ false = ne_eqb c 41 not_right in
       let no_left : (c == 40) ≡ false = ne_eqb c 40 not_left in
       let l : count 40 (take (i + 1) text) ≡ count 40 (take i text) + 0 = counts 40 ∙ ap (λ b. count 40 (take i text) + weight b) no_left in
@@ -101,12 +88,7 @@ passes-closed text (suc n) i depth within few at =
     differs c b wrong e = let yes : (c == b) ≡ true = eq-eqb c b e in cc
 
 pub side-small : (c : ℕ) → side_of c ≤ 16
-side-small c = go (c == 40) (c == 41)
-  where
-    go : (a b : Bool) → (if a then 1 else (if b then 16 else 0)) ≤ 16
-    go true b = omega arith
-    go false true = omega arith
-    go false false = omega arith
+side-small c = grind (arith, nat_tests)
 
 -- what it says of a character, by what the character is
 side-is : (c : ℕ) → side_of c ≡ weight (c == 40) + 16 * weight (c == 41)
@@ -153,9 +135,5 @@ passes-block cells i depth sides is at after =
     let found = sides-eight cells i sides is in
     let lefts = count-more 40 text i 8 in
     let rights = count-more 41 text i 8 in
-    let before = at.open_is in
-    let behind = after.1.open_is in
-    let left = found.0 in
-    let right = found.1 in
     let later : after.0 ≡ depth + sides % 16 - sides / 16 = omega arith in
     (omega arith, subst (IsAt text (i + 8)) later after.1, found.2)

@@ -1,29 +1,12 @@
 -- Texts with and without the meta character, and a text that is read.
-use Rattle.std.proofs.Common.{◌≡◌, ℕ, suc, ◌+◌, ◌≤◌, Bool, true, false, not, ◌||◌, cond, [], ◌∷◌, ◌++◌, length, take, drop, refl, ap, ◌∙◌, arith, append_assoc, eqb}
-use Rattle.std.specs.Prelude.{◌==◌}
-use Rattle.std.specs.List.{before_first, position_or_len, list_any}
-use Rattle.std.proofs.lemmas.List.{take_at, drop_at, map-append, length-take-le}
-use Rattle.std.proofs.Math.Seq.{take-length, drop-length}
-use Rattle.trac_language.specs.Text.{Text}
-use Rattle.trac_space.specs.declared.cell.Cell.TheVariants.{Byte}
-use Rattle.trac_space.specs.Texts.{flat_text}
-use Rattle.trac_forms.specs.Contents.{Contents}
-use Rattle.trac_devices.specs.HeldBytes.{Reads}
+use Rattle.trac_core.proofs.Words.{◌≡◌, ℕ, suc, ◌+◌, ◌≤◌, Bool, true, false, not, ◌||◌, cond, [], ◌∷◌, ◌++◌, length, take, drop, refl, ap, ◌∙◌, arith, append_assoc, eqb, ◌==◌, before_first, position_or_len, list_any, take_at, drop_at, map-append, length-take-le, take-length, drop-length, Text, Byte, flat_text, Contents, Reads, or_parts, or_right}
 
 module _ (p : ℕ → Bool) where
   none-head : (c : ℕ) (text : Text) → list_any p (c ∷ text) ≡ false → p c ≡ false
-  none-head c text h = go (p c) h
-    where
-      go : (b : Bool) → (b || list_any p text) ≡ false → b ≡ false
-      go true e = e
-      go false e = refl
+  none-head c text h = (or_parts (p c) (list_any p text) h).0
 
   none-tail : (c : ℕ) (text : Text) → list_any p (c ∷ text) ≡ false → list_any p text ≡ false
-  none-tail c text h = go (p c) h
-    where
-      go : (b : Bool) → (b || list_any p text) ≡ false → list_any p text ≡ false
-      go true e = absurd cc
-      go false e = e
+  none-tail c text h = (or_parts (p c) (list_any p text) h).1
 
   -- no place passes
   pub position-none : (text : Text) → list_any p text ≡ false → position_or_len p text ≡ length text
@@ -67,11 +50,7 @@ module _ (p : ℕ → Bool) where
 
   pub any-at : (text : Text) (c : ℕ) (rest : Text) → p c ≡ true → list_any p (text ++ c ∷ rest) ≡ true
   any-at [] c rest passes = ap (λ b. b || list_any p rest) passes
-  any-at (x ∷ text) c rest passes = go (p x) (any-at text c rest passes)
-    where
-      go : (b : Bool) → list_any p (text ++ c ∷ rest) ≡ true → (b || list_any p (text ++ c ∷ rest)) ≡ true
-      go true e = refl
-      go false e = e
+  any-at (x ∷ text) c rest passes = or_right (p x) (list_any p (text ++ c ∷ rest)) (any-at text c rest passes)
 
   none-more : (text : Text) (c : ℕ) → list_any p text ≡ false → p c ≡ false → list_any p (text ++ c ∷ []) ≡ false
   none-more [] c h passes = ap (λ b. b || false) passes

@@ -1,14 +1,7 @@
 -- A run of the machine, moment by moment, beside the run of the definition.
-use Rattle.std.proofs.Common.{◌≡◌, ℕ, zero, suc, ◌+◌, ◌<◌, ◌≤◌, max, Bool, true, false, [], ◌++◌, refl, sym, ap, ◌∙◌, subst, append_assoc, arith}
-use Rattle.trac_language.specs.Text.{Text}
-use Rattle.trac_language.specs.State.{Memory, size}
-use Rattle.trac_language.specs.Step.{step, need}
-use Rattle.trac_laws.specs.LastRead.{reads_to_end}
+use Rattle.trac_core.proofs.Words.{◌≡◌, ℕ, zero, suc, ◌+◌, ◌<◌, ◌≤◌, max, Bool, true, false, [], ◌++◌, refl, sym, ap, ◌∙◌, subst, append_assoc, arith, Text, Memory, size, step, need, reads_to_end, Stream, MachineState, Moment, moment, ending, state_with, state_of, GoesOn, Passes, PassesTimes, peak_after, passed}
 use Rattle.trac_laws.proofs.Reached.{Reached, reached_start, reached_next}
 use Rattle.trac_laws.proofs.ReachedWhileReading.{ReachedAnywhere, anywhere_start, anywhere_next}
-use Rattle.trac_devices.specs.Devices.{Stream}
-use Rattle.trac_core.specs.Machine.{MachineState, Moment, moment, ending, state_with, state_of, GoesOn}
-use Rattle.trac_core.specs.StepsInRow.{Passes, PassesTimes, peak_after, passed}
 
 -- up to a moment a machine has taken given of its input, and its run is that of the definition from where it stood; while
 -- the source hasn't ended, it is so too however the input goes on
@@ -44,8 +37,6 @@ along-more start bytes before taken old new room_is took a goes_on =
     let given = a.given in
     let n = a.count in
     let room = start.room in
-    let counts = goes_on.counts.steps in
-    let peaks = goes_on.counts.peak in
     let fits : need (state_of old) ≤ room = subst (λ r. need (state_of old) ≤ r) room_is goes_on.may.fits in
     let reached = reached_next room (state_with start.memory (ending bytes) before) n a.peak (state_of old) a.whole (state_of new) fits goes_on.goes in
     let split = state_with old.machine.memory (ending (taken ++ new.source.bytes)) old.written in

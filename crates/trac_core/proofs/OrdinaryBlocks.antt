@@ -1,21 +1,9 @@
 -- Runs of characters without a rule of their own, in blocks.
-use Rattle.std.proofs.Common.{◌≡◌, ℕ, ◌+◌, ◌≤◌, Bool, true, false, List, [], ◌∷◌, take, drop, All, refl, sym, subst, arith, sum_by}
-use Rattle.std.specs.Prelude.{◌==◌, if◌then◌else◌}
-use Rattle.std.proofs.Math.Seq.{take-add}
-use Rattle.std.proofs.lemmas.List.Elements.{All-append, All-cons}
-use Rattle.std.proofs.lemmas.List.Sums.{sum_by-cons}
-use Rattle.trac_space.specs.declared.cell.Cell.{Cell}
-use Rattle.trac_space.specs.Texts.{text_of_cells, character_of}
-use Rattle.trac_core.specs.StepsInRow.{is_special, kind_of, kind_in, IsOrdinary}
+use Rattle.trac_core.proofs.Words.{◌≡◌, ℕ, ◌+◌, ◌≤◌, Bool, true, false, List, [], ◌∷◌, take, drop, All, refl, sym, subst, arith, sum_by, ◌==◌, if◌then◌else◌, take-add, All-append, All-cons, sum_by-cons, Cell, text_of_cells, character_of, is_special, kind_of, kind_in, IsOrdinary, nat_tests}
 use Rattle.trac_core.proofs.Scanning.{take-text, drop-text}
 
 pub kind-small : (c : ℕ) → kind_of c ≤ 2
-kind-small c = go (c == 44) (is_special c)
-  where
-    go : (b d : Bool) → (if b then 1 else (if d then 2 else 0)) ≤ 2
-    go true d = omega arith
-    go false true = omega arith
-    go false false = omega arith
+kind-small c = grind (arith, nat_tests)
 
 pub kind-none : (c : ℕ) → kind_of c ≡ 0 → IsOrdinary c
 kind-none c = go (c == 44) (is_special c)

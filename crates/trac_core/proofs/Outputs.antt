@@ -1,14 +1,7 @@
 -- A run prints the same after anything that was printed before it.
-use Rattle.std.proofs.Common.{◌≡◌, ℕ, zero, suc, List, [], ◌∷◌, ◌++◌, Bool, true, false, refl, sym, ap, ◌∙◌, append_assoc, append-nil}
-use Rattle.std.specs.Prelude.{nat_lt}
-use Rattle.trac_language.specs.declared.mode.Mode.{Mode}
-use Rattle.trac_language.specs.Text.{Text}
-use Rattle.trac_language.specs.State.{OpenCall, Memory, Input, State}
-use Rattle.trac_language.specs.Meaning.{Meaning, Gives, Ends}
-use Rattle.trac_language.specs.Rule.{Rule, LoadIdling, DeleteLayout, AddProtected, ClearActive, BeginArgument, BeginCall, EndCall, AddCharacter, rule}
-use Rattle.trac_language.specs.Step.{Outcome, Next, Over, deliver, perform, end_call, with_active, follow, end_need, need_by, step, need}
-use Rattle.trac_language.specs.Run.{Run, within, go_on, one_more, run}
-use Rattle.trac_core.specs.Machine.{state_with}
+use Rattle.trac_core.proofs.Words.{◌≡◌, ℕ, zero, suc, List, [], ◌∷◌, ◌++◌, Bool, true, false, refl, sym, ap, ◌∙◌, append_assoc, append-nil, nat_lt, Mode, Text, OpenCall, Memory, Input, State, Meaning, Gives, Ends, Rule, EndCall, rule, Outcome, Next, deliver, perform, end_call, with_active, follow, end_need, need_by, step, need, Run, run, state_with}
+use Rattle.trac_language.specs.Step.{Over}
+use Rattle.trac_language.specs.Run.{within, go_on, one_more}
 
 module _ (before : Text) where
   -- the state after more was printed before it
@@ -35,14 +28,8 @@ module _ (before : Text) where
   end_call-later (call ∷ outer) s = perform-later call.mode _ (record s { memory = record s.memory { calls = outer } })
 
   follow-later : (r : Rule) (s : State) → follow r (record s { output = before ++ s.output }) ≡ later_outcome (follow r s)
-  follow-later LoadIdling s = refl
-  follow-later (DeleteLayout rest) s = refl
-  follow-later (AddProtected inside rest) s = refl
-  follow-later ClearActive s = refl
-  follow-later (BeginArgument rest) s = refl
-  follow-later (BeginCall mode rest) s = refl
   follow-later (EndCall rest) s = end_call-later s.memory.calls (with_active rest s)
-  follow-later (AddCharacter c rest) s = refl
+  follow-later _ s = refl
 
   step-later : (s : State) → step (record s { output = before ++ s.output }) ≡ later_outcome (step s)
   unfolding step
@@ -53,14 +40,8 @@ module _ (before : Text) where
   end_need-later (call ∷ outer) s = refl
 
   need_by-later : (r : Rule) (s : State) → need_by r (record s { output = before ++ s.output }) ≡ need_by r s
-  need_by-later LoadIdling s = refl
-  need_by-later (DeleteLayout rest) s = refl
-  need_by-later (AddProtected inside rest) s = refl
-  need_by-later ClearActive s = refl
-  need_by-later (BeginArgument rest) s = refl
-  need_by-later (BeginCall mode rest) s = refl
   need_by-later (EndCall rest) s = end_need-later s.memory.calls s
-  need_by-later (AddCharacter c rest) s = refl
+  need_by-later _ s = refl
 
   need-later : (s : State) → need (record s { output = before ++ s.output }) ≡ need s
   unfolding need

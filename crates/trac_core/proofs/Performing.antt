@@ -1,41 +1,11 @@
 -- A call that is performed, over the contents of a workspace.
-use Rattle.std.proofs.Common.{◌≡◌, ◌≢◌, ℕ, ◌+◌, ◌-◌, ◌<◌, ◌≤◌, max, Bool, true, false, not, ◌&&◌, ◌||◌, List, [], ◌∷◌, ◌++◌, length, take, drop, All, Option, Some, None, refl, sym, ap, ◌∙◌, subst, arith, append-nil, length-append}
-use Rattle.std.specs.Prelude.{◌==◌, slice_get, unwrap_or, nat_le}
-use Rattle.std.proofs.lemmas.Option.{unwrap_or-slice_get}
-use Rattle.std.specs.List.{list_any}
-use Rattle.std.proofs.lemmas.List.{length-map, length-drop, get_or_append_left}
-use Rattle.std.proofs.Math.Seq.{drop-append_seam, take-append_seam, take-length}
-use Rattle.trac_language.specs.declared.mode.Mode.{Mode}
-use Rattle.trac_language.specs.declared.mode.Mode.TheVariants.{Active, Neutral as NeutralMode}
-use Rattle.trac_language.specs.declared.function.Function.{Function}
-use Rattle.trac_language.specs.declared.function.Function.TheVariants.{ReadString, ReadCharacter, ChangeMeta, PrintString, PrintForm, Halt}
-use Rattle.trac_language.specs.declared.fate.Fate.{Fate}
-use Rattle.trac_language.specs.declared.fate.Fate.TheVariants.{Workspace, Steps, InputFailed, OutputFailed}
-use Rattle.trac_language.specs.Text.{Text}
-use Rattle.trac_language.specs.Form.{Form}
-use Rattle.trac_language.specs.Function.{function_named}
-use Rattle.trac_language.specs.State.{Input, State, arguments, argument, size}
-use Rattle.trac_language.specs.Meaning.{Answer, Gives, Ends, meaning_of, meaning, built}
-use Rattle.trac_language.specs.Rule.{EndCall, rule}
-use Rattle.trac_language.specs.Step.{Next, function_of, deliver, perform, end_call, follow, end_need, need_by, step, need}
-use Rattle.trac_laws.specs.LastRead.{is_read_string, reads_last, end_reads_last, reads_last_by, reads_to_end}
+use Rattle.trac_core.proofs.Words.{failing_state_of, StopsAtInput, StopsAtOutput, ◌≡◌, ◌≢◌, ℕ, ◌+◌, ◌-◌, ◌<◌, ◌≤◌, max, Bool, true, false, not, ◌&&◌, ◌||◌, List, [], ◌∷◌, ◌++◌, length, take, drop, All, Option, Some, None, refl, sym, ap, ◌∙◌, subst, arith, append-nil, length-append, ◌==◌, slice_get, unwrap_or, nat_le, unwrap_or-slice_get, list_any, length-map, length-drop, get_or_append_left, drop-append_seam, take-append_seam, take-length, Mode, Active, Function, ReadString, ReadCharacter, ChangeMeta, PrintString, PrintForm, Halt, Fate, Workspace, Steps, InputFailed, OutputFailed, Text, Form, function_named, Input, State, argument, size, Answer, Gives, Ends, meaning_of, meaning, built, deliver, perform, step, need, is_read_string, reads_last, reads_to_end, Cell, Byte, flat_text, text_of_cells, character_of, IsByte, IsLastCall, Contents, used, IsSound, Stream, Full, Value, Placed, Defined, Over, texts_of, no_neutral, neutral_of, memory_of, mode_of, mode_at, is_active_mode, arguments_at, texts_from, world, IsValue, IsPlaced, IsDefined, Makes, is_plain, performs, MachineState, moment, ending, failing, state_with, state_of, failing_state_of, EndsRun, input_failures, output_failures, scene, TriedCall, ClosesCall, function_at, delivered, settled, AnswersCall, IsValueFrom, Stands, fate_after, or_right, true≢false}
+use Rattle.trac_language.specs.declared.mode.Mode.TheVariants.{Neutral as NeutralMode}
 use Rattle.trac_laws.proofs.Rules.{rule_end}
-use Rattle.trac_space.specs.declared.cell.Cell.{Cell}
-use Rattle.trac_space.specs.declared.cell.Cell.TheVariants.{Byte, Call, Comma, Gap, Head}
-use Rattle.trac_space.specs.Texts.{flat_text, text_of_cells, character_of, IsByte}
-use Rattle.trac_space.specs.Calls.{IsLastCall}
 use Rattle.trac_space.proofs.Texts.{text_of_cells-append}
-use Rattle.trac_forms.specs.Contents.{Contents, used, IsSound}
-use Rattle.trac_devices.specs.Devices.{Stream}
 use Rattle.trac_functions.specs.declared.arguments.Made.{Made}
-use Rattle.trac_functions.specs.declared.arguments.Made.TheVariants.{Full, Value, Placed, Defined, Over}
-use Rattle.trac_functions.specs.Flat.{texts_of, Neutral, no_neutral, neutral_of, memory_with, memory_of, mode_of, mode_at, is_active_mode, arguments_at}
-use Rattle.trac_functions.specs.Calls.{texts_from, world, IsValue, IsPlaced, IsDefined, Makes}
-use Rattle.trac_functions.proofs.FlatLemmas.{with_cells-append, with_cells-text, text_of-flat, neutral_of-innermost, call_at, opened, texts_of-some, grown-mode, arguments-call_at, size-used}
+use Rattle.trac_functions.proofs.FlatLemmas.{with_cells-append, with_cells-text, text_of-flat, neutral_of-innermost, opened, texts_of-some, grown-mode, arguments-call_at, size-used}
 use Rattle.trac_functions.proofs.ArgumentLemmas.{bytes-flat}
-use Rattle.trac_core.specs.Performed.{is_plain, performed_by, performs}
-use Rattle.trac_core.specs.Machine.{MachineState, moment, ending, failing, state_with, state_of, failing_state_of, EndsRun, input_failures, output_failures}
-use Rattle.trac_core.specs.Attempts.{scene, TriedCall, ClosesCall, function_at, delivered, settled, AnswersCall, IsValueFrom, Stands, fate_after}
 
 -- the contents without the innermost call
 abbrev pub closed : Contents → ℕ → Contents
@@ -46,11 +16,9 @@ pub memory-delivered : (mode : Mode) (forced : Bool) (value : Text) (place meta 
 memory-delivered mode forced value place meta w = go mode forced
   where
     go : (mode : Mode) (forced : Bool) → memory_of meta (delivered mode forced value place w) ≡ deliver mode forced value (memory_of meta (closed w place))
-    go Active forced = ap (λ t. memory_with (neutral_of (take place w.neutral)) t w.forms meta) (text_of_cells-append (flat_text value) w.active ∙ ap (λ t. t ++ text_of_cells w.active) (text_of-flat value))
-    go NeutralMode true = ap (λ t. memory_with (neutral_of (take place w.neutral)) t w.forms meta) (text_of_cells-append (flat_text value) w.active ∙ ap (λ t. t ++ text_of_cells w.active) (text_of-flat value))
-    go NeutralMode false =
-        ap (λ (n : Neutral). memory_with n (text_of_cells w.active) w.forms meta) (with_cells-append no_neutral (take place w.neutral) (flat_text value))
-        ∙ with_cells-text value (neutral_of (take place w.neutral)) (text_of_cells w.active) w.forms meta
+    go Active forced = rw (text_of_cells-append (flat_text value) w.active, text_of-flat value) refl
+    go NeutralMode true = rw (text_of_cells-append (flat_text value) w.active, text_of-flat value) refl
+    go NeutralMode false = rw (with_cells-append no_neutral (take place w.neutral) (flat_text value)) (with_cells-text value (neutral_of (take place w.neutral)) (text_of_cells w.active) w.forms meta)
 
 -- ---- the step that performs the call
 
@@ -58,50 +26,21 @@ module _ (old w : Contents) (place : ℕ) (p : ClosesCall old w place) (f : Opti
   pub step-performs : (meta : ℕ) (input : Input) (output : Text) → step (state_with (memory_of meta old) input output) ≡ perform (mode_at w.neutral place) (meaning f (arguments_at w.neutral place) (world w.forms meta input)) (state_with (memory_of meta (closed w place)) input output)
   unfolding step
   step-performs meta input output =
-      let t = text_of_cells w.active in
-      let s = state_with (memory_of meta (record w { active = Byte 41 ∷ w.active })) input output in
-      let after = state_with (memory_of meta (closed w place)) input output in
-      let here = world w.forms meta input in
-      let open_call = call_at w.neutral place in
-      ap (λ (o : Contents). follow (rule (text_of_cells o.active)) (state_with (memory_of meta o) input output)) p.same
-      ∙ ap (λ r. follow r s) (rule_end t)
-      ∙ ap (λ (n : Neutral). end_call n.calls (state_with (memory_with n t w.forms meta) input output)) (neutral_of-innermost w.neutral place p.innermost)
-      ∙ ap (λ m. perform m (meaning (function_of open_call) (arguments open_call) here) after) (grown-mode (opened (mode_at w.neutral place)) (drop (place + 1) w.neutral))
-      ∙ ap (λ args. perform (mode_at w.neutral place) (meaning (function_named (argument args 0)) args here) after) (arguments-call_at w.neutral place p.innermost)
-      ∙ ap (λ f. perform (mode_at w.neutral place) (meaning f (arguments_at w.neutral place) here) after) names
+      rw (p.same, rule_end (text_of_cells w.active), neutral_of-innermost w.neutral place p.innermost, grown-mode (opened (mode_at w.neutral place)) (drop (place + 1) w.neutral), arguments-call_at w.neutral place p.innermost, names) refl
 
   pub need-performs : (meta : ℕ) (input : Input) (output : Text) → need (state_with (memory_of meta old) input output) ≡ used w + built f (arguments_at w.neutral place) (world w.forms meta input)
   unfolding need
   need-performs meta input output =
-      let t = text_of_cells w.active in
-      let o = record w { active = Byte 41 ∷ w.active } in
-      let s = state_with (memory_of meta o) input output in
-      let here = world w.forms meta input in
-      let cells = size-used meta (record w { active = Byte 41 ∷ w.active }) in
-      let less : size (memory_of meta (record w { active = Byte 41 ∷ w.active })) - 1 ≡ used w = omega arith in
-      ap (λ (o : Contents). need_by (rule (text_of_cells o.active)) (state_with (memory_of meta o) input output)) p.same
-      ∙ ap (λ r. need_by r s) (rule_end t)
-      ∙ ap (λ calls. end_need calls s) (ap (λ (n : Neutral). n.calls) (neutral_of-innermost w.neutral place p.innermost))
-      ∙ ap (λ args. size s.memory - 1 + built (function_named (argument args 0)) args here) (arguments-call_at w.neutral place p.innermost)
-      ∙ ap (λ f. size s.memory - 1 + built f (arguments_at w.neutral place) here) names
-      ∙ ap (λ n. n + built f (arguments_at w.neutral place) here) less
+      let cells = rw (neutral_of-innermost w.neutral place p.innermost) at (size-used meta (record w { active = Byte 41 ∷ w.active })) in
+      rw (p.same, rule_end (text_of_cells w.active), neutral_of-innermost w.neutral place p.innermost, arguments-call_at w.neutral place p.innermost, names) (omega arith)
 
   pub performs-call : (meta : ℕ) → performs (memory_of meta old) ≡ f
   performs-call meta =
-      ap (λ (o : Contents). performed_by (rule (text_of_cells o.active)) (memory_of meta o).calls) p.same
-      ∙ ap (λ r. performed_by r (neutral_of w.neutral).calls) (rule_end (text_of_cells w.active))
-      ∙ ap (performed_by (EndCall (text_of_cells w.active))) (ap (λ (n : Neutral). n.calls) (neutral_of-innermost w.neutral place p.innermost))
-      ∙ ap (λ args. function_named (argument args 0)) (arguments-call_at w.neutral place p.innermost)
-      ∙ names
+      rw (p.same, rule_end (text_of_cells w.active), neutral_of-innermost w.neutral place p.innermost, arguments-call_at w.neutral place p.innermost) names
 
   pub reads-call : (meta : ℕ) (input : Input) (output : Text) → reads_to_end (state_with (memory_of meta old) input output) ≡ reads_last f (world w.forms meta input)
   reads-call meta input output =
-      let here = world w.forms meta input in
-      ap (λ (o : Contents). reads_last_by (rule (text_of_cells o.active)) (state_with (memory_of meta o) input output)) p.same
-      ∙ ap (λ r. reads_last_by r (state_with (memory_of meta (record w { active = Byte 41 ∷ w.active })) input output)) (rule_end (text_of_cells w.active))
-      ∙ ap (λ calls. end_reads_last calls here) (ap (λ (n : Neutral). n.calls) (neutral_of-innermost w.neutral place p.innermost))
-      ∙ ap (λ args. reads_last (function_named (argument args 0)) here) (arguments-call_at w.neutral place p.innermost)
-      ∙ ap (λ f. reads_last f here) names
+      rw (p.same, rule_end (text_of_cells w.active), neutral_of-innermost w.neutral place p.innermost, arguments-call_at w.neutral place p.innermost, names) refl
 
 -- ---- what a machine is told
 
@@ -119,53 +58,32 @@ room-performs old w place p = ap (λ (w : Contents). w.room) p.same
 
 pub tried-answer : (w new : Contents) (place : ℕ) (f : Option Function) (meta meta' : ℕ) (source source' : Stream) (written put : Text) (needed : ℕ) (value : Text) (forced : Bool) (forms : List Form) → function_named (argument (arguments_at w.neutral place) 0) ≡ f → Answered w new place f meta meta' source source' put needed value forced forms → TriedCall place (scene w meta source written) None needed (scene new meta' source' (written ++ put))
 tried-answer w new place f meta meta' source source' written put needed value forced forms names a = λ old p m room_is memory_is allowed.
-    let input = ending source.bytes in
-    let s = state_with (memory_of meta old) input written in
-    let here : state_of (moment m source written) ≡ s = ap (λ memory. state_with memory input written) memory_is in
-    let need_is : need s ≡ needed = need-performs old w place p f names meta input written ∙ sym a.needs in
+    let need_is : need (state_of (moment m source written)) ≡ needed = rw memory_is (need-performs old w place p f names meta (ending source.bytes) written ∙ sym a.needs) in
     let room = room-performs old w place p in
-    let fits = a.fits in
-    let mode = mode_at w.neutral place in
     record {
-      may = record { allowed = allowed; fits = rw here (omega arith) };
-      goes = ap step here
-          ∙ step-performs old w place p f names meta input written
-          ∙ ap (λ x. perform mode x (state_with (memory_of meta (closed w place)) input written)) a.means
-          ∙ ap (λ memory. Next (state_with memory (ending source'.bytes) (written ++ put)))
-          (sym (ap (memory_of meta') a.stands ∙ memory-delivered mode forced value place meta' (record w { forms = forms })));
-      counts = record { steps = refl; peak = rw (here, need_is) refl };
+      may = record { allowed = allowed; fits = omega arith };
+      goes = rw (memory_is, step-performs old w place p f names meta (ending source.bytes) written, a.means, a.stands, memory-delivered (mode_at w.neutral place) forced value place meta' (record w { forms = forms })) refl;
+      counts = record { steps = refl; peak = ap (max m.peak) (sym need_is) };
       stays_ended = a.stays_ended;
-      read_all = λ reads. a.read_all (sym (reads-call old w place p f names meta input written) ∙ sym (ap reads_to_end here) ∙ reads);
+      read_all = λ reads. a.read_all (sym (reads-call old w place p f names meta (ending source.bytes) written) ∙ rw memory_is at reads);
     }
 
 -- the call needs more than the room
 pub tried-full : (w new : Contents) (place : ℕ) (f : Option Function) (meta : ℕ) (source source' : Stream) (written : Text) (needed : ℕ) → function_named (argument (arguments_at w.neutral place) 0) ≡ f → w.room < used w + built f (arguments_at w.neutral place) (world w.forms meta (ending source.bytes)) → TriedCall place (scene w meta source written) (Some Workspace) needed (scene new meta source' written)
 tried-full w new place f meta source source' written needed names full = λ old p m room_is memory_is allowed.
-    let input = ending source.bytes in
-    let s = state_with (memory_of meta old) input written in
-    let here : state_of (moment m source written) ≡ s = ap (λ memory. state_with memory input written) memory_is in
-    let need_is = need-performs old w place p f names meta input written in
+    let need_is = need-performs old w place p f names meta (ending source.bytes) written in
     let room = room-performs old w place p in
-    record {
-      allowed = allowed;
-      full = rw here (omega arith);
-      counts = record { steps = omega arith; peak = omega arith };
-      written = refl;
-    }
+    record { allowed = allowed; full = rw memory_is (omega arith); counts = record { steps = omega arith; peak = omega arith }; written = refl }
 
 -- the call is an end of the language that counts as a step
 pub tried-end : (fate : Fate) (w new : Contents) (place : ℕ) (f : Option Function) (meta : ℕ) (source source' : Stream) (written : Text) (needed : ℕ) → function_named (argument (arguments_at w.neutral place) 0) ≡ f → meaning f (arguments_at w.neutral place) (world w.forms meta (ending source.bytes)) ≡ Ends fate → needed ≡ used w + built f (arguments_at w.neutral place) (world w.forms meta (ending source.bytes)) → needed ≤ w.room → source'.bytes ≡ source.bytes → (old : Contents) → ClosesCall old w place → (m : MachineState) → m.room ≡ old.room → m.memory ≡ memory_of meta old → m.steps < m.allowance → (new' : MachineState) → new'.steps ≡ m.steps + 1 → new'.peak ≡ max m.peak needed → EndsRun fate (moment m source written) (moment new' source' written)
 tried-end fate w new place f meta source source' written needed names means needs fits left old p m room_is memory_is allowed new' steps_is peak_is =
-    let input = ending source.bytes in
-    let s = state_with (memory_of meta old) input written in
-    let here : state_of (moment m source written) ≡ s = ap (λ memory. state_with memory input written) memory_is in
-    let need_is : need s ≡ needed = need-performs old w place p f names meta input written ∙ sym needs in
+    let need_is : need (state_of (moment m source written)) ≡ needed = rw memory_is (need-performs old w place p f names meta (ending source.bytes) written ∙ sym needs) in
     let room = room-performs old w place p in
-    let mode = mode_at w.neutral place in
     record {
-      may = record { allowed = allowed; fits = rw here (omega arith) };
-      ends = ap step here ∙ step-performs old w place p f names meta input written ∙ ap (λ x. perform mode x (state_with (memory_of meta (closed w place)) input written)) means;
-      counts = record { steps = steps_is; peak = rw (here, need_is) peak_is };
+      may = record { allowed = allowed; fits = omega arith };
+      ends = rw (memory_is, step-performs old w place p f names meta (ending source.bytes) written, means) refl;
+      counts = record { steps = steps_is; peak = peak_is ∙ ap (max m.peak) (sym need_is) };
       source = left;
       written = refl;
     }
@@ -173,54 +91,34 @@ tried-end fate w new place f meta source source' written needed names means need
 -- the source failed after it gave some bytes
 pub tried-failed : (w new : Contents) (place : ℕ) (f : Option Function) (meta : ℕ) (source source' : Stream) (written given : Text) (needed : ℕ) → function_named (argument (arguments_at w.neutral place) 0) ≡ f → meaning f (arguments_at w.neutral place) (world w.forms meta (failing given)) ≡ Ends InputFailed → needed ≡ used w + built f (arguments_at w.neutral place) (world w.forms meta (failing given)) → needed ≤ w.room → source.bytes ≡ given ++ source'.bytes → source.ended ≡ false → TriedCall place (scene w meta source written) (Some InputFailed) needed (scene new meta source' written)
 tried-failed w new place f meta source source' written given needed names means needs fits gave open_still = λ old p m room_is memory_is allowed.
-    let input = failing given in
-    let s = state_with (memory_of meta old) input written in
-    let here : failing_state_of (moment m source written) given ≡ s = ap (λ memory. state_with memory input written) memory_is in
-    let need_is : need s ≡ needed = need-performs old w place p f names meta input written ∙ sym needs in
+    let need_is : need (failing_state_of (moment m source written) given) ≡ needed = rw memory_is (need-performs old w place p f names meta (failing given) written ∙ sym needs) in
     let room = room-performs old w place p in
-    let mode = mode_at w.neutral place in (
-      given,
-      record {
-        consumed = gave;
-        not_ended = open_still;
-        may = record { allowed = allowed; fits = rw here (omega arith) };
-        ends = ap step here ∙ step-performs old w place p f names meta input written ∙ ap (λ x. perform mode x (state_with (memory_of meta (closed w place)) input written)) means;
-        counts = record { steps = omega arith; peak = rw (here, need_is) refl };
-        written = refl;
-      },
-    )
+    let stops : StopsAtInput (moment m source written) _ given = record {
+      consumed = gave;
+      not_ended = open_still;
+      may = record { allowed = allowed; fits = omega arith };
+      ends = rw (memory_is, step-performs old w place p f names meta (failing given) written, means) refl;
+      counts = record { steps = omega arith; peak = ap (max m.peak) (sym need_is) };
+      written = refl;
+    } in
+    (given, stops)
 
 -- the sink failed
 pub tried-broken : (w new : Contents) (place : ℕ) (f : Option Function) (meta : ℕ) (source : Stream) (written put rest : Text) (needed : ℕ) (answer : Answer) → function_named (argument (arguments_at w.neutral place) 0) ≡ f → meaning f (arguments_at w.neutral place) (world w.forms meta (ending source.bytes)) ≡ Gives answer → answer.printed ≡ put ++ rest → put ++ rest ≢ [] → needed ≡ used w + built f (arguments_at w.neutral place) (world w.forms meta (ending source.bytes)) → needed ≤ w.room → TriedCall place (scene w meta source written) (Some OutputFailed) needed (scene new meta source (written ++ put))
 tried-broken w new place f meta source written put rest needed answer names means prints some needs fits = λ old p m room_is memory_is allowed.
-    let input = ending source.bytes in
-    let s = state_with (memory_of meta old) input written in
-    let here : state_of (moment m source written) ≡ s = ap (λ memory. state_with memory input written) memory_is in
-    let need_is : need s ≡ needed = need-performs old w place p f names meta input written ∙ sym needs in
+    let need_is : need (state_of (moment m source written)) ≡ needed = rw memory_is (need-performs old w place p f names meta (ending source.bytes) written ∙ sym needs) in
     let room = room-performs old w place p in
-    let mode = mode_at w.neutral place in
-    let after = state_with (memory_of meta (closed w place)) input written in
-    let next : State = record {
-      memory = deliver mode answer.forced answer.value (record after.memory { forms = answer.world.forms; meta = answer.world.meta });
-      input = answer.world.input;
-      output = written ++ answer.printed;
-    } in (
-      next,
-      (
-        put,
-        (
-          rest,
-          record {
-            may = record { allowed = allowed; fits = rw here (omega arith) };
-            goes = ap step here ∙ step-performs old w place p f names meta input written ∙ ap (λ x. perform mode x after) means;
-            prints = ap (λ t. written ++ t) prints;
-            some = some;
-            counts = record { steps = omega arith; peak = rw (here, need_is) refl };
-            written = refl;
-          },
-        ),
-      ),
-    )
+    let after = memory_of meta (closed w place) in
+    let next : State = record { memory = deliver (mode_at w.neutral place) answer.forced answer.value (record after { forms = answer.world.forms; meta = answer.world.meta }); input = answer.world.input; output = written ++ answer.printed } in
+    let stops : StopsAtOutput (moment m source written) _ next put rest = record {
+      may = record { allowed = allowed; fits = omega arith };
+      goes = rw (memory_is, step-performs old w place p f names meta (ending source.bytes) written, means) refl;
+      prints = ap (λ t. written ++ t) prints;
+      some = some;
+      counts = record { steps = omega arith; peak = ap (max m.peak) (sym need_is) };
+      written = refl;
+    } in
+    (next, (put, (rest, stops)))
 
 -- ---- calls that neither read nor print
 
@@ -241,10 +139,9 @@ delivered-active NeutralMode true value place w h = refl
 delivered-active NeutralMode false value place w h = absurd cc
 
 pub delivered-neutral : (mode : Mode) (forced : Bool) (value : Text) (place : ℕ) (w : Contents) → (forced || is_active_mode mode) ≡ false → delivered mode forced value place w ≡ record w { neutral = take place w.neutral ++ flat_text value }
-delivered-neutral Active true value place w h = absurd cc
-delivered-neutral Active false value place w h = absurd cc
-delivered-neutral NeutralMode true value place w h = absurd cc
 delivered-neutral NeutralMode false value place w h = refl
+delivered-neutral NeutralMode true value place w h = absurd cc
+delivered-neutral Active forced value place w h = absurd (true≢false (sym (or_right forced true refl) ∙ h))
 
 -- the function's name and what follows it
 pub whole-arguments : (neutral : List Cell) (place : ℕ) (rest : List Text) → rest ≡ drop 1 (arguments_at neutral place) → argument (arguments_at neutral place) 0 ∷ rest ≡ arguments_at neutral place
@@ -257,82 +154,49 @@ whole-arguments neutral place rest e = ap (λ l. argument (arguments_at neutral 
 -- a plain function reads nothing
 plain-reads : (f : Function) → is_plain f ≡ true → is_read_string f ≡ false
 plain-reads ReadString h = absurd cc
-plain-reads ReadCharacter h = absurd cc
-plain-reads ChangeMeta h = absurd cc
-plain-reads PrintString h = absurd cc
-plain-reads PrintForm h = absurd cc
-plain-reads Halt h = absurd cc
 plain-reads _ h = refl
 
 -- a value that stands behind what was there is delivered
 pub delivered-value : (w mid new : Contents) (place end : ℕ) (value : Text) (forced : Bool) (forms : List Form) → IsLastCall w.neutral place → mid ≡ record w { forms = forms; neutral = w.neutral ++ flat_text value } → end ≡ length w.neutral → new ≡ delivered (mode_at mid.neutral place) forced (text_of_cells (drop end mid.neutral)) place (record mid { neutral = take end mid.neutral }) → new ≡ delivered (mode_at w.neutral place) forced value place (record w { forms = forms })
 delivered-value w mid new place end value forced forms innermost stands end_is new_is =
-    let neutral = ap (λ (w : Contents). w.neutral) stands in
-    let same_text : text_of_cells (drop end mid.neutral) ≡ value =
-    ap (λ n. text_of_cells (drop end n)) neutral ∙ ap (λ k. text_of_cells (drop k (w.neutral ++ flat_text value))) end_is ∙ ap text_of_cells (drop-append_seam w.neutral (flat_text value)) ∙ text_of-flat value in
-    let before : take end mid.neutral ≡ w.neutral = ap (take end) neutral ∙ ap (λ k. take k (w.neutral ++ flat_text value)) end_is ∙ take-append_seam w.neutral (flat_text value) in
-    let mode : mode_at mid.neutral place ≡ mode_at w.neutral place = ap (λ n. mode_at n place) neutral ∙ ap mode_of (get_or_append_left w.neutral (flat_text value) (Byte 0) place innermost.mark.0) in
-    new_is
-    ∙ ap (λ m. delivered m forced (text_of_cells (drop end mid.neutral)) place (record mid { neutral = take end mid.neutral })) mode
-    ∙ ap (λ v. delivered (mode_at w.neutral place) forced v place (record mid { neutral = take end mid.neutral })) same_text
-    ∙ ap (λ n. delivered (mode_at w.neutral place) forced value place (record mid { neutral = n })) before
-    ∙ ap (λ (c : Contents). delivered (mode_at w.neutral place) forced value place (record c { neutral = w.neutral })) stands
+    rw (new_is, stands, end_is, drop-append_seam w.neutral (flat_text value), text_of-flat value, take-append_seam w.neutral (flat_text value), get_or_append_left w.neutral (flat_text value) (Byte 0) place innermost.mark.0) refl
 
 module _ (w mid : Contents) (place : ℕ) (f : Function) (rest : List Text) (scanned : Bool) (names : function_named (argument (arguments_at w.neutral place) 0) ≡ Some f) (innermost : IsLastCall w.neutral place) (plain : is_plain f ≡ true) (rest_is : rest ≡ drop 1 (arguments_at w.neutral place)) (mode_is : scanned ≡ is_active_mode (mode_at w.neutral place)) where
+  -- a call with a value, by the arguments that follow its name
+  plain-tried : (new : Contents) (needed : ℕ) (value : Text) (forced : Bool) (forms : List Form) (meta : ℕ) (source : Stream) (written : Text) → meaning_of f (argument (arguments_at w.neutral place) 0 ∷ rest) (world w.forms meta (ending source.bytes)) ≡ Gives (record { value = value; forced = forced; world = world forms meta (ending source.bytes); printed = [] }) → new ≡ delivered (mode_at w.neutral place) forced value place (record w { forms = forms }) → needed ≡ used w + built (Some f) (argument (arguments_at w.neutral place) 0 ∷ rest) (world w.forms meta (ending source.bytes)) → needed ≤ w.room → TriedCall place (scene w meta source written) None needed (scene new meta source written)
+  plain-tried new needed value forced forms meta source written means stands needs fits =
+      let all = whole-arguments w.neutral place rest rest_is in
+      tried-quiet w new place (Some f) meta meta source source written needed value forced forms names
+      (record {
+        means = ap (λ args. meaning_of f args (world w.forms meta (ending source.bytes))) (sym all) ∙ means;
+        stands = stands;
+        needs = needs ∙ ap (λ args. used w + built (Some f) args (world w.forms meta (ending source.bytes))) all;
+        fits = fits;
+        stays_ended = λ e. e;
+        read_all = λ reads. absurd (let none = ap (λ b. b && not (list_any (λ c. c == meta) source.bytes)) (plain-reads f plain) in cc);
+      })
+
   -- a call that builds a value which stands at the end of neutral
   pub tried-value : (new : Contents) (end needed : ℕ) (value : Text) (forced : Bool) → IsValue f (argument (arguments_at w.neutral place) 0 ∷ rest) w mid forced value → end ≡ length w.neutral → new ≡ delivered (mode_at mid.neutral place) forced (text_of_cells (drop end mid.neutral)) place (record mid { neutral = take end mid.neutral }) → needed ≡ used w + (length mid.neutral - end) → (meta : ℕ) (source : Stream) (written : Text) → TriedCall place (scene w meta source written) None needed (scene new meta source written)
   tried-value new end needed value forced is end_is new_is needs meta source written =
-      let all = whole-arguments w.neutral place rest rest_is in
-      let here = world w.forms meta (ending source.bytes) in
-      let neutral = ap (λ (w : Contents). w.neutral) is.stands in
-      let built_is = sym (ap (λ args. built (Some f) args here) (sym all) ∙ is.valued.builds meta (ending source.bytes)) in
-      let long : length mid.neutral - end ≡ length value =
-      ap (λ n. length n - end) neutral ∙ rw (end_is, length-append w.neutral (flat_text value), length-map value Byte) (omega arith) in
-      let fits = is.fits in
-      tried-quiet w new place (Some f) meta meta source source written needed value forced mid.forms names
-      (record {
-        means = ap (λ args. meaning_of f args here) (sym all) ∙ is.valued.means meta (ending source.bytes);
-        stands = delivered-value w mid new place end value forced mid.forms innermost is.stands end_is new_is;
-        needs = needs ∙ ap (λ n. used w + n) (long ∙ built_is);
-        fits = omega arith;
-        stays_ended = λ e. e;
-        read_all = λ reads. absurd (let no_reading = plain-reads f plain in let none = ap (λ b. b && not (list_any (λ c. c == meta) source.bytes)) no_reading in cc);
-      })
+      let long : length mid.neutral - end ≡ length value = rw (is.stands, end_is, length-append w.neutral (flat_text value), length-map value Byte) (omega arith) in
+      plain-tried new needed value forced mid.forms meta source written (is.valued.means meta (ending source.bytes)) (delivered-value w mid new place end value forced mid.forms innermost is.stands end_is new_is)
+      (needs ∙ ap (λ n. used w + n) (long ∙ sym (is.valued.builds meta (ending source.bytes)))) (omega arith)
 
   -- a call whose value stands before the active string already
   pub tried-placed : (value : Text) (forced : Bool) (size : ℕ) → IsPlaced f (argument (arguments_at w.neutral place) 0 ∷ rest) scanned w mid forced value size → (meta : ℕ) (source : Stream) (written : Text) → TriedCall place (scene w meta source written) None (used w + size) (scene (closed mid place) meta source written)
   tried-placed value forced size is meta source written =
-      let all = whole-arguments w.neutral place rest rest_is in
-      let here = world w.forms meta (ending source.bytes) in
-      let built_is = sym (ap (λ args. built (Some f) args here) (sym all) ∙ is.valued.builds meta (ending source.bytes)) in
       let goes : (forced || is_active_mode (mode_at w.neutral place)) ≡ true = ap (λ b. forced || b) (sym mode_is) ∙ is.goes in
-      let fits = is.fits in
-      tried-quiet w (closed mid place) place (Some f) meta meta source source written (used w + size) value forced mid.forms names
-      (record {
-        means = ap (λ args. meaning_of f args here) (sym all) ∙ is.valued.means meta (ending source.bytes);
-        stands = ap (λ (c : Contents). closed c place) is.stands ∙ sym (delivered-active (mode_at w.neutral place) forced value place (record w { forms = mid.forms }) goes);
-        needs = ap (λ n. used w + n) (sym is.long ∙ built_is);
-        fits = omega arith;
-        stays_ended = λ e. e;
-        read_all = λ reads. absurd (let no_reading = plain-reads f plain in let none = ap (λ b. b && not (list_any (λ c. c == meta) source.bytes)) no_reading in cc);
-      })
+      plain-tried (closed mid place) (used w + size) value forced mid.forms meta source written (is.valued.means meta (ending source.bytes))
+      (ap (λ (c : Contents). closed c place) is.stands ∙ sym (delivered-active (mode_at w.neutral place) forced value place (record w { forms = mid.forms }) goes))
+      (ap (λ n. used w + n) (sym is.long ∙ sym (is.valued.builds meta (ending source.bytes)))) is.fits
 
   -- a call that builds a form
   pub tried-defined : (new : Contents) (needed cells : ℕ) → IsDefined f (argument (arguments_at w.neutral place) 0 ∷ rest) w mid cells → new ≡ closed mid place → needed ≡ used w + cells → (meta : ℕ) (source : Stream) (written : Text) → TriedCall place (scene w meta source written) None needed (scene new meta source written)
   tried-defined new needed cells is new_is needs meta source written =
-      let all = whole-arguments w.neutral place rest rest_is in
-      let here = world w.forms meta (ending source.bytes) in
-      let built_is = sym (ap (λ args. built (Some f) args here) (sym all) ∙ is.builds meta (ending source.bytes)) in
-      let fits = is.fits in
-      tried-quiet w new place (Some f) meta meta source source written needed [] false mid.forms names
-      (record {
-        means = ap (λ args. meaning_of f args here) (sym all) ∙ is.means meta (ending source.bytes);
-        stands = new_is ∙ ap (λ (c : Contents). record c { forms = mid.forms; neutral = take place c.neutral }) is.stands ∙ sym (delivered-null (mode_at w.neutral place) place (record w { forms = mid.forms }));
-        needs = needs ∙ ap (λ n. used w + n) built_is;
-        fits = omega arith;
-        stays_ended = λ e. e;
-        read_all = λ reads. absurd (let no_reading = plain-reads f plain in let none = ap (λ b. b && not (list_any (λ c. c == meta) source.bytes)) no_reading in cc);
-      })
+      plain-tried new needed [] false mid.forms meta source written (is.means meta (ending source.bytes))
+      (new_is ∙ ap (λ (c : Contents). record c { forms = mid.forms; neutral = take place c.neutral }) is.stands ∙ sym (delivered-null (mode_at w.neutral place) place (record w { forms = mid.forms })))
+      (needs ∙ ap (λ n. used w + n) (sym (is.builds meta (ending source.bytes)))) (omega arith)
 
   -- a call that doesn't fit
   pub tried-too-much : (new : Contents) → Makes f (argument (arguments_at w.neutral place) 0 ∷ rest) scanned w Full mid → (meta : ℕ) (source : Stream) (written : Text) → TriedCall place (scene w meta source written) (Some Workspace) 0 (scene new meta source written)
@@ -354,7 +218,6 @@ module _ (w mid : Contents) (place : ℕ) (f : Function) (rest : List Text) (sca
 -- a call of no function
 pub answers-nothing : (w : Contents) (place : ℕ) → function_named (argument (arguments_at w.neutral place) 0) ≡ None → IsSound w → (meta : ℕ) (source : Stream) (written : Text) → AnswersCall place (scene w meta source written) (Defined 0) (scene w meta source written)
 answers-nothing w place names sound meta source written =
-    let fits = sound.fits in
     tried-quiet w (closed w place) place None meta meta source source written (used w + 0) [] false w.forms names
     (record {
       means = refl;
@@ -391,12 +254,10 @@ stands-made f args scanned w mid Full is = tt
 stands-made f args scanned w mid Value is = value-stands f args w mid false is.0 is.1
 stands-made f args scanned w mid (Placed size) is =
     let placed = is.1.1 in
-    let fits = placed.fits in
     let neutral = ap (λ (w : Contents). length w.neutral) placed.stands in
     let room = ap (λ (w : Contents). w.room) placed.stands in
     record { within = omega arith; fits = omega arith }
 stands-made f args scanned w mid (Defined cells) is =
-    let fits = is.fits in
     let neutral = ap (λ (w : Contents). length w.neutral) is.stands in
     let room = ap (λ (w : Contents). w.room) is.stands in
     record { within = omega arith; fits = omega arith }
@@ -404,27 +265,20 @@ stands-made f args scanned w mid (Over fate) is = tt
 
 -- a function without devices ends no run
 pub no-failure-made : (f : Function) (args : List Text) (scanned : Bool) (w mid : Contents) (made : Made) → Makes f args scanned w made mid → (input_failures None (fate_after made) ≡ 0) × ((output_failures None (fate_after made) ≡ 0) × (made ≢ Over Steps))
-no-failure-made f args scanned w mid Full is = (refl, (refl, λ e. absurd cc))
-no-failure-made f args scanned w mid Value is = (refl, (refl, λ e. absurd cc))
-no-failure-made f args scanned w mid (Placed size) is = (refl, (refl, λ e. absurd cc))
-no-failure-made f args scanned w mid (Defined cells) is = (refl, (refl, λ e. absurd cc))
 no-failure-made f args scanned w mid (Over fate) is = absurd is
+no-failure-made f args scanned w mid _ is = (refl, (refl, λ e. absurd cc))
 
 -- what ends the run, or isn't done, was made of nothing but too few cells
 pub only-full : (f : Function) (args : List Text) (scanned : Bool) (w mid : Contents) (made : Made) → Makes f args scanned w made mid → fate_after made ≢ None → made ≡ Full
 only-full f args scanned w mid Full is some = refl
-only-full f args scanned w mid Value is some = absurd (some refl)
-only-full f args scanned w mid (Placed size) is some = absurd (some refl)
-only-full f args scanned w mid (Defined cells) is some = absurd (some refl)
 only-full f args scanned w mid (Over fate) is some = absurd is
+only-full f args scanned w mid _ is some = absurd (some refl)
 
 -- and then nothing is settled
 pub unsettled : (made : Made) (place from : ℕ) (w : Contents) → fate_after made ≢ None → settled made place from w ≡ w
 unsettled Full place from w some = refl
-unsettled Value place from w some = absurd (some refl)
-unsettled (Placed cells) place from w some = absurd (some refl)
-unsettled (Defined cells) place from w some = absurd (some refl)
 unsettled (Over fate) place from w some = refl
+unsettled _ place from w some = absurd (some refl)
 
 -- a null value stands anywhere
 pub stands-null : (w : Contents) → IsSound w → Stands (Defined 0) (used w) (length w.neutral) w
@@ -434,10 +288,7 @@ stands-null w sound = let fits = sound.fits in record { within = omega arith; fi
 
 byte-first : (cell : Cell) (c : ℕ) → IsByte cell → character_of cell ≡ c → cell ≡ Byte c
 byte-first (Byte b) c h e = ap Byte e
-byte-first (Call mode k) c h e = absurd h
-byte-first Comma c h e = absurd h
-byte-first (Gap k) c h e = absurd h
-byte-first (Head k) c h e = absurd h
+byte-first _ c h e = absurd h
 
 first-byte : (cells : List Cell) (c : ℕ) → All IsByte cells → slice_get (text_of_cells cells) 0 ≡ Some c → cells ≡ Byte c ∷ drop 1 cells
 first-byte [] c h e = absurd cc
@@ -456,12 +307,17 @@ pub function-performs : (old w : Contents) (place meta : ℕ) → ClosesCall old
 function-performs old w place meta p = performs-call old w place p (function_at w.neutral place) refl meta
 
 -- all arguments of the innermost call
-pub texts-all : (neutral : List Cell) (place : ℕ) → place < length neutral → texts_from neutral (place + 1) (length neutral) ≡ arguments_at neutral place
-texts-all neutral place within =
+pub texts-all : (neutral : List Cell) (place end : ℕ) → end ≡ length neutral → place < length neutral → texts_from neutral (place + 1) end ≡ arguments_at neutral place
+texts-all neutral place end end_is within =
     let le : place + 1 ≤ length neutral = omega arith in
     let yes_le : nat_le (place + 1) (length neutral) ≡ true = grind arith in
     let long : length neutral - (place + 1) ≡ length (drop (place + 1) neutral) = sym (length-drop (place + 1) neutral) in
-    rw yes_le (ap texts_of (ap (λ n. take n (drop (place + 1) neutral)) long ∙ take-length (drop (place + 1) neutral)))
+    rw (end_is, yes_le) (ap texts_of (ap (λ n. take n (drop (place + 1) neutral)) long ∙ take-length (drop (place + 1) neutral)))
+
+-- the function that the first of them names
+pub named-at : (w : Contents) (place end : ℕ) (o : Option Function) {found : Option Function} → end ≡ length w.neutral → IsLastCall w.neutral place → found ≡ function_named (argument (texts_from w.neutral (place + 1) end) 0) → found ≡ o → function_at w.neutral place ≡ o
+named-at w place end o end_is innermost named is =
+    ap (λ l. function_named (argument l 0)) (sym (texts-all w.neutral place end end_is innermost.mark.0)) ∙ sym named ∙ is
 
 -- the functions that have no arm of their own are plain
 pub plain-rest : (f : Function) → f ≢ ReadString → f ≢ ReadCharacter → f ≢ ChangeMeta → f ≢ PrintString → f ≢ PrintForm → f ≢ Halt → is_plain f ≡ true

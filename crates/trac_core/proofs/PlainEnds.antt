@@ -1,23 +1,9 @@
 -- The end of the neutral string in which no comma mark stands.
-use Rattle.std.proofs.Common.{◌≡◌, ℕ, ◌-◌, ◌+◌, true, false, List, [], ◌∷◌, ◌++◌, length, length-append, drop, get_or, All, refl, sym, subst, arith, ⊎_elim}
-use Rattle.std.proofs.lemmas.Bool.{cases_lt}
-use Rattle.std.proofs.lemmas.List.{drop-append-le, get_or_push}
-use Rattle.std.proofs.lemmas.List.Elements.{All-append, All-drop}
-use Rattle.std.proofs.Math.Seq.{drop-append-add}
-use Rattle.trac_space.specs.declared.cell.Cell.{Cell}
-use Rattle.trac_space.specs.declared.cell.Cell.TheVariants.{Byte, Call, Comma, Gap, Head}
-use Rattle.trac_language.specs.declared.mode.Mode.{Mode}
-use Rattle.trac_space.specs.Calls.{IsLastCall}
-use Rattle.trac_space.specs.Cells.{is_call, is_comma, NoCall, NoComma}
-use Rattle.trac_space.specs.Texts.{IsByte}
-use Rattle.trac_core.specs.StepsInRow.{IsPlainFrom}
+use Rattle.trac_core.proofs.Words.{◌≡◌, ℕ, ◌-◌, ◌+◌, true, false, List, [], ◌∷◌, ◌++◌, length, length-append, drop, get_or, All, refl, sym, subst, arith, ⊎_elim, cases_lt, drop-append-le, get_or_push, All-append, All-drop, drop-append-add, Cell, Byte, Call, Mode, IsLastCall, is_call, is_comma, NoCall, NoComma, IsByte, IsPlainFrom}
 
 no-comma : (cell : Cell) → IsByte cell → is_comma cell ≡ false
 no-comma (Byte c) h = refl
-no-comma (Call mode k) h = absurd h
-no-comma Comma h = absurd h
-no-comma (Gap k) h = absurd h
-no-comma (Head k) h = absurd h
+no-comma _ h = absurd h
 
 -- characters are no comma marks
 pub bytes-plain : (cells : List Cell) → All IsByte cells → NoComma cells

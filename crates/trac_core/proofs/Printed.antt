@@ -1,32 +1,10 @@
 -- What a step prints, and how long it is.
-use Rattle.std.proofs.Common.{◌≡◌, ◌≢◌, ℕ, ◌+◌, ◌-◌, ◌<◌, Bool, true, false, List, [], ◌∷◌, ◌++◌, length, take, drop, slice_range, slice_get, get_or, Option, Some, None, refl, sym, ap, ◌∙◌, arith}
-use Rattle.std.specs.Prelude.{codes, ℤ}
-use Rattle.std.proofs.lemmas.List.{length-append, length-map, take-append-drop, take_more}
+use Rattle.trac_core.proofs.Words.{◌≡◌, ◌≢◌, ℕ, ◌+◌, ◌-◌, ◌<◌, Bool, true, false, List, [], ◌∷◌, ◌++◌, length, take, drop, slice_range, slice_get, get_or, Option, Some, None, refl, sym, ap, ◌∙◌, arith, codes, ℤ, length-map, take-append-drop, take_more, slice_get-get_or, Mode, Item, Function, ReadString, ReadCharacter, ChangeMeta, PrintString, PrintForm, SegmentString, CallForm, CallSegment, CallCharacter, CallNumber, InitialPart, CallRestore, Arithmetic, Text, Form, before_pointer, after_pointer, OpenCall, Memory, Input, arguments, argument, World, Meaning, Gives, Ends, on_form, take_part, result_or, read_all, read_string, read_character, change_meta, show, show_form, meaning, meaning_of, before_meta, from_meta, form_of_call, Rule, EndCall, rule, function_of, world_of, perform, end_call, follow, step, with_active, Cell, IsLastCall, text_of_cells, character_of, Contents, IsTextPart, IsSound, part_text, memory_of, mode_at, arguments_at, world, state_with, performed_by, performs, prints_output, function_at, display, shown, printed_in}
+use Rattle.std.proofs.lemmas.List.{length-append}
 use Rattle.std.proofs.lemmas.List.Edits.{length-between}
-use Rattle.std.proofs.lemmas.Option.{slice_get-get_or}
-use Rattle.trac_language.specs.declared.mode.Mode.{Mode}
-use Rattle.trac_language.specs.declared.item.Item.{Item}
 use Rattle.trac_language.specs.declared.item.Item.TheVariants.{Byte}
-use Rattle.trac_language.specs.declared.function.Function.{Function}
-use Rattle.trac_language.specs.declared.function.Function.TheVariants.{ReadString, ReadCharacter, ChangeMeta, Halt, PrintString, PrintForm, DefineString, SegmentString, DeleteDefinition, DeleteAll, ListNames, CallForm, CallSegment, CallCharacter, CallNumber, InitialPart, CallRestore, Equal, Greater, Arithmetic, Union, Intersection, Complement, Shift, Rotate}
-use Rattle.trac_language.specs.Text.{Text}
-use Rattle.trac_language.specs.Form.{Form, before_pointer, after_pointer}
 use Rattle.trac_language.specs.Part.{Part}
-use Rattle.trac_language.specs.State.{OpenCall, Memory, Input, arguments, argument}
-use Rattle.trac_language.specs.Meaning.{World, Meaning, Gives, Ends, on_form, take_part, result_or, read_all, read_string, read_character, change_meta, show, show_form, meaning, meaning_of, before_meta, from_meta, form_of_call}
-use Rattle.trac_language.specs.Rule.{Rule, LoadIdling, DeleteLayout, AddProtected, ClearActive, BeginArgument, BeginCall, EndCall, AddCharacter, rule}
-use Rattle.trac_language.specs.Step.{function_of, world_of, perform, end_call, follow, step, with_active}
-use Rattle.trac_space.specs.declared.cell.Cell.{Cell}
-use Rattle.trac_space.specs.Calls.{IsLastCall}
-use Rattle.trac_space.specs.Texts.{text_of_cells, character_of}
-use Rattle.trac_forms.specs.Contents.{Contents, IsTextPart, IsSound, part_text}
-use Rattle.trac_functions.specs.Flat.{memory_of, mode_at, arguments_at}
-use Rattle.trac_functions.specs.Calls.{world}
-use Rattle.trac_core.specs.Machine.{state_with}
-use Rattle.trac_core.specs.Performed.{performed_by, performs, prints_output}
-use Rattle.trac_core.specs.Attempts.{function_at}
-use Rattle.trac_core.specs.Display.{display, shown}
-use Rattle.trac_core.specs.Session.{printed_in, output_after, step_prints}
+use Rattle.trac_core.specs.Session.{output_after, step_prints}
 use Rattle.trac_core.proofs.Displaying.{show-append}
 use Rattle.trac_core.proofs.Performing.{closed, performs-closed, step-performs}
 
@@ -34,11 +12,7 @@ use Rattle.trac_core.proofs.Performing.{closed, performs-closed, step-performs}
 
 pub length-show-more : (body : List Item) (k : ℕ) (item : Option Item) (n : ℕ) → k < length body → item ≡ slice_get body k → n ≡ length (shown item) → length (show (take (k + 1) body)) ≡ length (show (take k body)) + n
 length-show-more body k item n within is n_is =
-    ap (λ items. length (show items)) (take_more body k (Byte 0) within)
-    ∙ ap length (show-append (take k body) (get_or body k (Byte 0) ∷ []))
-    ∙ length-append (show (take k body)) (show (get_or body k (Byte 0) ∷ []))
-    ∙ ap (λ o. length (show (take k body)) + length (shown o)) (sym (is ∙ slice_get-get_or body k (Byte 0) within))
-    ∙ ap (λ m. length (show (take k body)) + m) (sym n_is)
+    rw (n_is, is ∙ slice_get-get_or body k (Byte 0) within, take_more body k (Byte 0) within, show-append (take k body) (get_or body k (Byte 0) ∷ [])) (length-append (show (take k body)) (show (get_or body k (Byte 0) ∷ [])))
 
 pub length-display : (form : Form) → length (show_form form) ≡ 3 + length (show form.body)
 length-display form =
@@ -91,12 +65,7 @@ plain-prints ReadString args w e = read_string-prints (before_meta w) (from_meta
 plain-prints ReadCharacter args w e = read_character-prints w.input.text w.input.fails w
 plain-prints ChangeMeta args w e = change_meta-prints (argument args 1) w
 plain-prints PrintString args w e = absurd cc
-plain-prints Halt args w e = refl
-plain-prints DefineString args w e = refl
 plain-prints SegmentString args w e = on_form-prints (form_of_call args w) _ w (λ form. refl)
-plain-prints DeleteDefinition args w e = refl
-plain-prints DeleteAll args w e = refl
-plain-prints ListNames args w e = refl
 plain-prints PrintForm args w e = absurd cc
 plain-prints CallForm args w e = on_form-prints (form_of_call args w) _ w (λ form. refl)
 plain-prints CallSegment args w e = on_form-prints (form_of_call args w) _ w (λ form. take_part-prints (argument args 1) (argument args 2) _ w)
@@ -104,14 +73,8 @@ plain-prints CallCharacter args w e = on_form-prints (form_of_call args w) _ w (
 plain-prints CallNumber args w e = on_form-prints (form_of_call args w) _ w (λ form. take_part-prints (argument args 1) (argument args 3) _ w)
 plain-prints InitialPart args w e = on_form-prints (form_of_call args w) _ w (λ form. take_part-prints (argument args 1) (argument args 3) _ w)
 plain-prints CallRestore args w e = on_form-prints (form_of_call args w) _ w (λ form. refl)
-plain-prints Equal args w e = refl
-plain-prints Greater args w e = refl
 plain-prints (Arithmetic operation) args w e = result_or-prints _ _ (argument args 3) w
-plain-prints Union args w e = refl
-plain-prints Intersection args w e = refl
-plain-prints Complement args w e = refl
-plain-prints Shift args w e = refl
-plain-prints Rotate args w e = refl
+plain-prints _ args w e = refl
 
 -- a function that doesn't print, or none
 pub other-prints : (f : Option Function) (args : List Text) (w : World) → f ≢ Some PrintString → f ≢ Some PrintForm → [] ≡ printed_in (meaning f args w)
@@ -121,29 +84,7 @@ other-prints (Some f) args w string form = sym (plain-prints f args w (go f stri
     go : (f : Function) → Some f ≢ Some PrintString → Some f ≢ Some PrintForm → prints_output (Some f) ≡ false
     go PrintString string form = absurd (string refl)
     go PrintForm string form = absurd (form refl)
-    go ReadString string form = refl
-    go ReadCharacter string form = refl
-    go ChangeMeta string form = refl
-    go Halt string form = refl
-    go DefineString string form = refl
-    go SegmentString string form = refl
-    go DeleteDefinition string form = refl
-    go DeleteAll string form = refl
-    go ListNames string form = refl
-    go CallForm string form = refl
-    go CallSegment string form = refl
-    go CallCharacter string form = refl
-    go CallNumber string form = refl
-    go InitialPart string form = refl
-    go CallRestore string form = refl
-    go Equal string form = refl
-    go Greater string form = refl
-    go (Arithmetic operation) string form = refl
-    go Union string form = refl
-    go Intersection string form = refl
-    go Complement string form = refl
-    go Shift string form = refl
-    go Rotate string form = refl
+    go _ string form = refl
 
 pub string-prints : (args : List Text) (w : World) → printed_in (meaning (Some PrintString) args w) ≡ argument args 1
 unfolding meaning_of
@@ -165,12 +106,6 @@ perform-prints mode (Ends fate) memory input = refl
 
 -- one that performs no call of a function prints nothing
 rule-prints : (r : Rule) (memory : Memory) (input : Input) → performed_by r memory.calls ≡ None → output_after (follow r (state_with memory input [])) ≡ []
-rule-prints LoadIdling memory input none = refl
-rule-prints (DeleteLayout rest) memory input none = refl
-rule-prints (AddProtected inside rest) memory input none = refl
-rule-prints ClearActive memory input none = refl
-rule-prints (BeginArgument rest) memory input none = refl
-rule-prints (BeginCall mode rest) memory input none = refl
 rule-prints (EndCall rest) memory input none = go memory.calls none
   where
     go : (calls : List OpenCall) → performed_by (EndCall rest) calls ≡ None → output_after (end_call calls (with_active rest (state_with memory input []))) ≡ []
@@ -179,7 +114,7 @@ rule-prints (EndCall rest) memory input none = go memory.calls none
         let here = world_of (with_active rest (state_with memory input [])) in
         perform-prints call.mode (meaning (function_of call) (arguments call) here) (record memory { active = rest; calls = outer }) input
         ∙ ap (λ f. printed_in (meaning f (arguments call) here)) none
-rule-prints (AddCharacter c rest) memory input none = refl
+rule-prints _ memory input none = refl
 
 pub step-prints-none : (memory : Memory) (input : Input) → None ≡ performs memory → [] ≡ step_prints memory input
 unfolding step

@@ -1,18 +1,5 @@
 -- The calls that print, change the meta character and stop.
-use Rattle.std.proofs.Common.{◌≡◌, ◌≢◌, ℕ, ◌+◌, false, List, [], ◌∷◌, ◌++◌, drop, Some, None, refl, sym, ap, ◌∙◌, arith, slice_get}
-use Rattle.std.proofs.lemmas.List.{get_or-drop}
-use Rattle.trac_language.specs.declared.function.Function.TheVariants.{PrintString, ChangeMeta, Halt}
-use Rattle.trac_language.specs.declared.fate.Fate.TheVariants.{Halted, OutputFailed}
-use Rattle.trac_language.specs.Text.{Text}
-use Rattle.trac_language.specs.State.{argument}
-use Rattle.trac_language.specs.Meaning.{World, change_meta, silent, meaning_of, value_length}
-use Rattle.trac_forms.specs.Contents.{Contents, used}
-use Rattle.trac_devices.specs.Devices.{Stream}
-use Rattle.trac_functions.specs.Flat.{mode_at, arguments_at}
-use Rattle.trac_functions.specs.Calls.{world}
-use Rattle.trac_core.specs.Machine.{ending}
-use Rattle.trac_functions.specs.declared.arguments.Made.TheVariants.{Defined, Over}
-use Rattle.trac_core.specs.Attempts.{scene, IsCall, AnswersCall}
+use Rattle.trac_core.proofs.Words.{◌≡◌, ◌≢◌, ℕ, ◌+◌, false, List, [], ◌∷◌, ◌++◌, drop, Some, None, refl, sym, ap, ◌∙◌, arith, slice_get, get_or-drop, PrintString, ChangeMeta, Halt, Halted, OutputFailed, Text, argument, World, change_meta, silent, meaning_of, value_length, Contents, used, Stream, mode_at, arguments_at, world, ending, Defined, Over, scene, IsCall, AnswersCall}
 use Rattle.trac_core.proofs.Performing.{closed, delivered-null, tried-answer, tried-quiet, tried-end, tried-broken}
 
 -- the first argument after the name
@@ -26,7 +13,6 @@ module _ (w : Contents) (place : ℕ) where
   pub answers-print : IsCall w place (Some PrintString) → (meta : ℕ) (source : Stream) (written : Text) → AnswersCall place (scene w meta source written) (Defined 0) (scene w meta source (written ++ argument (arguments_at w.neutral place) 1))
   unfolding meaning_of
   answers-print call meta source written =
-      let fits = call.sound.fits in
       tried-answer w (closed w place) place (Some PrintString) meta meta source source written (argument (arguments_at w.neutral place) 1) (used w + 0) [] false w.forms call.names
       (record {
         means = refl;
@@ -40,13 +26,11 @@ module _ (w : Contents) (place : ℕ) where
   pub answers-print-broken : IsCall w place (Some PrintString) → (meta : ℕ) (source : Stream) (written put rest : Text) → argument (arguments_at w.neutral place) 1 ≡ put ++ rest → put ++ rest ≢ [] → AnswersCall place (scene w meta source written) (Over OutputFailed) (scene w meta source (written ++ put))
   unfolding meaning_of
   answers-print-broken call meta source written put rest parts some =
-      let fits = call.sound.fits in
       tried-broken w w place (Some PrintString) meta source written put rest (used w) _ call.names refl parts some (omega arith) (omega arith)
 
   pub answers-halt : IsCall w place (Some Halt) → (meta : ℕ) (source : Stream) (written : Text) → AnswersCall place (scene w meta source written) (Over Halted) (scene w meta source written)
   unfolding meaning_of
   answers-halt call meta source written = λ old p m room_is memory_is allowed.
-      let fits = call.sound.fits in
       tried-end Halted w w place (Some Halt) meta source source written (used w) call.names refl (omega arith) (omega arith) refl old p m room_is memory_is allowed _ refl refl
 
   -- the meta character after a text was given
@@ -57,7 +41,6 @@ module _ (w : Contents) (place : ℕ) where
   pub answers-meta : (meta meta' : ℕ) → IsCall w place (Some ChangeMeta) → ((c : ℕ) → slice_get (argument (arguments_at w.neutral place) 1) 0 ≡ Some c → meta' ≡ c) → (slice_get (argument (arguments_at w.neutral place) 1) 0 ≡ None → meta' ≡ meta) → (source : Stream) (written : Text) → AnswersCall place (scene w meta source written) (Defined 0) (scene w meta' source written)
   unfolding meaning_of
   answers-meta meta meta' call some none source written =
-      let fits = call.sound.fits in
       let args = arguments_at w.neutral place in
       let means = first-meta meta meta' (argument args 1) some none (world w.forms meta (ending source.bytes)) in
       tried-quiet w (closed w place) place (Some ChangeMeta) meta meta' source source written (used w + 0) [] false w.forms call.names

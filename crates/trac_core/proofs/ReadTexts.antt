@@ -1,29 +1,31 @@
 -- A text that is read in runs.
-use Rattle.std.proofs.Common.{◌≡◌, ℕ, ◌||◌, false, [], ◌∷◌, ◌++◌, refl, sym, ap, ◌∙◌, append_assoc, append-nil, eqb}
-use Rattle.std.specs.Prelude.{◌==◌}
-use Rattle.std.proofs.lemmas.List.{map-append}
+use Rattle.trac_core.proofs.Words.{◌≡◌, ℕ, ◌||◌, false, [], ◌∷◌, ◌++◌, refl, sym, ap, ◌∙◌, append_assoc, append-nil, eqb, ◌==◌, map-append, Text, flat_text, Contents, Stream, Streams, has_byte, Reads}
 use Rattle.std.proofs.lemmas.List.Folds.{list_any-append}
-use Rattle.trac_language.specs.Text.{Text}
 use Rattle.trac_space.specs.declared.cell.Cell.TheVariants.{Byte as ByteCell}
-use Rattle.trac_space.specs.Texts.{flat_text}
-use Rattle.trac_forms.specs.Contents.{Contents}
 use Rattle.trac_devices.specs.declared.device.Next.TheVariants.{Byte, End, Failed}
-use Rattle.trac_devices.specs.Devices.{Stream, Gives, Streams, has_byte}
-use Rattle.trac_devices.specs.HeldBytes.{Reads}
+use Rattle.trac_devices.specs.Devices.{Gives}
 use Rattle.trac_core.specs.declared.text_io.ReadEnd.TheVariants as ended
 use Rattle.trac_core.specs.ReadTexts.{StreamsTo}
 
 -- one text after another was read
-pub reads-join : (meta : ℕ) (first middle last : Contents) (text more : Text) → Reads meta first middle text → Reads meta middle last more → Reads meta first last (text ++ more)
+reads-join : (meta : ℕ) (first middle last : Contents) (text more : Text) → Reads meta first middle text → Reads meta middle last more → Reads meta first last (text ++ more)
 reads-join meta first middle last text more h k =
     record {
       pushed = rw (k.pushed, h.pushed, append_assoc first.neutral (flat_text text) (flat_text more), map-append ByteCell text more) refl;
       no_meta = list_any-append (λ c. c == meta) text more ∙ ap (λ b. b || has_byte meta more) h.no_meta ∙ k.no_meta;
     }
 
-pub streams-join : (first middle last : Stream) (text more : Text) → Streams first text middle → Streams middle more last → Streams first (text ++ more) last
+streams-join : (first middle last : Stream) (text more : Text) → Streams first text middle → Streams middle more last → Streams first (text ++ more) last
 streams-join first middle last text more h k =
     (h.0 ∙ ap (λ rest. text ++ rest) k.0 ∙ sym (append_assoc text more last.bytes), h.1 ∙ k.1)
+
+-- the same with what both say of streams where those are told
+pub reads-on :
+    (meta : ℕ) (first middle last : Contents) (old now new : Stream) {Told More : Type 0} →
+    (text : Text) × (Reads meta first middle text × (Told → Streams old text now)) → (text : Text) × (Reads meta middle last text × (More → Streams now text new)) →
+    (Told → More) → (text : Text) × (Reads meta first last text × (Told → Streams old text new))
+reads-on meta first middle last old now new r s on =
+    (r.0 ++ s.0, (reads-join meta first middle last r.0 s.0 r.1.0 s.1.0, λ told. streams-join old now new r.0 s.0 (r.1.1 told) (s.1.1 (on told))))
 
 module _ (old middle new : Stream) (text : Text) (given : Streams old text middle) where
   -- an answer after the text

@@ -1,23 +1,5 @@
 -- The calls that read.
-use Rattle.std.proofs.Common.{◌≡◌, ℕ, ◌+◌, ◌-◌, ◌<◌, ◌≤◌, Bool, true, false, not, ◌||◌, List, [], ◌∷◌, ◌++◌, length, drop, Some, refl, sym, ap, ◌∙◌, arith, append_assoc, length-append, ⊎_elim, eq-eqb}
-use Rattle.std.specs.Prelude.{◌==◌}
-use Rattle.std.specs.List.{before_first, position_or_len, list_any}
-use Rattle.std.proofs.lemmas.List.{length-map}
-use Rattle.std.proofs.lemmas.Bool.{cases_lt}
-use Rattle.trac_language.specs.declared.function.Function.TheVariants.{ReadString, ReadCharacter}
-use Rattle.trac_language.specs.declared.fate.Fate.TheVariants.{InputEnded, InputFailed}
-use Rattle.trac_language.specs.Text.{Text}
-use Rattle.trac_language.specs.Meaning.{World, meaning_of, built, before_meta, from_meta, read_string, read_all, valued, with_input}
-use Rattle.trac_space.specs.declared.cell.Cell.TheVariants.{Byte}
-use Rattle.trac_space.specs.Texts.{flat_text}
-use Rattle.trac_forms.specs.Contents.{Contents, used, IsSound}
-use Rattle.trac_devices.specs.Devices.{Stream, has_byte}
-use Rattle.trac_devices.specs.HeldBytes.{Reads}
-use Rattle.trac_functions.specs.Flat.{arguments_at}
-use Rattle.trac_functions.specs.Calls.{world}
-use Rattle.trac_core.specs.Machine.{ending, failing}
-use Rattle.trac_functions.specs.declared.arguments.Made.TheVariants.{Full, Value, Over}
-use Rattle.trac_core.specs.Attempts.{scene, IsCall, settled, AnswersCall, IsValueFrom, TakesFrom}
+use Rattle.trac_core.proofs.Words.{◌≡◌, ℕ, ◌+◌, ◌-◌, ◌<◌, ◌≤◌, true, false, not, List, [], ◌∷◌, ◌++◌, length, drop, Some, refl, sym, ap, ◌∙◌, arith, append_assoc, length-append, ⊎_elim, eq-eqb, ◌==◌, before_first, position_or_len, list_any, length-map, cases_lt, ReadString, ReadCharacter, InputEnded, InputFailed, Text, World, meaning_of, built, before_meta, from_meta, read_string, read_all, valued, with_input, Byte, flat_text, Contents, used, IsSound, Stream, has_byte, Reads, arguments_at, world, ending, failing, Full, Value, Over, scene, IsCall, settled, AnswersCall, IsValueFrom, TakesFrom, or_parts}
 use Rattle.trac_core.proofs.MetaCharacters.{position-past, before-none, from-none, before-at, from-at, length-before, any-at}
 use Rattle.trac_core.proofs.Performing.{tried-quiet, tried-full, tried-end, tried-failed, delivered-value, text-stands}
 
@@ -53,7 +35,6 @@ module _ (w mid : Contents) (place meta : ℕ) (text : Text) (call : IsCall w pl
       let here = world w.forms meta (ending source.bytes) in
       let before : before_meta here ≡ text = ap (before_first p) gave ∙ before-at p text meta source'.bytes reads.no_meta (is-same meta) in
       let after : from_meta here ≡ meta ∷ source'.bytes = ap (λ t. drop (position_or_len p t) t) gave ∙ from-at p text meta source'.bytes reads.no_meta (is-same meta) in
-      let fits = sound.fits in
       let room = room-reads meta w mid text reads in
       tried-quiet w (settled Value place (length w.neutral) mid) place (Some ReadString) meta meta source source' written (used w + (length mid.neutral - length w.neutral)) text false w.forms call.names
       (record {
@@ -73,7 +54,6 @@ module _ (w mid : Contents) (place meta : ℕ) (text : Text) (call : IsCall w pl
       let here = world w.forms meta (ending source.bytes) in
       let before : before_meta here ≡ text = ap (before_first p) gave ∙ before-none p text reads.no_meta in
       let after : from_meta here ≡ [] = ap (λ t. drop (position_or_len p t) t) gave ∙ from-none p text reads.no_meta in
-      let fits = sound.fits in
       let room = room-reads meta w mid text reads in
       tried-quiet w (settled Value place (length w.neutral) mid) place (Some ReadString) meta meta source source' written (used w + (length mid.neutral - length w.neutral)) text false w.forms call.names
       (record {
@@ -96,7 +76,6 @@ module _ (w mid : Contents) (place meta : ℕ) (text : Text) (call : IsCall w pl
       let here = world w.forms meta (ending source.bytes) in
       let text_is : text ≡ [] = nothing text none in
       let bytes_is : source.bytes ≡ [] = gave ∙ text_is in
-      let fits = sound.fits in
       let room = room-reads meta w mid text reads in
       tried-end InputEnded w mid place (Some ReadString) meta source source' written (used mid) call.names
       (ap (λ bytes. meaning_of ReadString (arguments_at w.neutral place) (world w.forms meta (ending bytes))) bytes_is)
@@ -115,7 +94,6 @@ module _ (w mid : Contents) (place meta : ℕ) (text : Text) (call : IsCall w pl
       let here = world w.forms meta (failing text) in
       let before : before_meta here ≡ text = before-none p text reads.no_meta in
       let after : from_meta here ≡ [] = from-none p text reads.no_meta in
-      let fits = sound.fits in
       let room = room-reads meta w mid text reads in
       tried-failed w mid place (Some ReadString) meta source source' written text (used mid) call.names
       (ap (λ t. read_string t (from_meta here) here) before ∙ ap (λ t. read_string text t here) after)
@@ -127,23 +105,15 @@ module _ (w mid : Contents) (place meta : ℕ) (text : Text) (call : IsCall w pl
   read-full source source' written next full gave differs =
       let p = λ (c : ℕ). c == meta in
       let here = world w.forms meta (ending source.bytes) in
-      let more = position-past p text next source'.bytes reads.no_meta (alone next differs) in
+      let more = position-past p text next source'.bytes reads.no_meta (or_parts (next == meta) false differs).0 in
       let long : length (before_meta here) ≡ position_or_len p (text ++ next ∷ source'.bytes) = ap (λ t. length (before_first p t)) gave ∙ length-before p (text ++ next ∷ source'.bytes) in
       let room = room-reads meta w mid text reads in
       let cells = used-reads meta w mid text reads in
       tried-full w mid place (Some ReadString) meta source source' written 0 call.names (omega arith)
-    where
-      alone : (c : ℕ) → has_byte meta (c ∷ []) ≡ false → (c == meta) ≡ false
-      alone c h = go (c == meta) h
-        where
-          go : (b : Bool) → (b || false) ≡ false → b ≡ false
-          go true e = e
-          go false e = refl
 
 -- what a call of rs took from the source
 pub reads-take : (meta : ℕ) (w mid : Contents) (text last : Text) (source source' : Stream) → Reads meta w mid text → IsSound mid → length last ≤ 1 → source.bytes ≡ text ++ (last ++ source'.bytes) → TakesFrom w source source' (text ++ last)
 reads-take meta w mid text last source source' reads sound short gave =
-    let fits = sound.fits in
     let room = room-reads meta w mid text reads in
     let cells = used-reads meta w mid text reads in
     record { consumed = gave ∙ sym (append_assoc text last source'.bytes); few = omega (arith, length-append text last) }
@@ -157,7 +127,6 @@ module _ (w : Contents) (place meta : ℕ) (call : IsCall w place (Some ReadChar
       let args = arguments_at w.neutral place in
       let means = ap (λ bytes. meaning_of ReadCharacter args (world w.forms meta (ending bytes))) gave in
       let long = length-append w.neutral (Byte byte ∷ []) in
-      let fits = sound.fits in
       let room = ap (λ (w : Contents). w.room) pushed in
       let cells : used mid ≡ used w + 1 = ap used pushed ∙ omega arith in
       let one : length mid.neutral ≡ length w.neutral + 1 = ap (λ (w : Contents). length w.neutral) pushed ∙ long in
@@ -182,7 +151,6 @@ module _ (w : Contents) (place meta : ℕ) (call : IsCall w place (Some ReadChar
   unfolding meaning_of
   character-ended source source' written none none_left = λ old p m room_is memory_is allowed.
       let args = arguments_at w.neutral place in
-      let fits = call.sound.fits in
       let zero_built : built (Some ReadCharacter) args (world w.forms meta (ending source.bytes)) ≡ 0 = ap (λ bytes. built (Some ReadCharacter) args (world w.forms meta (ending bytes))) none in
       tried-end InputEnded w w place (Some ReadCharacter) meta source source' written (used w) call.names
       (ap (λ bytes. meaning_of ReadCharacter args (world w.forms meta (ending bytes))) none)
@@ -191,14 +159,12 @@ module _ (w : Contents) (place meta : ℕ) (call : IsCall w place (Some ReadChar
   pub character-failed : (source source' : Stream) (written : Text) → source'.bytes ≡ source.bytes → source.ended ≡ false → AnswersCall place (scene w meta source written) (Over InputFailed) (scene w meta source' written)
   unfolding meaning_of
   character-failed source source' written same open_still =
-      let fits = call.sound.fits in
       tried-failed w w place (Some ReadCharacter) meta source source' written [] (used w) call.names refl (omega arith) (omega arith) (sym same) open_still
 
 -- a byte that was read stands as a value
 pub character-stands : (w mid : Contents) (byte : ℕ) → IsSound mid → mid ≡ record w { neutral = w.neutral ++ Byte byte ∷ [] } → IsValueFrom (used w) (length w.neutral) mid
 character-stands w mid byte sound pushed =
     let long = length-append w.neutral (Byte byte ∷ []) in
-    let fits = sound.fits in
     let room = ap (λ (w : Contents). w.room) pushed in
     let cells : used mid ≡ used w + 1 = ap used pushed ∙ omega arith in
     text-stands w mid w.forms (byte ∷ []) pushed (omega arith)
@@ -209,5 +175,4 @@ not-less a b h = ⊎_elim (λ lt. absurd (let e = h lt in cc)) (λ le. le) (case
 -- what was read stands as a value
 pub reads-stands : (meta : ℕ) (w mid : Contents) (text : Text) → IsSound mid → Reads meta w mid text → IsValueFrom (used w) (length w.neutral) mid
 reads-stands meta w mid text sound reads =
-    let fits = sound.fits in
     text-stands w mid w.forms text reads.pushed (omega (arith, used-reads meta w mid text reads, room-reads meta w mid text reads))

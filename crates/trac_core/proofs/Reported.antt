@@ -1,16 +1,8 @@
 -- What a run reports at its last step.
-use Rattle.std.proofs.Common.{◌≡◌, ℕ, ◌+◌, ◌-◌, max, [], ◌++◌, Some, refl, sym, ap, ◌∙◌, subst, arith, append_assoc}
-use Rattle.std.proofs.lemmas.List.{append_cancel_left}
-use Rattle.trac_language.specs.declared.fate.Fate.{Fate}
-use Rattle.trac_language.specs.declared.fate.Fate.TheVariants.{Halted, InputEnded, Workspace, Steps, InputFailed, OutputFailed}
-use Rattle.trac_language.specs.Text.{Text}
-use Rattle.trac_language.specs.State.{Input, State, first}
-use Rattle.trac_language.specs.Step.{need}
-use Rattle.trac_language.specs.Run.{Run, counted, run}
+use Rattle.trac_core.proofs.Words.{◌≡◌, ℕ, ◌+◌, ◌-◌, max, [], ◌++◌, Some, refl, sym, ap, ◌∙◌, subst, arith, append_assoc, append_cancel_left, Fate, Halted, InputEnded, Workspace, Steps, InputFailed, OutputFailed, Text, Input, State, first, need, Run, run, Report, MachineState, Moment, ending, failing, state_with, state_of, failing_state_of, StopsAtAllowance, StopsAtRoom, StopsAtInput, StopsAtOutput, EndsRun, Answers, Course, IsReportOf, RanThrough, RanToFailure, BrokeOff, ReportsOf, Reports, Resumes, after_steps, first_runs, later_runs, made}
+use Rattle.trac_language.specs.Run.{counted}
 use Rattle.trac_laws.proofs.Reached.{reached_over, reached_full, reached_spent, reached_unwritten}
 use Rattle.trac_laws.proofs.ReachedWhileReading.{anywhere_failed}
-use Rattle.trac_core.specs.declared.machine.Report.{Report}
-use Rattle.trac_core.specs.Machine.{MachineState, Moment, ending, failing, state_with, state_of, failing_state_of, StopsAtAllowance, StopsAtRoom, StopsAtInput, StopsAtOutput, EndsRun, Answers, Course, IsReportOf, RanThrough, RanToFailure, BrokeOff, ReportsOf, Reports, Resumes, after_steps, first_runs, later_runs, made}
 use Rattle.trac_core.proofs.Outputs.{later_run, run-from}
 use Rattle.trac_core.proofs.Moments.{Along}
 
@@ -42,12 +34,8 @@ module _ (start : MachineState) (bytes before : Text) (old new : Moment) (room_i
   at-allowance stop =
       let from = state_with start.memory (ending bytes) before in
       let n = along.count in
-      let here = along.steps_is in
-      let top = along.peak_is in
       let total : start.allowance - start.steps ≡ n = omega (arith, stop.used_up, allowance_is) in
       let whole = sym (run-from start.room (start.allowance - start.steps) start.memory (ending bytes) before) ∙ ap (λ k. run start.room k from) total ∙ reached_spent start.room from n along.peak (state_of old) along.whole in
-      let counts = stop.counts.steps in
-      let peaks = stop.counts.peak in
       record {
         is_report = is-report start.steps start.peak _ (course_to start bytes before new) (report_of Steps new.machine) old.written old.source.bytes n along.peak whole stop.written (omega arith) (omega arith);
         left = ap (λ s. s.bytes) stop.source ∙ sym (ap (λ (r : Run). r.left) whole);
@@ -57,12 +45,6 @@ module _ (start : MachineState) (bytes before : Text) (old new : Moment) (room_i
   at-room stop =
       let from = state_with start.memory (ending bytes) before in
       let n = along.count in
-      let here = along.steps_is in
-      let top = along.peak_is in
-      let allowed = stop.allowed in
-      let full = stop.full in
-      let counts = stop.counts.steps in
-      let peaks = stop.counts.peak in
       let whole = sym (run-from start.room (start.allowance - start.steps) start.memory (ending bytes) before) ∙ reached_full start.room from n along.peak (state_of old) along.whole (start.allowance - start.steps) (omega arith) (omega arith) in
       is-report start.steps start.peak _ (course_to start bytes before new) (report_of Workspace new.machine) old.written old.source.bytes n along.peak whole stop.written (omega arith) (omega arith)
 
@@ -70,12 +52,6 @@ module _ (start : MachineState) (bytes before : Text) (old new : Moment) (room_i
   at-end fate counts_one stop =
       let from = state_with start.memory (ending bytes) before in
       let n = along.count in
-      let here = along.steps_is in
-      let top = along.peak_is in
-      let allowed = stop.may.allowed in
-      let fits = stop.may.fits in
-      let counts = stop.counts.steps in
-      let peaks = stop.counts.peak in
       let whole = sym (run-from start.room (start.allowance - start.steps) start.memory (ending bytes) before) ∙ reached_over start.room from n along.peak (state_of old) along.whole (start.allowance - start.steps) fate (omega arith) (omega arith) stop.ends in
       record {
         is_report = is-report start.steps start.peak _ (course_to start bytes before new) (report_of fate new.machine) old.written old.source.bytes (n + counted fate) (max along.peak (need (state_of old))) whole stop.written (omega arith) (omega arith);
@@ -86,12 +62,6 @@ module _ (start : MachineState) (bytes before : Text) (old new : Moment) (room_i
   at-input given stop =
       let taken = along.given in
       let n = along.count in
-      let here = along.steps_is in
-      let top = along.peak_is in
-      let allowed = stop.may.allowed in
-      let fits = stop.may.fits in
-      let counts = stop.counts.steps in
-      let peaks = stop.counts.peak in
       let whole = sym (run-from start.room (start.allowance - start.steps) start.memory (failing (taken ++ given)) before)
       ∙ anywhere_failed start.room start.memory before taken n along.peak old.machine.memory old.written (along.cut stop.not_ended) given (start.allowance - start.steps) (omega arith) (omega arith) stop.ends in (
         taken ++ given,
@@ -105,12 +75,6 @@ module _ (start : MachineState) (bytes before : Text) (old new : Moment) (room_i
   at-output next put rest stop =
       let from = state_with start.memory (ending bytes) before in
       let n = along.count in
-      let here = along.steps_is in
-      let top = along.peak_is in
-      let allowed = stop.may.allowed in
-      let fits = stop.may.fits in
-      let counts = stop.counts.steps in
-      let peaks = stop.counts.peak in
       let same : new.machine.steps - start.steps ≡ n = omega arith in
       let more : new.machine.steps + 1 - start.steps ≡ n + 1 = omega arith in
       let runs = reached_unwritten start.room from n along.peak (state_of old) next along.whole (omega arith) stop.goes in

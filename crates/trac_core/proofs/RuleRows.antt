@@ -1,16 +1,6 @@
 -- The row of the table of scanning rules, by the first characters, as a scanner tells them.
-use Rattle.std.proofs.Common.{◌≡◌, ◌≢◌, ℕ, ◌-◌, ◌<◌, ◌≤◌, ⊎_elim, List, [], ◌∷◌, length, take, drop, map, Option, Some, None, refl, sym, ap, ◌∙◌, arith, slice_get}
-use Rattle.std.specs.Prelude.{slice_range}
-use Rattle.std.proofs.lemmas.Bool.{cases_eq, ne_eqb}
-use Rattle.std.proofs.Math.Seq.{take-length}
-use Rattle.trac_language.specs.Text.{Text}
-use Rattle.trac_language.specs.Protected.{protected}
-use Rattle.trac_language.specs.Rule.{AddCharacter, parenthesis_rule, rule}
+use Rattle.trac_core.proofs.Words.{◌≡◌, ◌≢◌, ℕ, ◌-◌, ◌<◌, ◌≤◌, ⊎_elim, List, [], ◌∷◌, length, take, drop, map, Option, Some, None, refl, sym, ap, ◌∙◌, arith, slice_get, slice_range, cases_eq, ne_eqb, take-length, Text, protected, AddCharacter, parenthesis_rule, rule, Cell, Call, seen, Neutral, no_neutral, with_cell, with_cells, neutral_of}
 use Rattle.trac_laws.proofs.Rules.{rule_tab, rule_line_feed, rule_return, rule_comma, rule_end, rule_active, rule_neutral, rule_other}
-use Rattle.trac_space.specs.declared.cell.Cell.{Cell}
-use Rattle.trac_space.specs.declared.cell.Cell.TheVariants.{Byte, Call, Comma, Gap, Head}
-use Rattle.trac_space.specs.Cells.{seen}
-use Rattle.trac_functions.specs.Flat.{Neutral, no_neutral, with_cell, with_cells, neutral_of}
 use Rattle.trac_core.specs.declared.machine.view.ScanningRule.TheVariants as row
 use Rattle.trac_core.specs.View.{row_of}
 use Rattle.trac_core.proofs.Scanning.{first-rest, second-rest, third-rest, sign-rule, rule-parenthesis, rule-nothing}
@@ -67,11 +57,8 @@ row-sign text first second third = ap row_of (sym (sign-rule text first second t
 
 -- the number in a call mark makes no difference to the neutral string
 with_cell-seen : (n : Neutral) (cell : Cell) → with_cell n (seen cell) ≡ with_cell n cell
-with_cell-seen n (Byte c) = refl
 with_cell-seen n (Call mode k) = refl
-with_cell-seen n Comma = refl
-with_cell-seen n (Gap k) = refl
-with_cell-seen n (Head k) = refl
+with_cell-seen n _ = refl
 
 with_cells-seen : (n : Neutral) (cells : List Cell) → with_cells n (map seen cells) ≡ with_cells n cells
 with_cells-seen n [] = refl

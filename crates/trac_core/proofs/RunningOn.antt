@@ -1,18 +1,7 @@
 -- A run of a machine whose parts stand apart, turn by turn beside the run of the definition.
-use Rattle.std.proofs.Common.{◌≡◌, ℕ, ◌+◌, ◌-◌, ◌<◌, ◌≤◌, max, ◌⊎◌, inl, inr, ◌++◌, Some, None, refl, sym, ap, ◌∙◌, subst, arith}
-use Rattle.trac_language.specs.declared.fate.Fate.{Fate}
-use Rattle.trac_language.specs.declared.fate.Fate.TheVariants.{Steps}
-use Rattle.trac_language.specs.Text.{Text}
-use Rattle.trac_language.specs.State.{size}
-use Rattle.trac_devices.specs.Devices.{Stream}
-use Rattle.trac_forms.specs.Contents.{Contents, used, IsSound}
-use Rattle.trac_functions.specs.Flat.{memory_of}
+use Rattle.trac_core.proofs.Words.{◌≡◌, ℕ, ◌+◌, ◌-◌, ◌<◌, ◌≤◌, max, ◌⊎◌, inl, inr, ◌++◌, Some, None, refl, sym, ap, ◌∙◌, subst, arith, Fate, Steps, Text, size, Stream, Contents, used, IsSound, memory_of, Report, scene, Tried, MachineState, moment, counted, Resumes, Advances, peak_after, passed, running}
 use Rattle.trac_functions.proofs.FlatLemmas.{size-used}
-use Rattle.trac_core.specs.declared.machine.Report.{Report}
 use Rattle.trac_core.specs.declared.machine.Counters.{Counters}
-use Rattle.trac_core.specs.Attempts.{scene, Tried}
-use Rattle.trac_core.specs.Machine.{MachineState, moment, counted, Resumes}
-use Rattle.trac_core.specs.StepsInRow.{Advances, peak_after, passed, running}
 use Rattle.trac_core.proofs.Moments.{Along, along-more, along-passes}
 use Rattle.trac_core.proofs.Reported.{reported, report_of, course_to}
 use Rattle.trac_core.proofs.StepsInRow.{passes-smaller, peak-some}
@@ -45,7 +34,6 @@ module _ (start : MachineState) (bytes before : Text) (w new : Contents) (meta a
   pub along-run : (done need top : ℕ) (source : Stream) (written : Text) → new.room ≡ w.room → IsSound w → done ≤ left → 0 < done → Advances done w new → IsNeed need (used w) peak → top ≡ max peak need → Along start bytes before (moment (running w meta (with_left allowance left peak)) source written) → Along start bytes before (moment (running new meta (with_left allowance (left - done) top)) source written)
   along-run done need top source written stays sound within some passes known is along =
       let m = running w meta (with_left allowance left peak) in
-      let fits = sound.fits in
       let target = memory_of meta new in
       let all = along-passes done start bytes before m target source written room_is (omega (arith, size-used meta w)) (omega arith) (passes meta) along in
       let steps : allowance - left + done ≡ allowance - (left - done) = omega arith in

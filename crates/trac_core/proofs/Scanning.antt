@@ -1,32 +1,9 @@
 -- The rules that perform no call, over the contents of a workspace.
-use Rattle.std.proofs.Common.{◌≡◌, ◌≢◌, ℕ, ◌+◌, ◌-◌, ◌<◌, true, false, List, [], ◌∷◌, ◌++◌, length, take, drop, map, All, Option, Some, None, refl, sym, ap, ◌∙◌, subst, ⊎_elim, arith, slice_get}
-use Rattle.std.specs.Prelude.{MatchOption, is_some, slice_range}
-use Rattle.std.proofs.lemmas.Bool.{cases_eq}
-use Rattle.std.proofs.lemmas.List.{drop-map, take-map, length-drop, drop-drop}
-use Rattle.std.proofs.lemmas.List.Elements.{All-take, All-drop}
-use Rattle.std.proofs.Math.Seq.{take-length}
-use Rattle.trac_language.specs.declared.mode.Mode.{Mode}
-use Rattle.trac_language.specs.declared.mode.Mode.TheVariants.{Active, Neutral as NeutralMode}
-use Rattle.trac_language.specs.Text.{Text}
-use Rattle.trac_language.specs.Form.{Form}
-use Rattle.trac_language.specs.Store.{cells}
-use Rattle.trac_language.specs.Protected.{protected}
-use Rattle.trac_language.specs.State.{Input, OpenCall, add, begin_argument, begin_call}
-use Rattle.trac_language.specs.Rule.{Rule, LoadIdling, DeleteLayout, AddProtected, ClearActive, BeginArgument, BeginCall, EndCall, AddCharacter, parenthesis_rule, is_layout, rule}
-use Rattle.trac_language.specs.Step.{Next, idling, end_call, with_active, follow, end_need, need_by, step, need, world_of}
-use Rattle.trac_laws.specs.LastRead.{end_reads_last, reads_last_by}
+use Rattle.trac_core.proofs.Words.{◌≡◌, ◌≢◌, ℕ, ◌+◌, ◌-◌, ◌<◌, true, false, List, [], ◌∷◌, ◌++◌, length, take, drop, map, All, Option, Some, None, refl, sym, ap, ◌∙◌, subst, ⊎_elim, arith, slice_get, MatchOption, is_some, slice_range, cases_eq, drop-map, take-map, length-drop, drop-drop, All-take, All-drop, take-length, Mode, Active, Text, Form, cells, protected, Input, OpenCall, add, begin_argument, Rule, LoadIdling, DeleteLayout, AddProtected, ClearActive, BeginArgument, BeginCall, EndCall, AddCharacter, parenthesis_rule, is_layout, rule, Next, idling, follow, end_need, need_by, step, need, reads_last_by, Cell, Byte, Call, Comma, NoCall, IsLastCall, flat_text, text_of_cells, character_of, IsByte, Contents, used, IsSound, Neutral, with_cell, neutral_of, memory_with, memory_of, state_with, Scans, size, State}
+use Rattle.trac_language.specs.declared.mode.Mode.TheVariants.{Neutral as NeutralMode}
 use Rattle.trac_laws.proofs.Rules.{rule_comma, rule_end, rule_active, rule_neutral, rule_sign_last, rule_two_signs_last, rule_sign, rule_two_signs, rule_other}
-use Rattle.trac_space.specs.declared.cell.Cell.{Cell}
-use Rattle.trac_space.specs.declared.cell.Cell.TheVariants.{Byte, Call, Comma}
-use Rattle.trac_space.specs.Cells.{NoCall}
-use Rattle.trac_space.specs.Calls.{IsLastCall}
-use Rattle.trac_space.specs.Texts.{flat_text, text_of_cells, character_of, IsByte}
-use Rattle.trac_forms.specs.Contents.{Contents, used, IsSound}
-use Rattle.trac_functions.specs.Flat.{Neutral, with_cell, neutral_of, memory_with, memory_of}
 use Rattle.trac_functions.proofs.FlatLemmas.{with_cells-append, neutral_of-push, neutral_of-innermost, size-used, with_cells-text, calls-none}
 use Rattle.trac_functions.proofs.ArgumentLemmas.{flat-bytes}
-use Rattle.trac_core.specs.Machine.{state_with}
-use Rattle.trac_core.specs.Attempts.{Scans}
 
 -- ---- texts
 
@@ -63,9 +40,10 @@ module _ (old new : Contents) where
     reads = λ meta input output. ap (λ r. reads_last_by r (state_with (memory_of meta old) input output)) fits ∙ reads meta input output;
   }
 
--- the memory with another active text
-same-active : (n : Neutral) (t u : Text) (forms : List Form) (meta : ℕ) (input : Input) (output : Text) → t ≡ u → Next (state_with (memory_with n t forms meta) input output) ≡ Next (state_with (memory_with n u forms meta) input output)
-same-active n t u forms meta input output e = ap (λ t. Next (state_with (memory_with n t forms meta) input output)) e
+  -- one that needs no more cells than there are, and reads nothing
+  scans-quiet : (r : Rule) → rule (text_of_cells old.active) ≡ r → ((meta : ℕ) (input : Input) (output : Text) → follow r (state_with (memory_of meta old) input output) ≡ Next (state_with (memory_of meta new) input output)) → ((s : State) → (need_by r s ≡ size s.memory) × (reads_last_by r s ≡ false)) → Scans old new (used old)
+  scans-quiet r fits goes quiet =
+      scans-by r (used old) fits goes (λ meta input output. (quiet (state_with (memory_of meta old) input output)).0 ∙ size-used meta old) (λ meta input output. (quiet (state_with (memory_of meta old) input output)).1)
 
 pub rule-layout : (c : ℕ) (rest : Text) → is_layout c ≡ true → rule (c ∷ rest) ≡ DeleteLayout rest
 unfolding rule
@@ -81,33 +59,18 @@ rule-nothing = refl
 
 pub scans-layout : (old : Contents) (c : ℕ) → slice_get (text_of_cells old.active) 0 ≡ Some c → is_layout c ≡ true → Scans old (record old { active = drop 1 old.active }) (used old)
 scans-layout old c first layout =
-    let t = text_of_cells old.active in
-    scans-by old (record old { active = drop 1 old.active }) (DeleteLayout (drop 1 t)) (used old)
-    (ap rule (first-rest t c first) ∙ rule-layout c (drop 1 t) layout)
-    (λ meta input output. same-active (neutral_of old.neutral) (drop 1 t) (text_of_cells (drop 1 old.active)) old.forms meta input output (sym (drop-text 1 old.active)))
-    (λ meta input output. size-used meta old)
-    (λ meta input output. refl)
+    scans-quiet old _ (DeleteLayout (drop 1 (text_of_cells old.active))) (ap rule (first-rest _ c first) ∙ rule-layout c _ layout)
+    (λ meta input output. rw (drop-text 1 old.active) refl) (λ s. (refl, refl))
 
 pub scans-parenthesis : (old : Contents) → slice_get (text_of_cells old.active) 0 ≡ Some 41 → NoCall old.neutral → Scans old (record old { active = drop 1 old.active }) (used old)
 scans-parenthesis old first none =
-    let t = text_of_cells old.active in
     let calls = calls-none old.neutral none in
-    scans-by old (record old { active = drop 1 old.active }) (EndCall (drop 1 t)) (used old)
-    (ap rule (first-rest t 41 first) ∙ rule_end (drop 1 t))
-    (λ meta input output.
-    ap (λ calls. end_call calls (with_active (drop 1 t) (state_with (memory_of meta old) input output))) calls
-    ∙ same-active (neutral_of old.neutral) (drop 1 t) (text_of_cells (drop 1 old.active)) old.forms meta input output (sym (drop-text 1 old.active)))
-    (λ meta input output. ap (λ calls. end_need calls (state_with (memory_of meta old) input output)) calls ∙ size-used meta old)
-    (λ meta input output. ap (λ calls. end_reads_last calls (world_of (state_with (memory_of meta old) input output))) calls)
+    scans-by old _ (EndCall (drop 1 (text_of_cells old.active))) (used old) (ap rule (first-rest _ 41 first) ∙ rule_end _)
+    (λ meta input output. rw (drop-text 1 old.active, calls) refl) (λ meta input output. ap (λ calls. end_need calls (state_with (memory_of meta old) input output)) calls ∙ size-used meta old) (λ meta input output. rw calls refl)
 
 pub scans-unmatched : (old : Contents) → slice_get (text_of_cells old.active) 0 ≡ Some 40 → protected (drop 1 (text_of_cells old.active)) ≡ None → Scans old (record old { active = [] }) (used old)
 scans-unmatched old first none =
-    let t = text_of_cells old.active in
-    scans-by old (record old { active = [] }) ClearActive (used old)
-    (ap rule (first-rest t 40 first) ∙ rule-parenthesis (drop 1 t) None none)
-    (λ meta input output. refl)
-    (λ meta input output. size-used meta old)
-    (λ meta input output. refl)
+    scans-quiet old _ ClearActive (ap rule (first-rest _ 40 first) ∙ rule-parenthesis _ None none) (λ meta input output. refl) (λ s. (refl, refl))
 
 -- characters at the end of neutral are a text added
 added-bytes : (old : List Cell) (more : List Cell) (active : Text) (forms : List Form) (meta : ℕ) → All IsByte more → memory_with (neutral_of (old ++ more)) active forms meta ≡ add (text_of_cells more) (memory_with (neutral_of old) active forms meta)
@@ -125,14 +88,9 @@ scans-protected old len sound first found =
     let inside_is : text_of_cells cells ≡ inside = take-text len (drop 1 old.active) ∙ ap (take len) (drop-text 1 old.active) in
     let rest_is : text_of_cells (drop 1 (drop len (drop 1 old.active))) ≡ rest = drop-text 1 (drop len (drop 1 old.active)) ∙ ap (drop 1) (drop-text len (drop 1 old.active) ∙ ap (drop len) (drop-text 1 old.active)) ∙ drop-drop 1 len (drop 1 t) in
     let bytes : All IsByte cells = All-take IsByte len (drop 1 old.active) (All-drop IsByte 1 old.active sound.active) in
-    scans-by old (record old { neutral = old.neutral ++ cells; active = drop 1 (drop len (drop 1 old.active)) }) (AddProtected inside rest) (used old)
-    (ap rule (first-rest t 40 first) ∙ rule-parenthesis (drop 1 t) (Some (inside, rest)) found)
-    (λ meta input output.
-    sym (ap (λ m. Next (state_with m input output)) (added-bytes old.neutral cells (text_of_cells (drop 1 (drop len (drop 1 old.active)))) old.forms meta bytes)
-    ∙ ap (λ t. Next (state_with (add t (memory_with (neutral_of old.neutral) (text_of_cells (drop 1 (drop len (drop 1 old.active)))) old.forms meta)) input output)) inside_is
-    ∙ ap (λ t. Next (state_with (add inside (memory_with (neutral_of old.neutral) t old.forms meta)) input output)) rest_is))
-    (λ meta input output. size-used meta old)
-    (λ meta input output. refl)
+    scans-quiet old _ (AddProtected inside rest) (ap rule (first-rest t 40 first) ∙ rule-parenthesis (drop 1 t) (Some (inside, rest)) found)
+    (λ meta input output. rw rest_is (sym (ap (λ m. Next (state_with m input output)) (added-bytes old.neutral cells rest old.forms meta bytes ∙ ap (λ t. add t (memory_with (neutral_of old.neutral) rest old.forms meta)) inside_is))))
+    (λ s. (refl, refl))
 
 -- with a comma mark an argument of the innermost call begins
 comma-memory : (n : Neutral) (call : OpenCall) (outer : List OpenCall) → n.calls ≡ call ∷ outer → with_cell n Comma ≡ record n { calls = begin_argument n.calls }
@@ -140,42 +98,21 @@ comma-memory n call outer e = rw e refl
 
 pub scans-comma : (old : Contents) (place : ℕ) → slice_get (text_of_cells old.active) 0 ≡ Some 44 → IsLastCall old.neutral place → Scans old (record old { active = drop 1 old.active; neutral = old.neutral ++ Comma ∷ [] }) (used old)
 scans-comma old place first last =
-    let t = text_of_cells old.active in
     let n = neutral_of old.neutral in
     let calls = ap (λ (n : Neutral). n.calls) (neutral_of-innermost old.neutral place last) in
-    scans-by old (record old { active = drop 1 old.active; neutral = old.neutral ++ Comma ∷ [] }) (BeginArgument (drop 1 t)) (used old)
-    (ap rule (first-rest t 44 first) ∙ rule_comma (drop 1 t))
-    (λ meta input output.
-    same-active (record n { calls = begin_argument n.calls }) (drop 1 t) (text_of_cells (drop 1 old.active)) old.forms meta input output (sym (drop-text 1 old.active))
-    ∙ ap (λ (n : Neutral). Next (state_with (memory_with n (text_of_cells (drop 1 old.active)) old.forms meta) input output)) (sym (neutral_of-push old.neutral Comma ∙ comma-memory n _ _ calls)))
-    (λ meta input output. size-used meta old)
-    (λ meta input output. refl)
+    scans-quiet old _ (BeginArgument (drop 1 (text_of_cells old.active))) (ap rule (first-rest _ 44 first) ∙ rule_comma _)
+    (λ meta input output. rw (drop-text 1 old.active, neutral_of-push old.neutral Comma, comma-memory n _ _ calls) refl) (λ s. (refl, refl))
 
 pub scans-comma-none : (old : Contents) → slice_get (text_of_cells old.active) 0 ≡ Some 44 → NoCall old.neutral → Scans old (record old { active = drop 1 old.active }) (used old)
 scans-comma-none old first none =
-    let t = text_of_cells old.active in
-    let n = neutral_of old.neutral in
-    let calls = calls-none old.neutral none in
-    scans-by old (record old { active = drop 1 old.active }) (BeginArgument (drop 1 t)) (used old)
-    (ap rule (first-rest t 44 first) ∙ rule_comma (drop 1 t))
-    (λ meta input output.
-    same-active (record n { calls = begin_argument n.calls }) (drop 1 t) (text_of_cells (drop 1 old.active)) old.forms meta input output (sym (drop-text 1 old.active))
-    ∙ ap (λ calls. Next (state_with (memory_with (record n { calls = calls }) (text_of_cells (drop 1 old.active)) old.forms meta) input output)) (ap begin_argument calls ∙ sym calls))
-    (λ meta input output. size-used meta old)
-    (λ meta input output. refl)
+    scans-quiet old _ (BeginArgument (drop 1 (text_of_cells old.active))) (ap rule (first-rest _ 44 first) ∙ rule_comma _)
+    (λ meta input output. rw (drop-text 1 old.active, calls-none old.neutral none) refl) (λ s. (refl, refl))
 
 -- a mark opens a call
 scans-call : (old : Contents) (mode : Mode) (n : ℕ) → rule (text_of_cells old.active) ≡ BeginCall mode (drop n (text_of_cells old.active)) → Scans old (record old { active = drop n old.active; neutral = old.neutral ++ Call mode 0 ∷ [] }) (used old)
 scans-call old mode n fits =
-    let t = text_of_cells old.active in
-    let before = neutral_of old.neutral in
-    scans-by old (record old { active = drop n old.active; neutral = old.neutral ++ Call mode 0 ∷ [] }) (BeginCall mode (drop n t)) (used old)
-    fits
-    (λ meta input output.
-    same-active (record before { calls = begin_call mode before.calls }) (drop n t) (text_of_cells (drop n old.active)) old.forms meta input output (sym (drop-text n old.active))
-    ∙ ap (λ (m : Neutral). Next (state_with (memory_with m (text_of_cells (drop n old.active)) old.forms meta) input output)) (sym (neutral_of-push old.neutral (Call mode 0))))
-    (λ meta input output. size-used meta old)
-    (λ meta input output. refl)
+    scans-quiet old _ (BeginCall mode (drop n (text_of_cells old.active))) fits
+    (λ meta input output. rw (drop-text n old.active, neutral_of-push old.neutral (Call mode 0)) refl) (λ s. (refl, refl))
 
 pub second-rest : (text : Text) (b c : ℕ) → slice_get text 0 ≡ Some b → slice_get text 1 ≡ Some c → text ≡ b ∷ c ∷ drop 2 text
 second-rest [] b c e f = absurd cc
@@ -189,27 +126,17 @@ third-rest (x ∷ y ∷ []) b c d e f g = absurd cc
 third-rest (x ∷ y ∷ z ∷ text) b c d e f g = let first : x ≡ b = cc in let second : y ≡ c = cc in let third : z ≡ d = cc in rw (first, second, third) refl
 
 pub scans-active : (old : Contents) → slice_get (text_of_cells old.active) 0 ≡ Some 35 → slice_get (text_of_cells old.active) 1 ≡ Some 40 → Scans old (record old { active = drop 2 old.active; neutral = old.neutral ++ Call Active 0 ∷ [] }) (used old)
-scans-active old first second =
-    let t = text_of_cells old.active in
-    scans-call old Active 2 (ap rule (second-rest t 35 40 first second) ∙ rule_active (drop 2 t))
+scans-active old first second = scans-call old Active 2 (ap rule (second-rest _ 35 40 first second) ∙ rule_active _)
 
 pub scans-neutral : (old : Contents) → slice_get (text_of_cells old.active) 0 ≡ Some 35 → slice_get (text_of_cells old.active) 1 ≡ Some 35 → slice_get (text_of_cells old.active) 2 ≡ Some 40 → Scans old (record old { active = drop 3 old.active; neutral = old.neutral ++ Call NeutralMode 0 ∷ [] }) (used old)
-scans-neutral old first second third =
-    let t = text_of_cells old.active in
-    scans-call old NeutralMode 3 (ap rule (third-rest t 35 35 40 first second third) ∙ rule_neutral (drop 3 t))
+scans-neutral old first second third = scans-call old NeutralMode 3 (ap rule (third-rest _ 35 35 40 first second third) ∙ rule_neutral _)
 
 -- the first character goes to the end of neutral
 scans-first : (old : Contents) (c : ℕ) → rule (text_of_cells old.active) ≡ AddCharacter c (drop 1 (text_of_cells old.active)) → Scans old (record old { active = drop 1 old.active; neutral = old.neutral ++ Byte c ∷ [] }) (used old)
 scans-first old c fits =
-    let t = text_of_cells old.active in
-    scans-by old (record old { active = drop 1 old.active; neutral = old.neutral ++ Byte c ∷ [] }) (AddCharacter c (drop 1 t)) (used old)
-    fits
-    (λ meta input output.
-    sym (ap (λ (n : Neutral). Next (state_with (memory_with n (text_of_cells (drop 1 old.active)) old.forms meta) input output)) (neutral_of-push old.neutral (Byte c))
-    ∙ ap (λ m. Next (state_with m input output)) (with_cells-text (c ∷ []) (neutral_of old.neutral) (text_of_cells (drop 1 old.active)) old.forms meta)
-    ∙ ap (λ t. Next (state_with (add (c ∷ []) (memory_with (neutral_of old.neutral) t old.forms meta)) input output)) (drop-text 1 old.active)))
-    (λ meta input output. size-used meta old)
-    (λ meta input output. refl)
+    scans-quiet old _ (AddCharacter c (drop 1 (text_of_cells old.active))) fits
+    (λ meta input output. rw (drop-text 1 old.active, neutral_of-push old.neutral (Byte c)) (sym (ap (λ m. Next (state_with m input output)) (with_cells-text (c ∷ []) (neutral_of old.neutral) (drop 1 (text_of_cells old.active)) old.forms meta))))
+    (λ s. (refl, refl))
 
 -- a number sign that opens no call
 pub sign-rule : (text : Text) → slice_get text 0 ≡ Some 35 → slice_get text 1 ≢ Some 40 → (slice_get text 1 ≡ Some 35 → slice_get text 2 ≢ Some 40) → rule text ≡ AddCharacter 35 (drop 1 text)
@@ -238,32 +165,21 @@ pub scans-sign : (old : Contents) → slice_get (text_of_cells old.active) 0 ≡
 scans-sign old first second third = scans-first old 35 (sign-rule (text_of_cells old.active) first second third)
 
 -- a character that isn't layout
+layout-not : (c b : ℕ) → is_layout c ≡ false → is_layout b ≡ true → c ≢ b
+layout-not c b h layout e = let f : is_layout b ≡ false = subst (λ c. is_layout c ≡ false) e h in cc
+
 pub not-layout : (c : ℕ) → is_layout c ≡ false → (c ≢ 9) × (c ≢ 10) × (c ≢ 13)
-not-layout c h = (λ e. absurd (tab e), λ e. absurd (feed e), λ e. absurd (back e))
-  where
-    tab : c ≡ 9 → ⊥
-    tab e = let f : is_layout 9 ≡ false = subst (λ c. is_layout c ≡ false) e h in cc
-
-    feed : c ≡ 10 → ⊥
-    feed e = let f : is_layout 10 ≡ false = subst (λ c. is_layout c ≡ false) e h in cc
-
-    back : c ≡ 13 → ⊥
-    back e = let f : is_layout 13 ≡ false = subst (λ c. is_layout c ≡ false) e h in cc
+not-layout c h = (layout-not c 9 h refl, layout-not c 10 h refl, layout-not c 13 h refl)
 
 pub scans-other : (old : Contents) (c : ℕ) → slice_get (text_of_cells old.active) 0 ≡ Some c → is_layout c ≡ false → c ≢ 40 → c ≢ 41 → c ≢ 44 → c ≢ 35 → Scans old (record old { active = drop 1 old.active; neutral = old.neutral ++ Byte c ∷ [] }) (used old)
 scans-other old c first layout opens closes comma sign =
-    let t = text_of_cells old.active in
     let l = not-layout c layout in
-    scans-first old c (ap rule (first-rest t c first) ∙ rule_other c (drop 1 t) l.0 l.1 l.2 opens comma sign closes)
+    scans-first old c (ap rule (first-rest _ c first) ∙ rule_other c _ l.0 l.1 l.2 opens comma sign closes)
 
 -- the idling procedure is loaded
 pub scans-idling : (old : Contents) → old.active ≡ [] → Scans old (record old { neutral = []; active = map Byte idling }) (cells old.forms + 11)
 scans-idling old none =
-    scans-by old (record old { neutral = []; active = map Byte idling }) LoadIdling (cells old.forms + 11)
-    (ap (λ a. rule (text_of_cells a)) none ∙ rule-nothing)
-    (λ meta input output. refl)
-    (λ meta input output. refl)
-    (λ meta input output. refl)
+    scans-by old _ LoadIdling (cells old.forms + 11) (ap (λ a. rule (text_of_cells a)) none ∙ rule-nothing) (λ meta input output. refl) (λ meta input output. refl) (λ meta input output. refl)
 
 pub idling-need : (old : Contents) → old.active ≡ [] → (meta : ℕ) (input : Input) (output : Text) → need (state_with (memory_of meta old) input output) ≡ cells old.forms + 11
 idling-need old none = (scans-idling old none).needs

@@ -1,7 +1,5 @@
 -- What was put into a sink was sent on.
-use Rattle.std.proofs.Common.{sym, subst, inr, ⊎_elim, arith}
-use Rattle.trac_language.specs.Text.{Text}
-use Rattle.trac_devices.specs.Devices.{Sent}
+use Rattle.trac_core.proofs.Words.{sym, subst, inr, ⊎_elim, arith, Text, Sent}
 
 module _ {S : Type 0} (tells flushed : S → Type 0) (written : S → Text) where
   -- one step after others

@@ -1,21 +1,8 @@
 -- The function that a step performs, by what stands in the active and in the neutral string.
-use Rattle.std.proofs.Common.{◌≡◌, ◌≢◌, ℕ, Bool, true, false, [], ◌∷◌, List, drop, take, slice_get, Option, Some, None, refl, sym, ap, ◌∙◌}
-use Rattle.std.specs.Prelude.{◌==◌, if◌then◌else◌, bytes_eq, codes}
-use Rattle.std.proofs.lemmas.Bool.{ne_eqb}
-use Rattle.trac_language.specs.declared.mode.Mode.TheVariants.{Active, Neutral}
-use Rattle.trac_language.specs.Text.{Text}
-use Rattle.trac_language.specs.Protected.{protected}
-use Rattle.trac_language.specs.State.{OpenCall}
-use Rattle.trac_language.specs.Rule.{DeleteLayout, BeginArgument, BeginCall, EndCall, AddCharacter, is_layout, number_sign_rule, parenthesis_rule, rule}
+use Rattle.trac_core.proofs.Words.{◌≡◌, ◌≢◌, ℕ, Bool, true, false, [], ◌∷◌, List, drop, take, slice_get, Option, Some, None, refl, sym, ap, ◌==◌, if◌then◌else◌, bytes_eq, codes, ne_eqb, Active, Text, protected, OpenCall, DeleteLayout, BeginArgument, BeginCall, EndCall, AddCharacter, is_layout, number_sign_rule, parenthesis_rule, rule, NoCall, IsLastCall, text_of_cells, Contents, IsSound, memory_of, performed_by, performs, function_at}
+use Rattle.trac_language.specs.declared.mode.Mode.TheVariants.{Neutral}
 use Rattle.trac_laws.proofs.Rules.{rule_end}
-use Rattle.trac_space.specs.Cells.{NoCall}
-use Rattle.trac_space.specs.Calls.{IsLastCall}
-use Rattle.trac_space.specs.Texts.{text_of_cells}
-use Rattle.trac_forms.specs.Contents.{Contents, IsSound}
-use Rattle.trac_functions.specs.Flat.{memory_of, neutral_of}
 use Rattle.trac_functions.proofs.FlatLemmas.{calls-none}
-use Rattle.trac_core.specs.Performed.{performed_by, performs}
-use Rattle.trac_core.specs.Attempts.{function_at}
 use Rattle.trac_core.proofs.Performing.{performs-closed, function-performs}
 use Rattle.trac_core.proofs.Scanning.{first-rest}
 
@@ -48,10 +35,7 @@ performs-other w meta other = sym (first-performs (text_of_cells w.active) (memo
 -- and that only where a call is open
 pub performs-none : (w : Contents) (meta : ℕ) → slice_get (text_of_cells w.active) 0 ≡ Some 41 → NoCall w.neutral → None ≡ performs (memory_of meta w)
 performs-none w meta first none =
-    let text = text_of_cells w.active in
-    sym (ap (λ t. performed_by (rule t) (neutral_of w.neutral).calls) (first-rest text 41 first)
-    ∙ ap (λ r. performed_by r (neutral_of w.neutral).calls) (rule_end (drop 1 text))
-    ∙ ap (performed_by (EndCall (drop 1 text))) (calls-none w.neutral none))
+    rw (first-rest (text_of_cells w.active) 41 first, rule_end (drop 1 (text_of_cells w.active)), calls-none w.neutral none) refl
 
 pub performs-innermost : (w : Contents) (place meta : ℕ) → IsSound w → slice_get (text_of_cells w.active) 0 ≡ Some 41 → IsLastCall w.neutral place → function_at w.neutral place ≡ performs (memory_of meta w)
 performs-innermost w place meta sound first last =

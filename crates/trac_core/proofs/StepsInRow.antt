@@ -1,24 +1,7 @@
 -- Steps in a row: ordinary characters are added one by one, layout characters deleted, and the steps of any rule that
 -- performs no call follow one another.
-use Rattle.std.proofs.Common.{◌≡◌, ◌≢◌, ℕ, zero, suc, ◌<◌, ◌≤◌, ◌+◌, ◌-◌, max, ◌⊎◌, inl, inr, Bool, true, false, ◌||◌, List, [], ◌∷◌, ◌++◌, length, take, drop, All, Some, None, slice_get, refl, sym, ap, ◌∙◌, subst, arith, append_assoc, append-nil, length-append}
-use Rattle.std.specs.Prelude.{◌==◌}
-use Rattle.std.proofs.lemmas.List.{length-drop, take-take}
-use Rattle.std.proofs.lemmas.List.Elements.{All-head, All-tail, All-cons}
-use Rattle.trac_language.specs.Text.{Text}
-use Rattle.trac_language.specs.State.{Memory, size}
-use Rattle.trac_language.specs.Rule.{is_layout}
-use Rattle.trac_language.specs.Step.{step, need}
-use Rattle.trac_laws.specs.LastRead.{reads_to_end}
-use Rattle.trac_space.specs.declared.cell.Cell.{Cell}
-use Rattle.trac_space.specs.declared.cell.Cell.TheVariants.{Byte, Call, Comma, Gap, Head}
-use Rattle.trac_space.specs.Texts.{text_of_cells, IsByte}
-use Rattle.trac_forms.specs.Contents.{Contents, used, IsSound}
-use Rattle.trac_devices.specs.Devices.{Stream}
-use Rattle.trac_functions.specs.Flat.{memory_of}
+use Rattle.trac_core.proofs.Words.{◌≡◌, ◌≢◌, ℕ, zero, suc, ◌<◌, ◌≤◌, ◌+◌, ◌-◌, max, ◌⊎◌, inl, inr, Bool, true, false, ◌||◌, List, [], ◌∷◌, ◌++◌, length, take, drop, All, Some, None, slice_get, refl, sym, ap, ◌∙◌, subst, arith, append_assoc, append-nil, length-append, ◌==◌, take-take, All-head, All-tail, All-cons, Text, Memory, size, is_layout, need, Cell, Byte, text_of_cells, IsByte, Contents, used, IsSound, Stream, memory_of, moment, ending, state_of, Scans, scene, Tried, is_special, IsOrdinary, IsLayout, Passes, PassesTimes, Advances, SomeSteps, peak_after}
 use Rattle.trac_functions.proofs.FlatLemmas.{size-used}
-use Rattle.trac_core.specs.Machine.{moment, ending, state_with, state_of}
-use Rattle.trac_core.specs.Attempts.{Scans, scene, Tried}
-use Rattle.trac_core.specs.StepsInRow.{is_special, IsOrdinary, IsLayout, Passes, PassesTimes, Advances, SomeSteps, peak_after}
 use Rattle.trac_core.proofs.Scanning.{scans-other, scans-layout, first-rest}
 
 -- no rule of its own
@@ -47,62 +30,39 @@ abbrev pub moved : ℕ → Contents → Contents
 moved n w = record w { active = drop n w.active; neutral = w.neutral ++ take n w.active }
 
 pub characters-pass : (meta n : ℕ) (w : Contents) → All IsByte w.active → n ≤ length w.active → All IsOrdinary (take n (text_of_cells w.active)) → PassesTimes n (memory_of meta w) (memory_of meta (moved n w))
-characters-pass meta zero w bytes within ordinary = ap (λ cells. memory_of meta (record w { neutral = cells })) (sym (append-nil w.neutral))
-characters-pass meta (suc n) w bytes within ordinary = go w.active refl (characters-pass meta n) bytes within ordinary
+characters-pass meta n w = go n w w.active
   where
-    go : (active : List Cell) → w.active ≡ active → ((w : Contents) → All IsByte w.active → n ≤ length w.active → All IsOrdinary (take n (text_of_cells w.active)) → PassesTimes n (memory_of meta w) (memory_of meta (moved n w))) → All IsByte active → suc n ≤ length active → All IsOrdinary (take (suc n) (text_of_cells active)) → PassesTimes (suc n) (memory_of meta w) (memory_of meta (moved (suc n) w))
-    go [] is later bytes within ordinary = absurd (omega arith)
-    go (Byte c ∷ rest) is later bytes within ordinary =
+    go : (n : ℕ) (w : Contents) (active : List Cell) → All IsByte active → n ≤ length active → All IsOrdinary (take n (text_of_cells active)) → PassesTimes n (memory_of meta (record w { active = active })) (memory_of meta (moved n (record w { active = active })))
+    go zero w active bytes within ordinary = ap (λ cells. memory_of meta (record w { active = active; neutral = cells })) (sym (append-nil w.neutral))
+    go (suc n) w [] bytes within ordinary = absurd (omega arith)
+    go (suc n) w (Byte c ∷ rest) bytes within ordinary =
         let special = All-head IsOrdinary c (take n (text_of_cells rest)) ordinary in
-        let first : slice_get (text_of_cells w.active) 0 ≡ Some c = ap (λ cells. slice_get (text_of_cells cells) 0) is in
-        let next : Contents = record w { active = drop 1 w.active; neutral = w.neutral ++ Byte c ∷ [] } in
-        let scans = scans-other w c first (ordinary-layout c special) (ordinary-not c 40 special refl) (ordinary-not c 41 special refl) (ordinary-not c 44 special refl) (ordinary-not c 35 special refl) in
-        let long : length w.active ≡ suc (length rest) = ap length is in
-        let more = length-drop 1 w.active in
+        let old : Contents = record w { active = Byte c ∷ rest } in
+        let next : Contents = record w { active = rest; neutral = w.neutral ++ Byte c ∷ [] } in
+        let scans = scans-other old c refl (ordinary-layout c special) (ordinary-not c 40 special refl) (ordinary-not c 41 special refl) (ordinary-not c 44 special refl) (ordinary-not c 35 special refl) in
         let pushed = length-append w.neutral (Byte c ∷ []) in
-        let same : used next ≤ used w = omega arith in
-        let after : drop 1 w.active ≡ rest = ap (drop 1) is in
-        let others : PassesTimes n (memory_of meta next) (memory_of meta (moved n next)) =
-        later next (subst (All IsByte) (sym after) (All-tail IsByte (Byte c) rest bytes)) (omega arith)
-        (subst (λ cells. All IsOrdinary (take n (text_of_cells cells))) (sym after) (All-tail IsOrdinary c (take n (text_of_cells rest)) ordinary)) in
-        let end : moved n next ≡ moved (suc n) w =
-        ap (λ cells. record w { active = drop n cells; neutral = (w.neutral ++ Byte c ∷ []) ++ take n cells }) after
-        ∙ ap (λ cells. record w { active = drop n rest; neutral = cells }) (append_assoc w.neutral (Byte c ∷ []) (take n rest))
-        ∙ ap (λ cells. record w { active = drop (suc n) cells; neutral = w.neutral ++ take (suc n) cells }) (sym is) in
-        (memory_of meta next, (passes-scans meta w next scans same, subst (λ v. PassesTimes n (memory_of meta next) (memory_of meta v)) end others))
-    go (Call mode k ∷ rest) is later bytes within ordinary = absurd (All-head IsByte (Call mode k) rest bytes)
-    go (Comma ∷ rest) is later bytes within ordinary = absurd (All-head IsByte Comma rest bytes)
-    go (Gap k ∷ rest) is later bytes within ordinary = absurd (All-head IsByte (Gap k) rest bytes)
-    go (Head k ∷ rest) is later bytes within ordinary = absurd (All-head IsByte (Head k) rest bytes)
+        let others = go n next rest (All-tail IsByte (Byte c) rest bytes) (omega arith) (All-tail IsOrdinary c (take n (text_of_cells rest)) ordinary) in
+        let same : used next ≤ used old = omega arith in
+        (memory_of meta next, (passes-scans meta old next scans same, rw (append_assoc w.neutral (Byte c ∷ []) (take n rest)) at others))
+    go (suc n) w (cell ∷ rest) bytes within ordinary = absurd (All-head IsByte cell rest bytes)
 
 -- the contents without the first n cells of active
 abbrev pub dropped : ℕ → Contents → Contents
 dropped n w = record w { active = drop n w.active }
 
 pub layouts-pass : (meta n : ℕ) (w : Contents) → All IsByte w.active → n ≤ length w.active → All IsLayout (take n (text_of_cells w.active)) → PassesTimes n (memory_of meta w) (memory_of meta (dropped n w))
-layouts-pass meta zero w bytes within layout = refl
-layouts-pass meta (suc n) w bytes within layout = go w.active refl (layouts-pass meta n) bytes within layout
+layouts-pass meta n w = go n w.active
   where
-    go : (active : List Cell) → w.active ≡ active → ((w : Contents) → All IsByte w.active → n ≤ length w.active → All IsLayout (take n (text_of_cells w.active)) → PassesTimes n (memory_of meta w) (memory_of meta (dropped n w))) → All IsByte active → suc n ≤ length active → All IsLayout (take (suc n) (text_of_cells active)) → PassesTimes (suc n) (memory_of meta w) (memory_of meta (dropped (suc n) w))
-    go [] is later bytes within layout = absurd (omega arith)
-    go (Byte c ∷ rest) is later bytes within layout =
-        let first : slice_get (text_of_cells w.active) 0 ≡ Some c = ap (λ cells. slice_get (text_of_cells cells) 0) is in
-        let next : Contents = dropped 1 w in
-        let scans = scans-layout w c first (All-head IsLayout c (take n (text_of_cells rest)) layout) in
-        let long : length w.active ≡ suc (length rest) = ap length is in
-        let more = length-drop 1 w.active in
-        let fewer : used next ≤ used w = omega arith in
-        let after : drop 1 w.active ≡ rest = ap (drop 1) is in
-        let others : PassesTimes n (memory_of meta next) (memory_of meta (dropped n next)) =
-        later next (subst (All IsByte) (sym after) (All-tail IsByte (Byte c) rest bytes)) (omega arith)
-        (subst (λ cells. All IsLayout (take n (text_of_cells cells))) (sym after) (All-tail IsLayout c (take n (text_of_cells rest)) layout)) in
-        let end : dropped n next ≡ dropped (suc n) w =
-        ap (λ cells. record w { active = drop n cells }) after ∙ ap (λ cells. record w { active = drop (suc n) cells }) (sym is) in
-        (memory_of meta next, (passes-scans meta w next scans fewer, subst (λ v. PassesTimes n (memory_of meta next) (memory_of meta v)) end others))
-    go (Call mode k ∷ rest) is later bytes within layout = absurd (All-head IsByte (Call mode k) rest bytes)
-    go (Comma ∷ rest) is later bytes within layout = absurd (All-head IsByte Comma rest bytes)
-    go (Gap k ∷ rest) is later bytes within layout = absurd (All-head IsByte (Gap k) rest bytes)
-    go (Head k ∷ rest) is later bytes within layout = absurd (All-head IsByte (Head k) rest bytes)
+    go : (n : ℕ) (active : List Cell) → All IsByte active → n ≤ length active → All IsLayout (take n (text_of_cells active)) → PassesTimes n (memory_of meta (record w { active = active })) (memory_of meta (dropped n (record w { active = active })))
+    go zero active bytes within layout = refl
+    go (suc n) [] bytes within layout = absurd (omega arith)
+    go (suc n) (Byte c ∷ rest) bytes within layout =
+        let old : Contents = record w { active = Byte c ∷ rest } in
+        let next : Contents = record w { active = rest } in
+        let scans = scans-layout old c refl (All-head IsLayout c (take n (text_of_cells rest)) layout) in
+        let fewer : used next ≤ used old = omega arith in
+        (memory_of meta next, (passes-scans meta old next scans fewer, go n rest (All-tail IsByte (Byte c) rest bytes) (omega arith) (All-tail IsLayout c (take n (text_of_cells rest)) layout)))
+    go (suc n) (cell ∷ rest) bytes within layout = absurd (All-head IsByte cell rest bytes)
 
 -- one step, and some and then others
 pub passes-once : (old new : Memory) → Passes old new → PassesTimes 1 old new
@@ -134,16 +94,13 @@ pub tried-passed : (old new : Contents) (n needed : ℕ) → Advances n old new 
 tried-passed old new n needed passes one sound needs meta source written = λ m room_is memory_is allowed.
     let once = subst (λ k. PassesTimes k (memory_of meta old) (memory_of meta new)) one (passes meta) in
     let pass : Passes (memory_of meta old) (memory_of meta new) = subst (Passes (memory_of meta old)) once.1.1 once.1.0 in
-    let input = ending source.bytes in
-    let here : state_of (moment m source written) ≡ state_with (memory_of meta old) input written = ap (λ memory. state_with memory input written) memory_is in
-    let need_is : need (state_with (memory_of meta old) input written) ≡ needed = pass.needs input written ∙ size-used meta old ∙ sym needs in
-    let fits = sound.fits in
+    let need_is : need (state_of (moment m source written)) ≡ needed = rw memory_is (pass.needs (ending source.bytes) written ∙ size-used meta old ∙ sym needs) in
     record {
-      may = record { allowed = allowed; fits = rw here (omega arith) };
-      goes = ap step here ∙ pass.goes input written;
-      counts = record { steps = refl; peak = rw (here, need_is) refl };
+      may = record { allowed = allowed; fits = omega arith };
+      goes = rw memory_is (pass.goes (ending source.bytes) written);
+      counts = record { steps = refl; peak = ap (max m.peak) (sym need_is) };
       stays_ended = λ e. e;
-      read_all = λ reads. absurd (let none = pass.reads input written in let some = sym (ap reads_to_end here) ∙ reads in cc);
+      read_all = λ reads. absurd (let none = pass.reads (ending source.bytes) written in let some = rw memory_is at reads in cc);
     }
 
 -- some steps that take a character each
@@ -166,7 +123,6 @@ pub passes-smaller : (n : ℕ) (old new : Memory) → PassesTimes n old new → 
 passes-smaller zero old new passes = let same = ap size passes in omega arith
 passes-smaller (suc n) old new passes =
     let later = passes-smaller n passes.0 new passes.1.1 in
-    let here = passes.1.0.no_larger in
     omega arith
 
 -- after some steps the peak is what it was or the need of the first, which has not to be this one

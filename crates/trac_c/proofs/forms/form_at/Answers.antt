@@ -1,5 +1,4 @@
-use Rattle.std.proofs.Common.{◌≡◌, ◌∙◌, ap, arith}
-use Rattle.std.specs.Prelude.{slice_get}
+use Rattle.trac_c.proofs.Words.{◌≡◌, ◌∙◌, ap, arith, slice_get}
 use Rattle.trac_c.proofs.Listing.{left-then, given-at}
 use Rattle.trac_c.proofs.forms.form_at.Goals as goal
 

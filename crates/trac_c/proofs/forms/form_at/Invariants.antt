@@ -1,4 +1,4 @@
-use Rattle.std.proofs.Common.{◌≡◌, ◌≤◌, drop}
+use Rattle.trac_c.proofs.Words.{◌≡◌, ◌≤◌, drop}
 use Rattle.trac_c.proofs.forms.form_at.Given as goal
 
 -- so many forms are passed

@@ -1,5 +1,4 @@
-use Rattle.std.proofs.Common.{◌∙◌, arith}
-use Rattle.trac_space.specs.Texts.{character_of}
+use Rattle.trac_c.proofs.Words.{◌∙◌, arith, character_of}
 use Rattle.trac_c.proofs.Laying.{laid-mapped, laid-enough}
 use Rattle.trac_c.proofs.forms.lay_characters.Goals as goal
 

@@ -1,6 +1,4 @@
-use Rattle.std.proofs.Common.{◌≡◌, ◌≤◌, length, take, map}
-use Rattle.trac_space.specs.Texts.{character_of}
-use Rattle.trac_c.specs.Laid.{laid}
+use Rattle.trac_c.proofs.Words.{◌≡◌, ◌≤◌, length, take, map, character_of, laid}
 use Rattle.trac_c.proofs.forms.lay_characters.Given as goal
 
 -- the characters up to a place are put

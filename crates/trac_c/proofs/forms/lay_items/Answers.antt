@@ -1,7 +1,7 @@
-use Rattle.std.proofs.Common.{◌∙◌, ap, arith}
+use Rattle.trac_c.proofs.Words.{◌∙◌, ap, arith, item_code}
 use Rattle.std.proofs.lemmas.Option.{slice_get-get_or}
 use Rattle.trac_language.specs.declared.item.Item.TheVariants.{Byte}
-use Rattle.trac_c.specs.Shown.{item_code, code_of}
+use Rattle.trac_c.specs.Shown.{code_of}
 use Rattle.trac_c.proofs.Laying.{laid-mapped}
 use Rattle.trac_c.proofs.forms.lay_items.Goals as goal
 

@@ -1,6 +1,4 @@
-use Rattle.std.proofs.Common.{◌≡◌, ◌≤◌, length, take, map}
-use Rattle.trac_c.specs.Laid.{laid}
-use Rattle.trac_c.specs.Shown.{item_code}
+use Rattle.trac_c.proofs.Words.{◌≡◌, ◌≤◌, length, take, map, laid, item_code}
 use Rattle.trac_c.proofs.forms.lay_items.Given as goal
 
 -- the codes of the items up to a place are put

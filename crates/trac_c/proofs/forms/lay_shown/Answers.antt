@@ -1,5 +1,4 @@
-use Rattle.std.proofs.Common.{◌≡◌, ◌++◌, length, min, take, drop, sym, ap, ◌∙◌, arith}
-use Rattle.std.proofs.Math.Seq.{length-take-le}
+use Rattle.trac_c.proofs.Words.{◌≡◌, ◌++◌, length, min, take, drop, sym, ap, ◌∙◌, arith, length-take-le}
 use Rattle.trac_language.specs.Meaning.{show_form}
 use Rattle.trac_c.proofs.Laying.{laid-front}
 use Rattle.trac_c.proofs.forms.lay_shown.Goals as goal

@@ -1,40 +1,14 @@
 -- `fill` writes the cells one by one, from the first on. Assumes `Logic`.
-use mathlib.Core.Path.{◌≡◌, refl}
-use mathlib.Core.List.{List, [], ◌∷◌, ◌++◌}
+use Rattle.trac_c.proofs.Walking.{ℕ, ◌+◌, ◌-◌, ◌*◌, ◌≤◌, ◌<◌, ◌^◌, arith, ◌≡◌, refl, List, [], ◌∷◌, ◌++◌, lit<, ltb→lt, nltb→le, froom, fex, full_share, SProp, id⊢, fact, tables, Array, usize, yes, Is, part_at, uint_vals, uint_Tells, Ptr, RawPtr, block_ptr, rawptr_vals, rawptr_Tells, in_a_block, room_at, plain, nothing, owned, heard, on_entry, Stays, stay_dropped, walk_of, ends_at, Goes-dropped, w8, w64, ty_array, Val, vptr, vint, vunit, vstruct, vcons, vnil, has_ty, WT, WpFn, Out, Wp, at_return, after_seq, after_block, alloc_all, pass_all, free_all, look_at, get, sets, sets_last, through, env, holding, forget_but, Item, ‵, raw, ◌⊛◌, prop, ◌$◌, ◌∵◌, !, qed, move, drop, use0, use1, use2, join, split, rewrite, regoal, fpick, fpack, feq_i, suffices, group, done, any_q, at_ret, agg, stop, no_more, and_then, returns, enter, of_opd, lit, bin, unit_lit, init, assigns, first, blocks, skips, jumps, branches, exec, loops, again, Below, proved, Cell}
 use mathlib.Core.WellFounded.InvImage
-use Prim.Native.Nat.{ℕ, ◌+◌, ◌-◌, ◌*◌, ◌≤◌, ◌<◌, ◌^◌}
-use native.Mathlib.Omega.{arith}
-use lib.Dec.{T, lit<, ltb→lt, nltb→le}
+use lib.Dec.{T}
 use lib.WfN.{lt-wf_rel}
-use base.Fraction.{full_share}
-use mir.Syntax.{w8, w64, ty_array}
-use mir.Val.{Val, vunit, vint, vptr, vstruct, vcons, vnil, has_ty, WT}
-use base.Logic.{SProp, id⊢}
-use base.Fml.{froom, fex}
-use prog.Wp.{Out, Wp, WpFn, at_return, after_seq, after_block, after_turn}
-use contract.Monad.{fact}
-use contract.Running.{tables, tables_of}
-use types.Kit.{Item, any_q, ‵, raw, ◌⊛◌, prop, at_ret, ◌$◌, ◌∵◌, !, qed, move, drop, use0, use1, use2, join, split, rewrite, regoal, fpick, fpack, feq_i, suffices, group, done}
-use types.Run.{stop, lit, bin, unit_lit, of_opd, init, assigns, first, blocks, skips, jumps, branches, exec, returns, enter, loops, again, Below, no_more, and_then}
-use types.Part.{agg}
-use types.ByLocal.{alloc_all, pass_all, free_all, look_at, get, through, sets, sets_last, env, holding, forget_but}
-use denote.Exit.{yes}
-use denote.Builtin.{usize}
-use denote.Array.{Array}
-use denote.Laws.{Is}
-use denote.Memory.{part_at}
+use prog.Wp.{after_turn}
+use contract.Running.{tables_of}
 use denote.Enum.Laws as LL
-use denote.Plain.{uint_vals, uint_Tells}
-use denote.RawPtr.{Ptr, RawPtr, block_ptr, rawptr_vals, rawptr_Tells, room_at, in_a_block}
-use denote.Signature.{plain}
-use denote.Steps.{heard, nothing, owned}
-use denote.Triple.Entry.{on_entry}
-use denote.Triple.Walked.{Stays, stay_dropped, walk_of, ends_at, Goes-dropped}
-use Rattle.std.proofs.raw_atomic.Walks.{proved}
 use Rattle.std.proofs.VecSteps.Shapes.{after}
 use Rattle.std.proofs.ptr.Rows.{El, R, elτ, sz, el_in, empty, room_split, spare, snoc}
 use Rattle.trac_space.specs.contracts.cell.Cell as C
-use Rattle.trac_space.specs.declared.cell.Cell.{Cell}
 use Rattle.trac_space.specs.declared.cell.Cell.TheVariants.{Comma}
 use Rattle.trac_space.proofs.cell.Cell.TheLaws as C'
 use Rattle.trac_c.specs.contracts.run.fill as f

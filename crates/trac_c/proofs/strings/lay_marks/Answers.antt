@@ -1,11 +1,5 @@
-use Rattle.std.proofs.Common.{◌≡◌, ◌+◌, ◌∙◌, ◌++◌, [], ◌∷◌, take, get_or, sym, ap, arith}
-use Rattle.std.proofs.lemmas.List.{take_more}
-use Rattle.std.proofs.Math.Seq.{length-take-le}
-use Rattle.trac_space.specs.declared.cell.Cell.TheVariants.{Byte}
-use Rattle.trac_functions.specs.Flat.{neutral_of, with_cell}
+use Rattle.trac_c.proofs.Words.{◌≡◌, ◌+◌, ◌∙◌, ◌++◌, [], ◌∷◌, take, get_or, sym, ap, arith, take_more, length-take-le, Byte, neutral_of, with_cell, laid, codes_of_neutral, cell_code, has_call, is_open_after}
 use Rattle.trac_functions.proofs.FlatLemmas.{neutral_of-push}
-use Rattle.trac_c.specs.Laid.{laid}
-use Rattle.trac_c.specs.View.{codes_of_neutral, cell_code, has_call, is_open_after}
 use Rattle.trac_c.proofs.Laying.{laid-next}
 use Rattle.trac_c.proofs.Coding.{codes-cell, call-cell, codes-count}
 use Rattle.trac_c.proofs.strings.lay_marks.Goals as goal

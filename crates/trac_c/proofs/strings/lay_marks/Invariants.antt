@@ -1,7 +1,4 @@
-use Rattle.std.proofs.Common.{◌≡◌, ◌≤◌, length, take}
-use Rattle.trac_functions.specs.Flat.{neutral_of}
-use Rattle.trac_c.specs.Laid.{laid}
-use Rattle.trac_c.specs.View.{codes_of_neutral, has_call}
+use Rattle.trac_c.proofs.Words.{◌≡◌, ◌≤◌, length, take, neutral_of, laid, codes_of_neutral, has_call}
 use Rattle.trac_c.proofs.strings.lay_marks.Given as goal
 
 -- the codes of the cells up to a place are put

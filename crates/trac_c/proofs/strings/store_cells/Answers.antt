@@ -1,7 +1,4 @@
-use Rattle.std.proofs.Common.{◌∙◌, sym, ap, length, arith}
-use Rattle.std.proofs.lemmas.List.{length-map}
-use Rattle.trac_space.specs.Texts.{character_of}
-use Rattle.trac_core.specs.View.{neutral_in}
+use Rattle.trac_c.proofs.Words.{◌∙◌, sym, ap, length, arith, length-map, character_of, neutral_in}
 use Rattle.trac_c.proofs.Coding.{codes-size}
 use Rattle.trac_c.proofs.strings.store_cells.Goals as goal
 

@@ -1,4 +1,4 @@
-use Rattle.std.proofs.Common.{rules, ◌∙◌, ap}
+use Rattle.trac_c.proofs.Words.{rules, ◌∙◌, ap}
 use Rattle.trac_c.proofs.Again.{over-some, over-none}
 use Rattle.trac_c.proofs.turn.go_on.Goals as goal
 

@@ -1,6 +1,4 @@
-use Rattle.std.proofs.Common.{◌≡◌, ◌-◌, ◌≤◌, None, Some}
-use Rattle.trac_language.specs.declared.fate.Fate.{Fate}
-use Rattle.trac_c.specs.Turned.{Goes, stands}
+use Rattle.trac_c.proofs.Words.{◌≡◌, ◌-◌, ◌≤◌, None, Some, Fate, Goes, stands}
 use Rattle.trac_c.proofs.turn.go_on.Given as goal
 
 -- so many steps are done, the run is not over, and no device has failed; where the run was over

@@ -1,5 +1,4 @@
-use Rattle.std.proofs.Common.{◌≡◌, [], length, ap, ◌∙◌, arith}
-use Rattle.trac_core.specs.Machine.{ending}
+use Rattle.trac_c.proofs.Words.{◌≡◌, [], length, ap, ◌∙◌, arith, ending}
 use Rattle.trac_c.proofs.Again.{prints-none}
 use Rattle.trac_c.proofs.turn.step_on.Goals as goal
 

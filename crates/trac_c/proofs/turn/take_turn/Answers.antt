@@ -1,6 +1,4 @@
-use Rattle.std.proofs.Common.{rules, [], ap, ◌∙◌}
-use Rattle.trac_core.specs.Machine.{ending}
-use Rattle.trac_devices.specs.Slices.{stream_in}
+use Rattle.trac_c.proofs.Words.{rules, [], ap, ◌∙◌, ending, stream_in}
 use Rattle.trac_c.proofs.Again.{told-again}
 use Rattle.trac_c.proofs.Further.{tells}
 use Rattle.trac_c.proofs.Telling.{told_turn, told_full}

@@ -1,5 +1,4 @@
-use Rattle.std.proofs.Common.{subst}
-use Rattle.trac_core.specs.StepsInRow.{AsksFor}
+use Rattle.trac_core.proofs.Words.{subst, AsksFor}
 use Rattle.trac_core.proofs.Performing.{performs-closed, function-performs}
 use Rattle.trac_core.proofs.call.carry_out.Goals as goal
 

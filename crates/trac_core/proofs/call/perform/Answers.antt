@@ -1,6 +1,4 @@
-use Rattle.std.proofs.Common.{◌≢◌, None, ap, ◌∙◌}
-use Rattle.trac_forms.specs.Contents.{Contents}
-use Rattle.trac_core.specs.Attempts.{fate_after}
+use Rattle.trac_core.proofs.Words.{◌≢◌, None, ap, ◌∙◌, Contents, fate_after}
 use Rattle.trac_core.proofs.Performing.{unsettled}
 use Rattle.trac_core.proofs.call.perform.Goals as goal
 

@@ -1,8 +1,4 @@
-use Rattle.std.proofs.Common.{◌++◌, false, take, drop, sym, ap, ◌∙◌, arith}
-use Rattle.std.proofs.lemmas.List.{take-take}
-use Rattle.trac_space.specs.Texts.{flat_text, text_of_cells}
-use Rattle.trac_forms.specs.Contents.{Contents}
-use Rattle.trac_functions.specs.Flat.{mode_at}
+use Rattle.trac_core.proofs.Words.{false, take, drop, refl, sym, ◌∙◌, arith, take-take, text_of_cells, mode_at}
 use Rattle.trac_functions.proofs.ArgumentLemmas.{flat-bytes}
 use Rattle.trac_core.proofs.Performing.{delivered-active, delivered-neutral}
 use Rattle.trac_core.proofs.delivery.deliver.Goals as goal
@@ -10,19 +6,13 @@ use Rattle.trac_core.proofs.delivery.deliver.Goals as goal
 pub returns-then-is_scanned_again-clause-delivered : goal.returns-then-is_scanned_again-clause-delivered
 returns-then-is_scanned_again-clause-delivered c =
     let old = c.args.work.now in
-    let from = c.args.from in
-    let place = c.args.place in
-    c.cut_neutral.ensures.cut
-    ∙ ap (λ (w : Contents). record w { neutral = take place w.neutral }) c.neutral_to_active.ensures.moved
-    ∙ ap (λ cells. record old { neutral = take place (take from old.neutral); active = cells ++ old.active }) (sym (flat-bytes (drop from old.neutral) c.requires.value))
-    ∙ sym (delivered-active (mode_at old.neutral place) false (text_of_cells (drop from old.neutral)) place (record old { neutral = take from old.neutral }) (sym c.is_scanned_again.ensures ∙ c.if-is_scanned_again.true))
+    let value = drop c.args.from old.neutral in
+    let active = delivered-active (mode_at old.neutral c.args.place) false (text_of_cells value) c.args.place (record old { neutral = take c.args.from old.neutral }) (sym c.is_scanned_again.ensures ∙ c.if-is_scanned_again.true) in
+    rw (c.cut_neutral.ensures.cut, c.neutral_to_active.ensures.moved, active, flat-bytes value c.requires.value) refl
 
 pub returns-else-is_scanned_again-clause-delivered : goal.returns-else-is_scanned_again-clause-delivered
 returns-else-is_scanned_again-clause-delivered c =
     let old = c.args.work.now in
-    let from = c.args.from in
-    let place = c.args.place in
-    c.drop_neutral.ensures.dropped
-    ∙ ap (λ cells. record old { neutral = take place old.neutral ++ cells }) (sym (flat-bytes (drop from old.neutral) c.requires.value))
-    ∙ ap (λ cells. record old { neutral = cells ++ flat_text (text_of_cells (drop from old.neutral)) }) (sym (take-take place from old.neutral (omega arith)))
-    ∙ sym (delivered-neutral (mode_at old.neutral place) false (text_of_cells (drop from old.neutral)) place (record old { neutral = take from old.neutral }) (sym c.is_scanned_again.ensures ∙ c.if-is_scanned_again.false))
+    let value = drop c.args.from old.neutral in
+    let neutral = delivered-neutral (mode_at old.neutral c.args.place) false (text_of_cells value) c.args.place (record old { neutral = take c.args.from old.neutral }) (sym c.is_scanned_again.ensures ∙ c.if-is_scanned_again.false) in
+    rw (c.drop_neutral.ensures.dropped, neutral, flat-bytes value c.requires.value, take-take c.args.place c.args.from old.neutral (omega arith)) refl

@@ -1,6 +1,4 @@
-use Rattle.std.proofs.Common.{◌≡◌, ◌+◌, ◌∙◌, length, take, ap, sym, arith}
-use Rattle.std.proofs.Math.Seq.{take-length}
-use Rattle.trac_language.specs.Meaning.{show}
+use Rattle.trac_core.proofs.Words.{◌≡◌, ◌+◌, ◌∙◌, length, take, ap, sym, arith, take-length, show}
 use Rattle.trac_core.proofs.Printed.{length-show-more, length-display}
 use Rattle.trac_core.proofs.display.display_len.Goals as goal
 

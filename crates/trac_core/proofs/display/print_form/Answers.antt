@@ -1,11 +1,4 @@
-use Rattle.std.proofs.Common.{sym, ap, ◌∙◌, subst, length}
-use Rattle.trac_language.specs.Store.{form_named}
-use Rattle.trac_forms.specs.Contents.{Contents, used}
-use Rattle.trac_functions.specs.declared.arguments.Made.TheVariants.{Defined}
-use Rattle.trac_functions.specs.Flat.{arguments_at}
-use Rattle.trac_functions.specs.Calls.{texts}
-use Rattle.trac_core.specs.Attempts.{Stands}
-use Rattle.trac_core.specs.Display.{display}
+use Rattle.trac_core.proofs.Words.{sym, ap, ◌∙◌, subst, length, form_named, Contents, used, Defined, arguments_at, texts, Stands, display}
 use Rattle.trac_core.proofs.Performing.{stands-null}
 use Rattle.trac_core.proofs.Printing.{argument-one}
 use Rattle.trac_core.proofs.Displaying.{answers-display, answers-display-broken}

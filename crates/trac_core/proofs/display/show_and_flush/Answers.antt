@@ -1,5 +1,4 @@
-use Rattle.std.proofs.Common.{◌∙◌}
-use Rattle.trac_language.specs.Meaning.{show_form}
+use Rattle.trac_core.proofs.Words.{◌∙◌, show_form}
 use Rattle.trac_core.proofs.Displaying.{prints-nothing}
 use Rattle.trac_core.proofs.display.show_and_flush.Goals as goal
 

@@ -1,6 +1,4 @@
-use Rattle.std.proofs.Common.{◌++◌, slice_range, length, refl}
-use Rattle.std.specs.Prelude.{codes}
-use Rattle.trac_language.specs.Meaning.{show}
+use Rattle.trac_core.proofs.Words.{◌++◌, slice_range, length, refl, codes, show}
 use Rattle.trac_devices.proofs.PutCells.{prints-err}
 use Rattle.trac_core.proofs.Displaying.{breaks-off, breaks-then, prints-then, display-parts}
 use Rattle.trac_core.proofs.display.show_form.Goals as goal

@@ -1,5 +1,4 @@
-use Rattle.std.proofs.Common.{◌++◌, ap, ◌∙◌}
-use Rattle.std.specs.Prelude.{codes, decimal}
+use Rattle.trac_core.proofs.Words.{◌++◌, ap, ◌∙◌, codes, decimal}
 use Rattle.trac_devices.proofs.PutCells.{prints-err}
 use Rattle.trac_core.proofs.Displaying.{breaks-off, prints-then}
 use Rattle.trac_core.proofs.display.show_gap.Goals as goal

@@ -1,4 +1,4 @@
-use Rattle.std.proofs.Common.{◌∙◌, arith}
+use Rattle.trac_core.proofs.Words.{◌∙◌, arith}
 use Rattle.trac_devices.proofs.PutCells.{prints-err}
 use Rattle.trac_core.proofs.Displaying.{displays-more, displays-broken}
 use Rattle.trac_core.proofs.display.show_items.Goals as goal

@@ -1,5 +1,4 @@
-use Rattle.std.proofs.Common.{◌≡◌, ◌≤◌, ◌++◌, slice_range}
-use Rattle.trac_language.specs.Meaning.{show}
+use Rattle.trac_core.proofs.Words.{◌≡◌, ◌≤◌, ◌++◌, slice_range, show}
 use Rattle.trac_core.proofs.display.show_items.Given as goal
 
 -- the items up to a place were displayed

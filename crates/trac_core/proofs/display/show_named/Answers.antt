@@ -1,10 +1,5 @@
-use Rattle.std.proofs.Common.{◌++◌, sym, ap, ◌∙◌, subst, append-nil}
-use Rattle.trac_language.specs.Text.{Text}
-use Rattle.trac_language.specs.Meaning.{show_form}
-use Rattle.trac_forms.specs.Contents.{Contents, form_at, part_text}
+use Rattle.trac_core.proofs.Words.{◌++◌, sym, ap, ◌∙◌, subst, append-nil, Text, show_form, Contents, form_at, part_text, Prints, display}
 use Rattle.trac_forms.proofs.Stores.{form_named-at, form_named-none}
-use Rattle.trac_devices.specs.Devices.{Prints}
-use Rattle.trac_core.specs.Display.{display}
 use Rattle.trac_core.proofs.Displaying.{display-some, on_err}
 use Rattle.trac_core.proofs.display.show_named.Goals as goal
 

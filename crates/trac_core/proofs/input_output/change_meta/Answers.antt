@@ -1,6 +1,4 @@
-use Rattle.std.proofs.Common.{ap, sym, ◌∙◌, slice_get, refl}
-use Rattle.trac_functions.specs.Flat.{arguments_at}
-use Rattle.trac_functions.specs.Calls.{texts}
+use Rattle.trac_core.proofs.Words.{ap, sym, ◌∙◌, slice_get, refl, arguments_at, texts}
 use Rattle.trac_core.proofs.Printing.{answers-meta, argument-one, some-same}
 use Rattle.trac_core.proofs.input_output.change_meta.Goals as goal
 

@@ -1,6 +1,5 @@
-use Rattle.std.proofs.Common.{sym, ◌∙◌}
-use Rattle.trac_functions.specs.Flat.{arguments_at}
-use Rattle.trac_functions.specs.Calls.{texts}
+use Rattle.std.proofs.lemmas.Grind.{common_steps}
+use Rattle.trac_core.proofs.Words.{arith, sym, ◌∙◌, arguments_at, texts}
 use Rattle.trac_core.proofs.Performing.{stands-null}
 use Rattle.trac_core.proofs.Printing.{answers-print, answers-print-broken, argument-one}
 use Rattle.trac_core.proofs.input_output.print_string.Goals as goal
@@ -20,3 +19,9 @@ returns-in-Err-clause-answers g c = λ told place meta source has.
     rw broke.1.1.1
     (answers-print-broken c.args.work.now place has.call meta source (g.O.Sink.written c.args.sink.now) broke.0 broke.1.0
     (sym text ∙ broke.1.1.0) (λ none. c.in-Err.ensures.some (broke.1.1.0 ∙ none)))
+
+pub returns-in-Ok-clause-sink : goal.returns-in-Ok-clause-sink
+returns-in-Ok-clause-sink g c = grind (arith, common_steps)
+
+pub returns-in-Err-clause-sink : goal.returns-in-Err-clause-sink
+returns-in-Err-clause-sink g c = grind (arith, common_steps)

@@ -1,5 +1,4 @@
-use Rattle.std.proofs.Common.{◌∷◌, [], ap, arith}
-use Rattle.trac_devices.specs.Devices.{Stream}
+use Rattle.trac_core.proofs.Words.{◌∷◌, [], ap, arith, Stream}
 use Rattle.trac_core.proofs.Reading.{character-read, character-full, character-ended, character-failed, not-less}
 use Rattle.trac_core.proofs.input_output.read_character.Goals as goal
 
@@ -17,7 +16,6 @@ returns-else-push_neutral-clause-answers g c = λ told place meta written call.
 pub returns-else-push_neutral-clause-takes : goal.returns-else-push_neutral-clause-takes
 returns-else-push_neutral-clause-takes g c = λ told.
     let gives = c.in-Byte.ensures.gives told in
-    let fits = c.requires.sound.fits in
     (c.in-Byte.byte ∷ [], record { consumed = gives.0; few = omega arith })
 
 pub returns-in-End-clause-answers : goal.returns-in-End-clause-answers
@@ -33,5 +31,4 @@ returns-in-Failed-clause-answers g c = λ told place meta written call.
 pub returns-then-push_neutral-clause-takes : goal.returns-then-push_neutral-clause-takes
 returns-then-push_neutral-clause-takes g c = λ told.
     let gives = c.in-Byte.ensures.gives told in
-    let fits = c.requires.sound.fits in
     (c.in-Byte.byte ∷ [], record { consumed = gives.0; few = omega arith })

@@ -1,10 +1,4 @@
-use Rattle.std.proofs.Common.{◌≡◌, ◌-◌, Some, None, refl, sym, ap, ◌∙◌, subst, arith, inl}
-use Rattle.std.proofs.lemmas.List.{length-drop}
-use Rattle.trac_forms.specs.Contents.{Contents}
-use Rattle.trac_functions.specs.Flat.{memory_of}
-use Rattle.trac_core.specs.Attempts.{scene, Tried}
-use Rattle.trac_core.specs.Machine.{moment, input_failures, output_failures}
-use Rattle.trac_core.specs.StepsInRow.{running}
+use Rattle.trac_core.proofs.Words.{◌≡◌, ◌-◌, Some, None, refl, sym, ap, ◌∙◌, subst, arith, inl, length-drop, Contents, memory_of, scene, Tried, moment, input_failures, output_failures, running}
 use Rattle.trac_core.proofs.Moments.{Along, along-none}
 use Rattle.trac_core.proofs.RunningOn.{with_left, need-fits, need-counted, along-run, along-step, ends-step, ends-allowance}
 use Rattle.trac_core.proofs.Sending.{sent-more}
@@ -12,7 +6,6 @@ use Rattle.trac_core.proofs.machine.run_to_end.Goals as goal
 
 pub loop-left-init : goal.loop-left-init
 loop-left-init g c =
-    let all = c.requires.steps in
     let len = c.neutral_len-plain.ensures.value in
     record {
       few = omega arith;
@@ -39,7 +32,6 @@ loop-left-init g c =
 pub loop-left-preserved-in-Ok : goal.loop-left-preserved-in-Ok
 loop-left-preserved-in-Ok g c =
     let i = c.loop-left.invariant in
-    let few = i.few in
     let h = c.in-Ok.ensures in
     let some = h.comes in
     let within = some.few in
@@ -64,70 +56,47 @@ loop-left-preserved-in-Ok g c =
           c.in-Ok.done c.loop-left.need c.max-peak.result (g.I.Source.stream c.loop-left.source) (g.O.Sink.written c.loop-left.sink) h.keeps.room i.sound within some.some some.passes i.need c.max-peak.ensures (i.along told_source told_sink);
     }
 
-pub returns-in-Some-clause-reports : goal.returns-in-Some-clause-reports
-returns-in-Some-clause-reports g c = λ told_source told_sink.
+pub returns-in-Some : goal.returns-in-Some
+returns-in-Some g c =
     let i = c.loop-left.invariant in
-    let few = i.few in
-    let same = c.in-Err.ensures.comes.0 in
-    let start = running c.args.work.now c.args.meta.now c.args.at in
-    let source = g.I.Source.stream c.loop-left.source in
-    let written = g.O.Sink.written c.loop-left.sink in
-    let later = g.I.Source.stream c.carry_out-last.new.source in
-    let printed = g.O.Sink.written c.carry_out-last.new.sink in
-    let bytes = (g.I.Source.stream c.args.source.now).bytes in
-    let before = g.O.Sink.written c.args.sink.now in
-    let along = subst (λ (w : Contents). Along start bytes before (moment (running w c.loop-left.meta (with_left c.args.at.allowance c.loop-left.left c.loop-left.peak)) source written)) (sym same) (i.along told_source told_sink) in
-    let tried = subst (λ fate. Tried (scene c.pass.new.work c.loop-left.meta source written) fate c.carry_out-last.result.need (scene c.carry_out-last.new.work c.carry_out-last.new.meta later printed)) c.in-Some.is
-    (c.carry_out-last.ensures.tried (i.told_source told_source) (i.told_sink told_sink)) in
-    ends-step start bytes before c.pass.new.work c.carry_out-last.new.work c.loop-left.meta c.args.at.allowance c.loop-left.left c.loop-left.peak (c.in-Err.ensures.keeps.room ∙ i.room) (omega arith)
-    c.carry_out-last.new.meta c.carry_out-last.result.need source later written printed c.in-Some.fate c.ended.result refl c.loop-left-test.true tried along
-    (c.ended.ensures.counts
-    (running c.pass.new.work c.loop-left.meta (with_left c.args.at.allowance c.loop-left.left c.loop-left.peak))
-    (memory_of c.carry_out-last.new.meta c.carry_out-last.new.work)
-    refl refl)
-
-pub returns-in-Some-clause-input_failed : goal.returns-in-Some-clause-input_failed
-returns-in-Some-clause-input_failed g c =
-    let i = c.loop-left.invariant in
-    let fate = ap (input_failures None) (c.in-Some.is ∙ ap Some (sym c.ended.ensures.fate)) in
-    omega (arith, i.source_failures, c.carry_out-last.ensures.source.1, fate)
-
-pub returns-in-Some-clause-output_failed : goal.returns-in-Some-clause-output_failed
-returns-in-Some-clause-output_failed g c =
-    let i = c.loop-left.invariant in
-    let fate = ap (output_failures None) (c.in-Some.is ∙ ap Some (sym c.ended.ensures.fate)) in
-    omega (arith, i.sink_failures, c.carry_out-last.ensures.sink.1, fate)
-
-pub returns-in-Some-clause-sent : goal.returns-in-Some-clause-sent
-returns-in-Some-clause-sent g c = λ other.
-    let i = c.loop-left.invariant in
-    let same = c.ended.ensures.fate in
-    sent-more g.O.Sink.tells g.O.Sink.flushed g.O.Sink.written c.args.sink.now c.loop-left.sink c.carry_out-last.new.sink i.told_sink i.sent
-    (c.carry_out-last.ensures.sink.4 (λ e. other cc))
-
-pub returns-in-Some-clause-steps : goal.returns-in-Some-clause-steps
-returns-in-Some-clause-steps g c =
-    let few = c.loop-left.invariant.few in
-    let steps = c.ended.ensures.steps in
-    omega arith
-
-pub returns-in-Some-clause-peak : goal.returns-in-Some-clause-peak
-returns-in-Some-clause-peak g c =
-    let i = c.loop-left.invariant in
-    let fits = c.carry_out-last.ensures.fits in
-    let peak = c.ended.ensures.peak in
-    omega (arith, i.peak, i.room, c.in-Err.ensures.keeps.room)
+    let h = c.carry_out-last.ensures in
+    let ended = c.ended.ensures in
+    let room = c.in-Err.ensures.keeps.room ∙ i.room in
+    let fate = c.in-Some.is ∙ ap Some (sym ended.fate) in
+    record {
+      reports = λ told_source told_sink.
+          let start = running c.args.work.now c.args.meta.now c.args.at in
+          let bytes = (g.I.Source.stream c.args.source.now).bytes in
+          let before = g.O.Sink.written c.args.sink.now in
+          let source = g.I.Source.stream c.loop-left.source in
+          let written = g.O.Sink.written c.loop-left.sink in
+          let later = g.I.Source.stream c.carry_out-last.new.source in
+          let printed = g.O.Sink.written c.carry_out-last.new.sink in
+          let last = with_left c.args.at.allowance c.loop-left.left c.loop-left.peak in
+          let along = subst (λ (w : Contents). Along start bytes before (moment (running w c.loop-left.meta last) source written)) (sym c.in-Err.ensures.comes.0) (i.along told_source told_sink) in
+          let tried = subst (λ fate. Tried (scene c.pass.new.work c.loop-left.meta source written) fate c.carry_out-last.result.need (scene c.carry_out-last.new.work c.carry_out-last.new.meta later printed)) c.in-Some.is
+          (h.tried (i.told_source told_source) (i.told_sink told_sink)) in
+          ends-step start bytes before c.pass.new.work c.carry_out-last.new.work c.loop-left.meta c.args.at.allowance c.loop-left.left c.loop-left.peak room (omega arith)
+          c.carry_out-last.new.meta c.carry_out-last.result.need source _ written _ c.in-Some.fate c.ended.result refl c.loop-left-test.true tried along
+          (ended.counts (running c.pass.new.work c.loop-left.meta last) (memory_of c.carry_out-last.new.meta c.carry_out-last.new.work) refl refl);
+      input_failed = let fate = ap (input_failures None) fate in omega (arith, i.source_failures, h.source.1, fate);
+      output_failed = let fate = ap (output_failures None) fate in omega (arith, i.sink_failures, h.sink.1, fate);
+      sent = λ other. let same = ended.fate in sent-more g.O.Sink.tells g.O.Sink.flushed g.O.Sink.written c.args.sink.now c.loop-left.sink c.carry_out-last.new.sink i.told_sink i.sent (h.sink.4 (λ e. other cc));
+      told_source = λ told. h.source.0 (i.told_source told);
+      told_sink = λ told. h.sink.0 (i.told_sink told);
+      kept = h.sink.3 ∙ i.kept;
+      steps = let steps = ended.steps in omega arith;
+      peak = let peak = ended.peak in omega (arith, i.peak, room);
+      keeps = record { sound = h.keeps.sound; room = h.keeps.room ∙ room };
+    }
 
 pub loop-left-preserved : goal.loop-left-preserved
 loop-left-preserved g c =
     let i = c.loop-left.invariant in
-    let few = i.few in
     let same = c.in-Err.ensures.comes.0 in
     let h = c.carry_out-last.ensures in
     let none : c.carry_out-last.result.fate ≡ None = c.in_default.is in
-    let fits = h.fits in
     let len = c.neutral_len-plain-in-Err.ensures.value in
-    let at_most = i.peak in
     let peak_is = c.max-peak-in-Err.ensures in
     let room = h.keeps.room ∙ c.in-Err.ensures.keeps.room in
     let inputs = ap (input_failures None) none in
@@ -164,6 +133,5 @@ loop-left-preserved g c =
 pub returns-clause-reports : goal.returns-clause-reports
 returns-clause-reports g c = λ told_source told_sink.
     let i = c.loop-left.invariant in
-    let few = i.few in
     ends-allowance (running c.args.work.now c.args.meta.now c.args.at) (g.I.Source.stream c.args.source.now).bytes (g.O.Sink.written c.args.sink.now) c.loop-left.work c.loop-left.work c.loop-left.meta c.args.at.allowance c.loop-left.left c.loop-left.peak i.room (omega arith)
     (g.I.Source.stream c.loop-left.source) (g.O.Sink.written c.loop-left.sink) refl (omega arith) (i.along told_source told_sink)

@@ -1,8 +1,4 @@
-use Rattle.std.proofs.Common.{◌≡◌, ◌≤◌, ◌-◌, ◌⊎◌}
-use Rattle.trac_devices.specs.Devices.{Sent}
-use Rattle.trac_forms.specs.Contents.{IsSound, used}
-use Rattle.trac_core.specs.Machine.{moment}
-use Rattle.trac_core.specs.StepsInRow.{IsPlainFrom, running}
+use Rattle.trac_core.proofs.Words.{◌≡◌, ◌≤◌, ◌-◌, ◌⊎◌, Sent, IsSound, used, moment, IsPlainFrom, running}
 use Rattle.trac_core.proofs.Moments.{Along}
 use Rattle.trac_core.proofs.machine.run_to_end.Given as goal
 

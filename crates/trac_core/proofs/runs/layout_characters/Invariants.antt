@@ -1,6 +1,4 @@
-use Rattle.std.proofs.Common.{take, All}
-use Rattle.trac_space.specs.Texts.{text_of_cells}
-use Rattle.trac_core.specs.StepsInRow.{IsLayout}
+use Rattle.trac_core.proofs.Words.{take, All, text_of_cells, IsLayout}
 use Rattle.trac_core.proofs.runs.layout_characters.Given as goal
 
 -- the characters so far are layout

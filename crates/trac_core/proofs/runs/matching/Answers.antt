@@ -1,9 +1,4 @@
-use Rattle.std.proofs.Common.{◌≡◌, ℕ, List, ◌+◌, ◌-◌, ◌/◌, ◌%◌, ◌<◌, ◌≤◌, Option, Some, None, MatchOption, length, take, drop, arith}
-use Rattle.std.proofs.lemmas.List.{length-map}
-use Rattle.trac_space.specs.declared.cell.Cell.{Cell}
-use Rattle.trac_space.specs.Texts.{text_of_cells, character_of}
-use Rattle.trac_language.specs.Protected.{protected}
-use Rattle.trac_core.specs.Matching.{IsAt}
+use Rattle.trac_core.proofs.Words.{◌≡◌, ℕ, List, ◌+◌, ◌-◌, ◌/◌, ◌%◌, ◌<◌, ◌≤◌, Option, Some, None, MatchOption, length, take, drop, arith, length-map, Cell, text_of_cells, character_of, protected, IsAt}
 use Rattle.trac_core.proofs.Matching.{passes-block, passes-few, unmatched}
 use Rattle.trac_core.proofs.runs.matching.Goals as goal
 use Rattle.trac_core.proofs.runs.matching.Goals.{then-found-gt0, then-rights-depth+in_default, else-rights-depth, else-found-gt0}
@@ -37,7 +32,6 @@ loop-i-preserved c =
             | else-rights-depth v ↦ passes-few cells i depth found within is at (omega arith)
           ] in
           let block = passes-block cells i depth found is at after in
-          let small = block.2 in
           let same : c.if-found-gt0.depth ≡ depth + found % 16 - found / 16 = omega arith in
           record { at = rw same block.1; bound = omega arith; within = within })
       | else-found-gt0 w ↦ (

@@ -1,6 +1,4 @@
-use Rattle.std.proofs.Common.{◌-◌, ◌≤◌, length}
-use Rattle.trac_space.specs.Texts.{text_of_cells}
-use Rattle.trac_core.specs.Matching.{IsAt}
+use Rattle.trac_core.proofs.Words.{◌-◌, ◌≤◌, length, text_of_cells, IsAt}
 use Rattle.trac_core.proofs.runs.matching.Given as goal
 
 -- no match stands among the cells so far, and so many left parentheses are open

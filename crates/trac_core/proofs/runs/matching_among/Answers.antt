@@ -1,7 +1,4 @@
-use Rattle.std.proofs.Common.{◌≡◌, ◌+◌, ◌<◌, length, get_or, sym, ◌∙◌, arith}
-use Rattle.std.proofs.lemmas.List.{length-map, get_or-map}
-use Rattle.trac_space.specs.declared.cell.Cell.TheVariants.{Byte}
-use Rattle.trac_space.specs.Texts.{text_of_cells, character_of}
+use Rattle.trac_core.proofs.Words.{◌≡◌, ◌+◌, ◌<◌, length, get_or, sym, ◌∙◌, arith, length-map, get_or-map, Byte, text_of_cells, character_of}
 use Rattle.trac_core.proofs.Matching.{matched, passes-left, passes-right, passes-other}
 use Rattle.trac_core.proofs.runs.matching_among.Goals as goal
 use Rattle.trac_core.proofs.runs.matching_among.Goals.{then-character-eq40, else-character-eq40+then-character-eq41+else-depth-eq0, else-character-eq40+else-character-eq41}
@@ -24,7 +21,6 @@ loop-count-preserved c =
     let i = c.args.from + c.loop-count.count in
     let depth = c.loop-count.depth in
     let at = c.loop-count.invariant.at in
-    let bound = c.loop-count.invariant.bound in
     let within : i < length cells = omega arith in
     let long : length text ≡ length cells = length-map cells character_of in
     let inside : i < length text = omega arith in

@@ -1,6 +1,6 @@
+use Rattle.trac_core.proofs.Words.{arith}
 use Rattle.trac_core.proofs.OrdinaryBlocks.{ordinary-eight}
 use Rattle.trac_core.proofs.runs.ordinary_run.Goals as goal
-use Rattle.std.proofs.Common.{arith}
 
 pub loop-i-preserved : goal.loop-i-preserved
 loop-i-preserved c =

@@ -1,6 +1,4 @@
-use Rattle.std.proofs.Common.{◌+◌, ◌-◌, ◌≤◌, length, take, All}
-use Rattle.trac_space.specs.Texts.{text_of_cells}
-use Rattle.trac_core.specs.StepsInRow.{IsOrdinary}
+use Rattle.trac_core.proofs.Words.{◌+◌, ◌-◌, ◌≤◌, length, take, All, text_of_cells, IsOrdinary}
 use Rattle.trac_core.proofs.runs.ordinary_run.Given as goal
 
 -- the characters so far have no rule of their own

@@ -1,7 +1,4 @@
-use Rattle.std.proofs.Common.{◌≡◌, ◌∙◌, arith, subst, sym, ◌≤◌}
-use Rattle.std.proofs.lemmas.List.FromFn.{get_or-map-range_with_len}
-use Rattle.trac_space.specs.Texts.{character_of}
-use Rattle.trac_core.specs.Matching.{side_of}
+use Rattle.trac_core.proofs.Words.{◌≡◌, ◌∙◌, arith, subst, sym, ◌≤◌, get_or-map-range_with_len, character_of, side_of}
 use Rattle.trac_core.proofs.Matching.{side-small}
 use Rattle.trac_core.proofs.runs.side.Goals as goal
 

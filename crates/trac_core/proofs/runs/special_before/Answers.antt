@@ -1,9 +1,4 @@
-use Rattle.std.proofs.Common.{◌≡◌, take, get_or, length, All, sym, ◌∙◌, subst, arith}
-use Rattle.std.proofs.lemmas.List.{take_more, length-map, get_or-map}
-use Rattle.std.proofs.lemmas.List.Elements.{All-push}
-use Rattle.trac_space.specs.declared.cell.Cell.TheVariants.{Byte}
-use Rattle.trac_space.specs.Texts.{text_of_cells, character_of}
-use Rattle.trac_core.specs.StepsInRow.{IsOrdinary}
+use Rattle.trac_core.proofs.Words.{◌≡◌, take, get_or, length, All, sym, ◌∙◌, subst, arith, take_more, length-map, get_or-map, All-push, Byte, text_of_cells, character_of, IsOrdinary}
 use Rattle.trac_core.proofs.runs.special_before.Goals as goal
 
 pub loop-i-preserved : goal.loop-i-preserved

@@ -1,8 +1,4 @@
-use Rattle.std.proofs.Common.{◌≡◌, ◌+◌, length, take, drop, sym, ap, ◌∙◌, arith}
-use Rattle.std.proofs.lemmas.List.Elements.{All-take}
-use Rattle.std.proofs.lemmas.List.{length-map, length-drop}
-use Rattle.trac_space.specs.Texts.{text_of_cells, character_of, IsByte}
-use Rattle.trac_core.specs.StepsInRow.{IsOrdinary}
+use Rattle.trac_core.proofs.Words.{◌≡◌, ◌+◌, length, take, drop, sym, ap, ◌∙◌, arith, All-take, length-map, length-drop, text_of_cells, character_of, IsByte, IsOrdinary}
 use Rattle.trac_core.proofs.PlainEnds.{bytes-plain, plain-appended}
 use Rattle.trac_core.proofs.Scanning.{some-active}
 use Rattle.trac_core.proofs.StepsInRow.{characters-pass, All-after}
@@ -21,7 +17,6 @@ returns-clause-passes c =
     let text = after.text ∙ ap (λ k. take k (drop 1 (text_of_cells old.active))) (sym long) in
     let some = some-active old.active c.requires.first.0 c.requires.first.1.0 in
     let less = length-drop (1 + n) old.active in
-    let within = c.ordinary_characters-count.ensures.within in
     let all = All-after IsOrdinary n (text_of_cells old.active) cells c.requires.first.0 c.requires.first.1.0 c.requires.first.1.1 (omega arith) text c.ordinary_characters-count.ensures.ordinary in
     rw (c.from.ensures, c.active_to_neutral.ensures.moved)
     (record {

@@ -1,8 +1,4 @@
-use Rattle.std.proofs.Common.{◌≡◌, ◌≤◌, ◌<◌, ◌+◌, ◌++◌, length, take, drop, map, sym, ap, ◌∙◌, subst, arith}
-use Rattle.std.specs.List.{range_with_len}
-use Rattle.trac_space.specs.Cells.{NoComma}
-use Rattle.trac_space.specs.Runs.{turned}
-use Rattle.trac_core.specs.StepsInRow.{IsPlainFrom, kind_of}
+use Rattle.trac_core.proofs.Words.{◌≡◌, ◌≤◌, ◌<◌, ◌+◌, ◌++◌, length, take, drop, map, sym, ap, ◌∙◌, subst, arith, range_with_len, NoComma, turned, IsPlainFrom, kind_of}
 use Rattle.trac_core.proofs.ArgumentRuns.{run-passes, run-some, plain-turned}
 use Rattle.trac_core.proofs.PlainEnds.{plain-appended}
 use Rattle.trac_core.proofs.Scanning.{some-active}

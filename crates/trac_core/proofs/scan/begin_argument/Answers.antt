@@ -1,7 +1,4 @@
-use Rattle.std.proofs.Common.{◌≡◌, false, true, [], ◌∷◌, ◌++◌, length-append, arith, drop}
-use Rattle.std.specs.Prelude.{is_some}
-use Rattle.std.proofs.lemmas.List.{length-drop}
-use Rattle.trac_space.specs.declared.cell.Cell.TheVariants.{Comma}
+use Rattle.trac_core.proofs.Words.{◌≡◌, false, true, [], ◌∷◌, ◌++◌, length-append, arith, drop, is_some, length-drop, Comma}
 use Rattle.trac_core.proofs.Scanning.{scans-comma, scans-comma-none, last-some, last-none, some-active}
 use Rattle.trac_core.proofs.StepsInRow.{one-step, some-run}
 use Rattle.trac_core.proofs.scan.begin_argument.Goals as goal

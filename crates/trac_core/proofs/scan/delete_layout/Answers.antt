@@ -1,7 +1,4 @@
-use Rattle.std.proofs.Common.{◌≡◌, ◌+◌, length, take, drop, sym, ap, ◌∙◌, arith}
-use Rattle.std.proofs.lemmas.List.{length-map, length-drop}
-use Rattle.trac_space.specs.Texts.{text_of_cells, character_of}
-use Rattle.trac_core.specs.StepsInRow.{IsLayout}
+use Rattle.trac_core.proofs.Words.{◌≡◌, ◌+◌, length, take, drop, sym, ap, ◌∙◌, arith, length-map, length-drop, text_of_cells, character_of, IsLayout}
 use Rattle.trac_core.proofs.Scanning.{some-active}
 use Rattle.trac_core.proofs.StepsInRow.{layouts-pass, All-after}
 use Rattle.trac_core.proofs.scan.delete_layout.Goals as goal
@@ -19,7 +16,6 @@ returns-clause-passes c =
     let text = after.text ∙ ap (λ k. take k (drop 1 (text_of_cells old.active))) (sym long) in
     let some = some-active old.active c.requires.first.0 c.requires.first.1.0 in
     let less = length-drop (1 + n) old.active in
-    let within = c.layout_characters-count.ensures.within in
     let all = All-after IsLayout n (text_of_cells old.active) cells c.requires.first.0 c.requires.first.1.0 c.requires.first.1.1 (omega arith) text c.layout_characters-count.ensures.layout in
     rw (c.from.ensures, c.drop_active.ensures.rest)
     (record {

@@ -1,5 +1,4 @@
-use Rattle.std.proofs.Common.{arith}
-use Rattle.std.proofs.lemmas.List.{length-drop}
+use Rattle.trac_core.proofs.Words.{arith, length-drop}
 use Rattle.trac_core.proofs.Scanning.{scans-parenthesis, some-active}
 use Rattle.trac_core.proofs.StepsInRow.{one-step}
 use Rattle.trac_core.proofs.scan.end_call.Goals as goal

@@ -1,11 +1,4 @@
-use Rattle.std.proofs.Common.{◌≡◌, ◌+◌, [], ⊎_elim, map, ap, ◌∙◌, arith, length}
-use Rattle.std.proofs.lemmas.Bool.{cases_lt}
-use Rattle.trac_language.specs.Store.{cells}
-use Rattle.trac_language.specs.Step.{idling, need}
-use Rattle.trac_space.specs.declared.cell.Cell.TheVariants.{Byte}
-use Rattle.trac_forms.specs.Contents.{Contents, used}
-use Rattle.trac_functions.specs.Flat.{memory_of}
-use Rattle.trac_core.specs.Machine.{state_with}
+use Rattle.trac_core.proofs.Words.{◌≡◌, ◌+◌, [], ⊎_elim, map, ap, ◌∙◌, arith, length, cases_lt, cells, idling, need, Byte, Contents, used, memory_of, state_with}
 use Rattle.trac_core.proofs.Scanning.{scans-idling, idling-need}
 use Rattle.trac_core.proofs.scan.load_idling.Goals as goal
 

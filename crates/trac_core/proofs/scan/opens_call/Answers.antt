@@ -1,5 +1,4 @@
-use Rattle.std.proofs.Common.{◌≡◌, ◌≢◌, Some, slice_get}
-use Rattle.trac_space.specs.Texts.{text_of_cells}
+use Rattle.trac_core.proofs.Words.{◌≡◌, ◌≢◌, Some, slice_get, text_of_cells}
 use Rattle.trac_core.proofs.Scanning.{scans-active, scans-neutral, scans-sign}
 use Rattle.trac_core.proofs.PlainEnds.{plain-appended, mark-plain, last-opened}
 use Rattle.trac_core.proofs.scan.opens_call.Goals as goal

@@ -1,4 +1,4 @@
-use Rattle.std.proofs.Common.{refl, sym}
+use Rattle.trac_core.proofs.Words.{refl, sym}
 use Rattle.trac_core.proofs.Scanning.{none-active}
 use Rattle.trac_core.proofs.StepsInRow.{one-step}
 use Rattle.trac_core.proofs.scan.pass.Goals as goal

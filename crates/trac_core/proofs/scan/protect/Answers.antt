@@ -1,9 +1,4 @@
-use Rattle.std.proofs.Common.{◌≡◌, ◌+◌, ◌++◌, take, drop, All, ◌-◌, slice_range, map, Some, None, sym, ap, ◌∙◌, subst}
-use Rattle.std.proofs.lemmas.List.Elements.{All-take, All-drop}
-use Rattle.trac_language.specs.Protected.{protected}
-use Rattle.trac_space.specs.Cells.{seen}
-use Rattle.trac_space.specs.Texts.{IsByte}
-use Rattle.trac_forms.specs.Contents.{Contents}
+use Rattle.trac_core.proofs.Words.{◌≡◌, ◌+◌, ◌++◌, take, drop, All, ◌-◌, slice_range, map, Some, None, sym, ap, ◌∙◌, subst, All-take, All-drop, protected, seen, IsByte, Contents}
 use Rattle.trac_functions.proofs.ArgumentLemmas.{text_of_cells-seen, bytes-seen}
 use Rattle.trac_core.proofs.PlainEnds.{bytes-plain, plain-appended}
 use Rattle.trac_core.proofs.Scanning.{scans-protected, scans-unmatched, text-after}

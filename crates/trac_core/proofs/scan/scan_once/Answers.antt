@@ -1,6 +1,4 @@
-use Rattle.std.proofs.Common.{◌≡◌, arith, subst}
-use Rattle.trac_functions.specs.Flat.{memory_of}
-use Rattle.trac_core.specs.StepsInRow.{PassesTimes}
+use Rattle.trac_core.proofs.Words.{◌≡◌, arith, subst, memory_of, PassesTimes}
 use Rattle.trac_core.proofs.scan.scan_once.Goals as goal
 
 pub returns-in-Ok-clause-comes : goal.returns-in-Ok-clause-comes

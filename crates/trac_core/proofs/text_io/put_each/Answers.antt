@@ -1,7 +1,4 @@
-use Rattle.std.proofs.Common.{◌++◌, [], ◌∷◌, arith, ◌∙◌, append_assoc, ap, take, get_or}
-use Rattle.std.proofs.lemmas.List.{take_more}
-use Rattle.trac_space.specs.declared.cell.Cell.TheVariants.{Byte}
-use Rattle.trac_space.specs.Texts.{text_of_cells}
+use Rattle.trac_core.proofs.Words.{◌++◌, [], ◌∷◌, arith, ◌∙◌, append_assoc, ap, take, get_or, take_more, Byte, text_of_cells}
 use Rattle.trac_space.proofs.Texts.{text_of_cells-append}
 use Rattle.trac_devices.proofs.PutCells.{prints-err, breaks-cells}
 use Rattle.trac_core.proofs.text_io.put_each.Goals as goal

@@ -1,7 +1,4 @@
-use Rattle.std.proofs.Common.{◌≡◌, ◌-◌, List, ℕ}
-use Rattle.trac_forms.specs.Contents.{used, IsSound}
-use Rattle.trac_devices.specs.Devices.{Streams}
-use Rattle.trac_devices.specs.HeldBytes.{Reads}
+use Rattle.trac_core.proofs.Words.{◌≡◌, ◌-◌, List, ℕ, used, IsSound, Streams, Reads}
 use Rattle.trac_core.proofs.text_io.read_text.Given as goal
 
 -- a text was read so far, and no failure came

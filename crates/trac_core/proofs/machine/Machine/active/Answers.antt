@@ -1,6 +1,4 @@
-use Rattle.std.proofs.Common.{◌∙◌, sym, ap}
-use Rattle.std.specs.Prelude.{slice_range}
-use Rattle.trac_space.specs.Texts.{text_of_cells}
+use Rattle.trac_core.proofs.Words.{◌∙◌, sym, ap, slice_range, text_of_cells}
 use Rattle.trac_functions.proofs.ArgumentLemmas.{text_of_cells-seen}
 use Rattle.trac_core.proofs.RuleRows.{whole-range}
 use Rattle.trac_core.proofs.machine.Machine.active.Goals as goal

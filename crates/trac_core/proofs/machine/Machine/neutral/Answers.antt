@@ -1,6 +1,4 @@
-use Rattle.std.proofs.Common.{◌∙◌, sym, ap}
-use Rattle.std.specs.Prelude.{slice_range}
-use Rattle.trac_functions.specs.Flat.{neutral_of}
+use Rattle.trac_core.proofs.Words.{◌∙◌, sym, ap, slice_range, neutral_of}
 use Rattle.trac_core.proofs.RuleRows.{neutral_of-seen, whole-range}
 use Rattle.trac_core.proofs.machine.Machine.neutral.Goals as goal
 

@@ -1,5 +1,4 @@
-use Rattle.std.proofs.Common.{refl, ap}
-use Rattle.trac_core.specs.Machine.{MachineState}
+use Rattle.trac_core.proofs.Words.{refl, ap, MachineState}
 use Rattle.trac_core.proofs.Reported.{reports-made}
 use Rattle.trac_core.proofs.machine.Machine.run.Goals as goal
 

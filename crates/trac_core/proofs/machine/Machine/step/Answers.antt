@@ -1,19 +1,14 @@
-use Rattle.std.proofs.Common.{◌<◌, ◌≤◌, ◌+◌, [], length, refl, arith, sym, ap, subst}
-use Rattle.trac_forms.specs.Contents.{Contents, used}
-use Rattle.trac_functions.specs.Flat.{memory_of}
+use Rattle.trac_core.proofs.Words.{◌<◌, ◌≤◌, ◌+◌, [], length, refl, arith, sym, ap, subst, Contents, used, memory_of, MachineState}
 use Rattle.trac_functions.proofs.FlatLemmas.{size-used}
-use Rattle.trac_core.specs.Machine.{MachineState}
 use Rattle.trac_core.proofs.StepsInRow.{tried-passed}
 use Rattle.trac_core.proofs.machine.Machine.step.Goals as goal
 
 pub returns-then-is_some-clause-takes : goal.returns-then-is_some-clause-takes
 returns-then-is_some-clause-takes g c = λ told.
-    let fits = c.self.invariant.2.fits in
     rw (← c.self.view_is) ([], record { consumed = refl; few = omega (arith, size-used c.self.inside.meta c.self.inside.work) })
 
 pub returns-then-is_some-clause-limits : goal.returns-then-is_some-clause-limits
 returns-then-is_some-clause-limits g c =
-    let fits = c.self.invariant.2.fits in
     rw (← c.self.view_is)
     (record {
       cells = omega (arith, size-used c.self.inside.meta c.self.inside.work);
@@ -31,7 +26,6 @@ returns-in_default-clause-answers g c = λ not_over told_source told_sink.
 
 pub returns-in_default-clause-takes : goal.returns-in_default-clause-takes
 returns-in_default-clause-takes g c = λ told.
-    let fits = c.self.invariant.2.fits in
     rw (← c.self.view_is) ([], record { consumed = refl; few = omega (arith, size-used c.self.inside.meta c.self.inside.work) })
 
 pub returns-clause-answers : goal.returns-clause-answers

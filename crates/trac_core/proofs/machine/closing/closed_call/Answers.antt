@@ -1,10 +1,4 @@
-use Rattle.std.proofs.Common.{◌≡◌, ℕ, Option, None, Some, MatchOption, slice_get, sym}
-use Rattle.trac_space.specs.Calls.{IsLastCall}
-use Rattle.trac_space.specs.Cells.{NoCall}
-use Rattle.trac_space.specs.Texts.{text_of_cells}
-use Rattle.trac_forms.specs.Contents.{Contents}
-use Rattle.trac_functions.specs.Flat.{memory_of}
-use Rattle.trac_core.specs.Performed.{performs}
+use Rattle.trac_core.proofs.Words.{◌≡◌, ℕ, Option, None, Some, MatchOption, slice_get, sym, IsLastCall, NoCall, text_of_cells, Contents, memory_of, performs}
 use Rattle.trac_core.proofs.Sessions.{performs-other, performs-none}
 use Rattle.trac_core.proofs.machine.closing.closed_call.Goals as goal
 

@@ -1,12 +1,4 @@
-use Rattle.std.proofs.Common.{◌≡◌, Some, None, length, ap, sym, ◌∙◌}
-use Rattle.trac_language.specs.declared.function.Function.TheVariants.{PrintString, PrintForm}
-use Rattle.trac_language.specs.Store.{form_named}
-use Rattle.trac_language.specs.Meaning.{meaning}
-use Rattle.trac_functions.specs.Flat.{arguments_at}
-use Rattle.trac_functions.specs.Calls.{texts, world}
-use Rattle.trac_core.specs.Attempts.{function_at}
-use Rattle.trac_core.specs.Display.{display}
-use Rattle.trac_core.specs.Session.{printed_in}
+use Rattle.trac_core.proofs.Words.{◌≡◌, Some, None, length, ap, sym, ◌∙◌, PrintString, PrintForm, form_named, meaning, arguments_at, texts, world, function_at, display, printed_in}
 use Rattle.trac_core.proofs.Printing.{argument-one}
 use Rattle.trac_core.proofs.Printed.{length-part, string-prints, form-prints, other-prints}
 use Rattle.trac_core.proofs.machine.printing.call_len.Goals as goal

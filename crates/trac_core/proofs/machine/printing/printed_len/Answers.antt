@@ -1,6 +1,5 @@
-use Rattle.std.proofs.Common.{ap, sym, ◌∙◌, length}
+use Rattle.trac_core.proofs.Words.{ap, sym, ◌∙◌, length, memory_of}
 use Rattle.trac_core.proofs.Printed.{step-prints-none, step-prints-call}
-use Rattle.trac_functions.specs.Flat.{memory_of}
 use Rattle.trac_core.proofs.machine.printing.printed_len.Goals as goal
 
 pub returns-in-None-clause-length : goal.returns-in-None-clause-length

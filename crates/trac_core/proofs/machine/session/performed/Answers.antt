@@ -1,4 +1,4 @@
-use Rattle.std.proofs.Common.{◌∙◌, sym}
+use Rattle.trac_core.proofs.Words.{◌∙◌, sym}
 use Rattle.trac_core.proofs.Sessions.{performs-innermost}
 use Rattle.trac_core.proofs.machine.session.performed.Goals as goal
 

@@ -1,5 +1,4 @@
-use Rattle.std.proofs.Common.{◌≡◌, ◌≢◌, Some, slice_get}
-use Rattle.trac_space.specs.Texts.{text_of_cells}
+use Rattle.trac_core.proofs.Words.{◌≡◌, ◌≢◌, Some, slice_get, text_of_cells}
 use Rattle.trac_core.proofs.RuleRows.{row-active, row-neutral, row-sign}
 use Rattle.trac_core.proofs.machine.view.number_sign_rule.Goals as goal
 use Rattle.trac_core.proofs.machine.view.number_sign_rule.Goals.{else-is_at-2-via-then-is_at-2+else-is_at-3, else-is_at-2-via-else-is_at-2}

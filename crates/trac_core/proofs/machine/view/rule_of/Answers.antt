@@ -1,5 +1,4 @@
-use Rattle.std.proofs.Common.{◌∙◌, ap, sym, Some, arith}
-use Rattle.trac_space.specs.Texts.{text_of_cells}
+use Rattle.trac_core.proofs.Words.{◌∙◌, ap, sym, Some, arith, text_of_cells}
 use Rattle.trac_core.proofs.RuleRows.{row-nothing, row-layout, row-return, row-protection, row-end, row-comma, row-other}
 use Rattle.trac_core.proofs.machine.view.rule_of.Goals as goal
 
