@@ -95,7 +95,7 @@ fn start_if_named(store: &[Cell], table: &[Cell], k: u32, name: &[Cell]) -> Opti
 
 // The form of a name, and where it begins, found by the table. The slots that were looked at beyond
 // a few are added to `toil`.
-#[inline(never)]
+#[inline(always)]
 pub(crate) fn look_up(
     store: &[Cell],
     table: &[Cell],

@@ -366,7 +366,7 @@ pub fn find_few(space: &Space, count: u32, part: (u32, u32)) -> Option<(u32, u32
 
 // As `find_named`, by the index if there is one. Else looks at forms beyond a few are added to
 // `toil`.
-#[inline(never)]
+#[inline(always)]
 fn find_among_many(
     space: &Space,
     store: &[Cell],
