@@ -96,8 +96,23 @@ fn index_is_made_by_searches(rt: HostRuntime) {
 }
 
 #[test]
-fn index_is_outgrown_and_cleared(rt: HostRuntime) {
+fn index_grows(rt: HostRuntime) {
     let mut block = [Cell::Gap(7); 800];
+    let mut work = with_forms(&mut block, 12);
+    wants_index(&mut work);
+    for letter in b"MNOP" {
+        assert!(rt; define_letter(&mut work, *letter));
+    }
+    assert!(rt; work.space.spare_len() == 64);
+    assert!(rt; define_letter(&mut work, b'Q'));
+    assert!(rt; work.space.spare_len() == 256);
+    assert!(rt; are_forms(&mut work, b"ABCDEFGHIJKLMNOPQ"));
+}
+
+// Where more than half of the free cells would be needed for a greater table.
+#[test]
+fn index_is_outgrown_and_cleared(rt: HostRuntime) {
+    let mut block = [Cell::Gap(7); 600];
     let mut work = with_forms(&mut block, 12);
     wants_index(&mut work);
     for letter in b"MNOP" {
