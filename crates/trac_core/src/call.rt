@@ -26,6 +26,7 @@ use trac_language::{Fate, Function};
 /// The step that the beginning of the active string asks for, where no rule fits that only scans:
 /// the idling procedure is loaded, or the right parenthesis is deleted and the innermost call
 /// performed.
+#[inline(always)]
 pub(crate) fn carry_out<I: Source, O: Sink>(
     work: &mut Work,
     front: Front,
@@ -63,6 +64,7 @@ pub(crate) fn carry_out<I: Source, O: Sink>(
 }
 
 /// The innermost call, whose right parenthesis was deleted, is performed.
+#[inline(always)]
 fn perform<I: Source, O: Sink>(
     work: &mut Work,
     call: InnermostCall,
@@ -99,6 +101,7 @@ fn perform<I: Source, O: Sink>(
 
 /// What the function of the innermost call answers. A call of a name that is no function has a null
 /// value (this processor's own choice).
+#[inline(always)]
 fn answer<I: Source, O: Sink>(
     work: &mut Work,
     call: InnermostCall,
@@ -147,25 +150,9 @@ fn answer<I: Source, O: Sink>(
 }
 
 /// What the function makes of the arguments that follow its name; a null value of those that touch
-/// a device or the meta character, or end the run. A call of a form is the most frequent one, and
-/// made where the scanner goes on.
-#[inline]
+/// a device or the meta character, or end the run.
+#[inline(always)]
 fn value_of(work: &mut Work, function: Function, arguments: Arguments) -> Made
-    requires arguments { AreArguments work.old arguments }
-    ensures makes { is_plain function ≡ true →
-        Performs function work.old arguments result work.new }
-    ensures unmade { result ≡ Made.Full → work.new.forms ≡ work.old.forms }
-    ensures keeps { KeepsRoom work.old work.new }
-{
-    match function {
-        Function::CallForm => form_calls::call_form(work, arguments),
-        _ => other_value(work, function, arguments),
-    }
-}
-
-/// The same in a function of its own.
-#[inline(never)]
-fn other_value(work: &mut Work, function: Function, arguments: Arguments) -> Made
     requires arguments { AreArguments work.old arguments }
     ensures makes { is_plain function ≡ true →
         Performs function work.old arguments result work.new }

@@ -16,6 +16,7 @@ use trac_space::Cell;
 /// The call whose mark stands at the first place leaves, and what its function answered comes to
 /// its end: a value that isn't placed yet, and stands from the second place on, is delivered. So
 /// many cells were used before.
+#[inline(always)]
 pub(crate) fn settle(work: &mut Work, places: (u32, u32), before: u32, made: Made) -> Attempt
     requires order { places.0 < places.1 }
     requires stands { Stands made before places.1 work.old }
@@ -76,9 +77,5 @@ pub(crate) fn is_scanned_again(work: &Work, place: u32) -> bool
 fn is_active(mark: Cell) -> bool
     ensures { result ≡ is_active_mode (mode_of mark) }
 {
-    match mark {
-        Cell::Call(Mode::Active, _) => true,
-        Cell::Call(Mode::Neutral, _) => false,
-        _ => true,
-    }
+    !matches!(mark, Cell::Call(Mode::Neutral, _))
 }

@@ -234,6 +234,7 @@ struct Counters {
 /// Makes steps to the end of a run that isn't over and has these counters, and reports what it came
 /// to. The counters are single values here, and no part of a machine, so that they need not stand
 /// in memory.
+#[inline(never)]
 fn run_to_end<I: Source, O: Sink>(
     work: &mut Work,
     meta: &mut u8,

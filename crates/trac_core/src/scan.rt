@@ -188,7 +188,7 @@ fn begin_argument(work: &mut Work, most: u64, plain: &mut u32, long: bool) -> u6
 /// The steps of the ordinary characters and the commas at the front of the active string where a
 /// call is open, at most so many and at most `FEW`, all at once; none where another character
 /// stands there. Gives how many they were.
-#[inline(never)]
+#[inline(always)]
 fn add_run(work: &mut Work, most: u64, plain: &mut u32) -> u64
     requires opened { (place : ℕ) × IsLastCall work.old.neutral place }
     requires plain { IsPlainFrom plain.old work.old.neutral }
@@ -252,7 +252,7 @@ fn add_long_run(work: &mut Work, most: u64) -> u64
 
 /// The steps by which the layout characters at the front of the active string are deleted, at most
 /// so many, all at once. Gives how many they were.
-#[inline(never)]
+#[inline(always)]
 fn delete_layout(work: &mut Work, most: u64) -> u64
     requires some { 0 < most }
     requires first { (c : ℕ) ×

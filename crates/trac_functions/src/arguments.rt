@@ -147,6 +147,7 @@ pub fn load_part(work: &mut Work, part: (u32, u32)) -> bool
 
 /// A part of the neutral string is the value of a call, which goes to the active string where it
 /// is scanned again.
+#[inline(always)]
 pub fn give(work: &mut Work, part: (u32, u32), scanned: bool) -> Made
     requires part { IsTextPart work.old.neutral part.0 part.1 }
     ensures makes { let text = part_text work.old.neutral part.0 part.1 in

@@ -16,6 +16,8 @@ const PART: usize = 256;
 const NEAR: usize = 8;
 // How many cells are too few for parts where the places overlap.
 const FEW: usize = 24;
+// How many cells that are apart are moved by blocks at most, and not by a call.
+const MANY: usize = 48;
 // How many characters are moved at once before each of them is looked at.
 pub(crate) const BLOCK: usize = 8;
 
@@ -329,6 +331,22 @@ pub(crate) fn copy_block(cells: &mut [Cell], start: usize, distance: usize)
     let n = end - start;
     let (front, back) = cells.split_at_mut(to);
     back[..n].copy_from_slice(&front[start..end]);
+}
+
+// As `copy_within`, for moves to a place that mostly is behind the cells and apart from them.
+#[inline(always)]
+pub(crate) fn copy_forward(cells: &mut [Cell], start: usize, end: usize, to: usize)
+    requires order { start ≤ end }
+    requires within { end ≤ length cells.old }
+    requires room { to + (end - start) ≤ length cells.old }
+    ensures len { length cells.new ≡ length cells.old }
+    ensures after { cells.new ≡ copy_within cells.old start end to }
+{
+    if end <= to && end - start <= MANY {
+        copy_behind(cells, start, to - start, end - start);
+    } else {
+        copy_cells(cells, start, end, to);
+    }
 }
 
 // As `copy_within`, to a place so far behind that the places are apart. A move of eight cells or
