@@ -1,6 +1,7 @@
 -- Characters that are put once more at a place behind, one after the other.
-use Rattle.std.proofs.Common.{◌≡◌, ℕ, ◌+◌, ◌<◌, ◌≤◌, true, false, All, List, ◌++◌, length, take, drop, map, get_or, slice_range, refl, ◌-◌, ap, ◌∙◌, arith, rules}
-use Rattle.std.proofs.lemmas.List.{places, same_lists, length-drop, length-take-le, get_or-take, get_or-map, get_or-drop, take_more, take-map, drop-map, drop-drop}
+use Rattle.std.proofs.Common.{◌≡◌, ℕ, ◌+◌, ◌<◌, ◌≤◌, true, false, All, List, ◌++◌, length, take, drop, map, get_or, slice_range, refl, sym, ◌-◌, ap, ◌∙◌, arith, rules}
+use Rattle.std.specs.List.{copy_within}
+use Rattle.std.proofs.lemmas.List.{places, same_lists, take-append-drop, length-drop, length-take-le, get_or-take, get_or-map, get_or-drop, take_more, take-map, drop-map, drop-drop}
 use Rattle.std.proofs.Math.Seq.{take-add}
 use Rattle.std.proofs.lemmas.List.Elements.{All-append, All-push, All-map}
 use Rattle.trac_space.specs.declared.cell.Cell.{Cell}
@@ -67,3 +68,16 @@ module _ (cells : List Cell) (store a n : ℕ) (within : a + n ≤ store) where
 -- a part of a list goes on
 pub part-on : {X : Type 0} (xs : List X) (a n m : ℕ) → slice_range xs a (a + (n + m)) ≡ slice_range xs a (a + n) ++ slice_range xs (a + n) (a + n + m)
 part-on xs a n m = same_lists _ _ (search (rules, places)) (λ i d less. grind (arith, places))
+
+-- characters that are all put behind are a copy of them
+pub all-copied : (was now : List Cell) (start n to : ℕ) → start + n ≤ to → to + n ≤ length was → length now ≡ length was → take (to + n) now ≡ take to was ++ take n (drop start was) → drop (to + n) now ≡ drop (to + n) was → now ≡ copy_within was start (start + n) to
+all-copied was now start n to apart room len front rest =
+    let whole : now ≡ (take to was ++ take n (drop start was)) ++ drop (to + n) was = rw (← front, ← rest) (sym (take-append-drop (to + n) now)) in
+    whole ∙ same_lists _ _ (search (rules, places)) (λ i d less. grind (arith, places))
+
+-- what stands before the place stays
+pub front-kept : (was now more : List Cell) (k to n : ℕ) → k ≤ to → to ≤ length was → to ≤ length now → take (to + n) now ≡ take to was ++ more → take k now ≡ take k was
+front-kept was now more k to n before within inside front =
+    same_lists _ _ (search (rules, places)) (λ i d less.
+    let at : get_or (take (to + n) now) i d ≡ get_or (take to was ++ more) i d = ap (λ cells. get_or cells i d) front in
+    grind (arith, at, places))

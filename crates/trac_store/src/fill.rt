@@ -1,13 +1,13 @@
 //! Bodies of forms, their gaps filled, put at the end of neutral, and such without gaps, put before
 //! active.
 ghost use Rattle.std.specs.Prelude.{◌≡◌, ◌+◌, ◌≤◌, ◌<◌, ◌↔◌, ◌++◌, [], true, false};
-ghost use Rattle.std.specs.Prelude.{length, IsTrue, MatchOption, Some};
+ghost use Rattle.std.specs.Prelude.{length, slice_range, All, IsTrue, MatchOption, Some};
 ghost use Rattle.std.specs.Bool.{OnTrue, OnFalse};
 ghost use Rattle.trac_language.specs.Text.{Text};
 ghost use Rattle.trac_language.specs.Store.{IsStore};
 ghost use Rattle.trac_language.specs.Form.{text_of};
 ghost use Rattle.trac_space.specs.Lists.{used as cells_used, HasWay, with_way};
-ghost use Rattle.trac_space.specs.Texts.{flat_text, byte_cell_at};
+ghost use Rattle.trac_space.specs.Texts.{flat_text, byte_cell_at, IsByte};
 ghost use Rattle.trac_store.specs.Loading.{called_part, AreCharacters};
 ghost use Rattle.trac_store.specs.Arguments.{AreParted, filled_cells};
 ghost use Rattle.trac_store.specs.FlatForms.{flat_forms};
@@ -45,6 +45,41 @@ pub fn load_form(space: &mut Space, k: u32, start: u32) -> Option<u32>
     if from == stop {
         return Some(0);
     }
+    load_items(space, from, stop)
+}
+
+// Puts the items in the store from place `from` up to `stop` before active, where they are all
+// characters and fit, and gives how many they are. None where it does not put them.
+#[inline(always)]
+fn load_items(space: &mut Space, from: u32, stop: u32) -> Option<u32>
+    requires order { from ≤ stop }
+    requires within { stop ≤ length space.old.store }
+    ensures { let items = slice_range space.old.store from stop in
+        MatchOption result (space.new ≡ space.old)
+        (λ n. All IsByte items × (from + n ≡ stop) × (cells_used space.old + n ≤ space.old.room)
+        × (space.new ≡ record (with_way n space.old) { active = items ++ space.old.active })) }
+{
+    let size = stop - from;
+    if space.way() < size {
+        return load_items_in_way(space, from, stop);
+    }
+    if space.load_characters(from, stop) {
+        Some(size)
+    } else {
+        None
+    }
+}
+
+// The same where the spare list may be in the way.
+#[inline(never)]
+fn load_items_in_way(space: &mut Space, from: u32, stop: u32) -> Option<u32>
+    requires order { from ≤ stop }
+    requires within { stop ≤ length space.old.store }
+    ensures { let items = slice_range space.old.store from stop in
+        MatchOption result (space.new ≡ space.old)
+        (λ n. All IsByte items × (from + n ≡ stop) × (cells_used space.old + n ≤ space.old.room)
+        × (space.new ≡ record (with_way n space.old) { active = items ++ space.old.active })) }
+{
     let size = stop - from;
     if space.characters_from(from, stop) < size || space.free() < size {
         return None;

@@ -1,6 +1,6 @@
 //! Numbers at the end of texts.
 ghost use Rattle.std.specs.Prelude.{◌≡◌, ◌↔◌, ◌+◌, ◌*◌, ◌%◌, ◌<◌, ◌≤◌, ◌^◌};
-ghost use Rattle.std.specs.Prelude.{All, false, ℕ};
+ghost use Rattle.std.specs.Prelude.{All, false, take, ℕ};
 ghost use Rattle.std.specs.Prelude.{ℤ, min, IfSome, IsSome, IsTrue, length, int_lt, neg_ℤ, pos};
 ghost use Rattle.std.specs.Prelude.{unsigned_abs, ◌<ℤ◌};
 ghost use Rattle.std.specs.Int.{int_rem_euclid};
@@ -84,14 +84,29 @@ fn short_number(cells: &[Cell]) -> Option<(usize, u64)>
     if least == 0 { Some((0, value)) } else { None }
 }
 
+/// How many digits 64 bits hold, whatever these are.
+const SHORT: usize = 19;
+
+/// The number that the first digits are, of which 64 bits hold any.
+fn first_value(digits: &[Cell]) -> u64
+    requires { IsDecimal digits.now }
+    ensures { result ≡ digits_value 10 (take 19 (text_of_cells digits.now)) }
+{
+    let mut value = 0;
+    for i in 0..digits.len().min(SHORT) {
+        value = value * 10 + u64::from(character_of(&digits[i]) - b'0');
+    }
+    value
+}
+
 /// The number that digits are, of any length, None where it is outside the range of arithmetic.
 fn long_value(digits: &[Cell]) -> Option<i128>
     requires { IsDecimal digits.now }
     ensures { result ≡ if_in_range (Some (pos (decimal_value digits.now))) }
 {
-    let mut value = Some(0);
-    for cell in digits {
-        value = with_digit(value, character_of(cell) - b'0');
+    let mut value = Some(i128::from(first_value(digits)));
+    for i in digits.len().min(SHORT)..digits.len() {
+        value = with_digit(value, character_of(&digits[i]) - b'0');
     }
     value
 }

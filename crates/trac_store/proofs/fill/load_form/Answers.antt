@@ -1,5 +1,6 @@
-use Rattle.std.proofs.Common.{◌≡◌, ◌+◌, ◌-◌, [], true, nat_le, length, map, All, slice_range, refl, sym, ap, ◌∙◌, subst, arith}
-use Rattle.trac_space.specs.Lists.{used}
+use Rattle.std.proofs.Common.{◌≡◌, ℕ, ◌+◌, ◌-◌, ◌≤◌, ◌++◌, List, [], Option, Some, None, MatchOption, true, nat_le, length, map, All, slice_range, refl, sym, ap, ◌∙◌, subst, arith}
+use Rattle.trac_space.specs.Lists.{Lists, used, with_way}
+use Rattle.trac_language.specs.declared.item.Item.{Item}
 use Rattle.std.proofs.lemmas.List.{length-map}
 use Rattle.std.proofs.lemmas.List.Elements.{All-nil}
 use Rattle.std.proofs.lemmas.List.Edits.{length-between}
@@ -42,37 +43,27 @@ overflow_add-stop c =
     let i = called (goal.at.overflow_add-stop c).After-heads-name in
     omega (arith, i.behind, i.order, c.requires.bounded)
 
-pub overflow_sub-size : goal.overflow_sub-size
-overflow_sub-size c =
-    let i = called (goal.at.overflow_sub-size c).After-heads-name in
-    omega (arith, i.behind, i.order, c.requires.bounded)
+pub load_items-requires-clause-order : goal.load_items-requires-clause-order
+load_items-requires-clause-order c = omega (arith, (called (goal.at.load_items-requires-clause-order c).After-heads-name).order)
 
-pub characters_from-requires-clause-order : goal.characters_from-requires-clause-order
-characters_from-requires-clause-order c = omega (arith, (called (goal.at.characters_from-requires-clause-order c).After-heads-name).order)
+pub load_items-requires-clause-within : goal.load_items-requires-clause-within
+load_items-requires-clause-within c = (called (goal.at.load_items-requires-clause-within c).After-heads-name).behind
 
-pub characters_from-requires-clause-within : goal.characters_from-requires-clause-within
-characters_from-requires-clause-within c = (called (goal.at.characters_from-requires-clause-within c).After-heads-name).behind
-
-pub load_from_store-requires-clause-within : goal.load_from_store-requires-clause-within
-load_from_store-requires-clause-within c =
-    let i = called (goal.at.load_from_store-requires-clause-within c).After-heads-name in
-    rw c.make_way.ensures.same i.behind
+-- characters in the store are items, and a text
+handed : (result : Option ℕ) (s t : Lists) (body : List Item) (from stop : ℕ) → map item_of (slice_range s.store from stop) ≡ body → stop ≤ length s.store → MatchOption result (t ≡ s) (λ n. All IsByte (slice_range s.store from stop) × (from + n ≡ stop) × (used s + n ≤ s.room) × (t ≡ record (with_way n s) { active = slice_range s.store from stop ++ s.active })) → MatchOption result (t ≡ s) (λ n. AreCharacters body × (length body ≡ n) × (used s + n ≤ s.room) × (t ≡ record (with_way n s) { active = flat_text (text_of body) ++ s.active }))
+handed None s t body from stop are within same = same
+handed (Some n) s t body from stop are within loaded =
+    let cells = slice_range s.store from stop in (
+      subst AreCharacters are (plain-items cells loaded.0),
+      ap length (sym are) ∙ length-map cells item_of ∙ length-between s.store from stop within ∙ omega (arith, loaded.1),
+      loaded.2,
+      rw (sym are, plain-text cells loaded.0) loaded.3,
+    )
 
 pub returns : goal.returns
 returns c =
-    let old = c.args.space.now in
     let i = called (goal.at.returns c).After-heads-name in
-    let from = c.args.start + 3 + c.heads-name.result.0 + c.heads-name.result.2 in
-    let stop = c.args.start + 3 + c.heads-name.result.0 + c.heads-name.result.1 in
-    let cells = slice_range old.store from stop in
-    let all : from + c.characters_from.result ≡ stop = omega (arith, c.characters_from.ensures.within, c.if-characters_from-size.false, i.order) in
-    let bytes : All IsByte cells = subst (λ end. All IsByte (slice_range old.store from end)) all c.characters_from.ensures.bytes in
-    let text = ap (λ l. flat_text (text_of l)) (sym i.are) ∙ plain-text cells bytes in (
-      subst AreCharacters i.are (plain-items cells bytes),
-      ap length (sym i.are) ∙ length-map cells item_of ∙ length-between old.store from stop i.behind,
-      omega (arith, c.if-free-size.false, c.free.ensures),
-      rw (c.load_from_store.ensures, c.make_way.ensures.same, text) refl,
-    )
+    handed c.load_items.result c.args.space.now c.load_items.new.space _ _ _ i.are i.behind c.load_items.ensures
 
 pub returns-then-from-stop : goal.returns-then-from-stop
 returns-then-from-stop c =

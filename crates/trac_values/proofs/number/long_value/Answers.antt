@@ -7,21 +7,21 @@ use Rattle.trac_values.proofs.number.long_value.Goals as goal
 
 pub overflow_sub-character_of : goal.overflow_sub-character_of
 overflow_sub-character_of c =
-    let i = c.loop-cell.cell-index in
-    let lt = c.loop-cell-test.true in
+    let i = c.loop-i.i in
+    let lt = c.loop-i-test.true in
     (digit_at c.args.digits.now i c.character_of.result lt c.character_of.ensures (c.requires i (within_text c.args.digits.now i lt))).0
 
 pub with_digit-value-requires : goal.with_digit-value-requires
 with_digit-value-requires c =
-    let i = c.loop-cell.cell-index in
-    let lt = c.loop-cell-test.true in
+    let i = c.loop-i.i in
+    let lt = c.loop-i-test.true in
     let facts = digit_at c.args.digits.now i c.character_of.result lt c.character_of.ensures (c.requires i (within_text c.args.digits.now i lt)) in
     omega (arith, facts.0, facts.1)
 
-pub loop-cell-preserved : goal.loop-cell-preserved
-loop-cell-preserved c =
-    let i = c.loop-cell.cell-index in
-    let lt = c.loop-cell-test.true in
+pub loop-i-preserved : goal.loop-i-preserved
+loop-i-preserved c =
+    let i = c.loop-i.i in
+    let lt = c.loop-i-test.true in
     let cells = c.args.digits.now in
-    c.with_digit-value.ensures (digits_value 10 (take i (text_of_cells cells))) c.loop-cell.invariant
+    c.with_digit-value.ensures (digits_value 10 (take i (text_of_cells cells))) c.loop-i.invariant
     ∙ ap (λ n. if_in_range (Some (pos n))) (sym (value_more cells i c.character_of.result lt c.character_of.ensures (c.requires i (within_text cells i lt))))
