@@ -121,7 +121,7 @@ pub fn fill_items(space: &mut Space, from: u32, stop: u32, first: u32, end: u32)
 }
 
 // The same, where there may be gaps among them.
-#[inline(never)]
+#[inline(always)]
 fn fill_gaps(space: &mut Space, from: u32, stop: u32, first: u32, end: u32) -> bool
     requires order { from ≤ stop }
     requires within { stop ≤ length space.old.store }

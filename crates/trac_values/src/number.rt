@@ -261,7 +261,7 @@ fn compare_digits(a: &[Cell], b: &[Cell]) -> Ordering
 
 /// Whether the number at the end of a text is greater than that at the end of another: the test of
 /// `gr` (Mooers 1966). That the numbers may have any length is this processor's own choice.
-#[inline(never)]
+#[inline(always)]
 pub fn greater(a: &[Cell], b: &[Cell]) -> bool
     requires left { IsText a.now }
     requires right { IsText b.now }
