@@ -47,3 +47,13 @@ copied-last was now after start to k m n front last all apart within is moved =
 pub copied-first : {X : Type 0} (was after : List X) (start to k : ℕ) → start + k ≤ to → to + k ≤ length was → after ≡ copy_within was start (start + k) to → after ≡ paste was to (drop start was) k
 copied-first was after start to k apart within moved =
     rw moved (same_lists _ _ (search (rules, places)) (λ i d less. grind (arith, places)))
+
+-- to a place before: k cells are there, and n more follow
+pub carried-on : {X : Type 0} (was now after : List X) (start to k n : ℕ) → to ≤ start → start + (k + n) ≤ length was → now ≡ paste was to (drop start was) k → after ≡ copy_within now (start + k) (start + k + n) (to + k) → after ≡ paste was to (drop start was) (k + n)
+carried-on was now after start to k n before within is moved =
+    rw (moved, is) (same_lists _ _ (search (rules, places)) (λ i d less. grind (arith, places)))
+
+-- to a place before: k cells are there, and the last m follow, of which some may be there
+pub carried-last : {X : Type 0} (was now after : List X) (start to k m n : ℕ) → k ≤ n → m ≤ n → n ≤ k + m → to + m ≤ start → start + n ≤ length was → now ≡ paste was to (drop start was) k → after ≡ copy_within now (start + (n - m)) (start + (n - m) + m) (to + (n - m)) → after ≡ copy_within was start (start + n) to
+carried-last was now after start to k m n front last all apart within is moved =
+    rw (moved, is) (same_lists _ _ (search (rules, places)) (λ i d less. grind (arith, places)))

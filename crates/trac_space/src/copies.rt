@@ -14,9 +14,9 @@ use crate::cell::{Cell, byte_in, is_character};
 const PART: usize = 256;
 // How near two places are whose cells go one by one.
 const NEAR: usize = 8;
-// How many cells are too few for parts where the places overlap.
+// How many cells are moved by blocks at most, and not by a call, where the two places are apart.
 const FEW: usize = 24;
-// How many cells that are apart are moved by blocks at most, and not by a call.
+// How many are moved so where they overlap, and not part by part.
 const MANY: usize = 48;
 // How many characters are moved at once before each of them is looked at.
 pub(crate) const BLOCK: usize = 8;
@@ -96,10 +96,12 @@ fn copy_long(cells: &mut [Cell], start: usize, end: usize, to: usize)
         copy_apart(cells, start, end, to);
     } else if to + (end - start) <= start {
         copy_apart(cells, start, end, to);
-    } else if end - start < FEW || start.abs_diff(to) < NEAR {
+    } else if start.abs_diff(to) < NEAR {
         cells.copy_within(start..end, to);
     } else if start < to {
         copy_up(cells, start, end, to);
+    } else if end - start <= MANY {
+        copy_blocks_before(cells, start, end - start, to);
     } else {
         copy_down(cells, start, end, to);
     }
@@ -342,7 +344,7 @@ pub(crate) fn copy_forward(cells: &mut [Cell], start: usize, end: usize, to: usi
     ensures len { length cells.new ≡ length cells.old }
     ensures after { cells.new ≡ copy_within cells.old start end to }
 {
-    if end <= to && end - start <= MANY {
+    if end <= to && end - start <= FEW {
         copy_behind(cells, start, to - start, end - start);
     } else {
         copy_cells(cells, start, end, to);
@@ -433,6 +435,36 @@ fn copy_half(cells: &mut [Cell], start: usize, distance: usize, n: usize)
     let n = end - start;
     let (front, back) = cells.split_at_mut(to);
     back[..n].copy_from_slice(&front[start..end]);
+}
+
+// As `copy_within`, to a place that is a block before the cells or more, by blocks. The last may begin
+// in the one before it: what it moves isn't written over yet.
+#[inline(always)]
+fn copy_blocks_before(cells: &mut [Cell], start: usize, n: usize, to: usize)
+    requires some { 8 ≤ n }
+    requires before { to + 8 ≤ start }
+    requires within { start + n ≤ length cells.old }
+    ensures len { length cells.new ≡ length cells.old }
+    ensures after { cells.new ≡ copy_within cells.old start (start + n) to }
+{
+    let mut done = 0;
+    while n - done > BLOCK {
+        copy_block_before(cells, start + done, to + done);
+        done += BLOCK;
+    }
+    copy_block_before(cells, start + (n - BLOCK), to + (n - BLOCK));
+}
+
+// Makes a block of cells the same as another that stands behind it, and apart.
+#[inline(always)]
+fn copy_block_before(cells: &mut [Cell], start: usize, to: usize)
+    requires apart { to + 8 ≤ start }
+    requires within { start + 8 ≤ length cells.old }
+    ensures len { length cells.new ≡ length cells.old }
+    ensures after { cells.new ≡ copy_within cells.old start (start + 8) to }
+{
+    let (front, back) = cells.split_at_mut(start);
+    front[to..to + BLOCK].copy_from_slice(&back[..BLOCK]);
 }
 
 // The same as `copy_characters`, one by one, and no other cell is written over.
