@@ -12,6 +12,8 @@ import unittest
 from trac import LAUNCHER, TOP, crates_of
 
 CRATES = crates_of('trac_cli')
+# Those that are proved beside the others.
+APART = ['trac_laws', 'trac_values', 'trac_devices', 'trac_words']
 BUILT = os.path.join('crates', 'trac_cli', 'out', 'trac_cli')
 SOURCE = os.path.join('crates', 'trac_core', 'src', 'machine.rt')
 # What a run by a user gets who may write nothing.
@@ -28,6 +30,17 @@ mkdir -p out
 printf '#!/bin/sh\\necho "ran $*"; exit 3\\n' >out/trac_cli.$$
 chmod +x out/trac_cli.$$
 mv out/trac_cli.$$ out/trac_cli
+"""
+# The same, but it takes only what stands on libraries, says in which folder, and makes libraries.
+ON_LIBRARIES = """#!/bin/sh
+for below in $(sed -n "s/^${{PWD##*/}}: //p" ../../crates.txt); do
+    [ ! -d "../$below" ] || [ -d "../$below/out/rlib" ] || exit 1
+done
+echo "$1 $PWD" >>'{calls}'
+sleep 0.1
+mkdir -p out/rlib
+[ "$1" = lib ] || printf '#!/bin/sh\necho "ran $*"; exit 3\n' >out/trac_cli
+[ "$1" = lib ] || chmod +x out/trac_cli
 """
 
 
@@ -58,9 +71,9 @@ class Launcher(unittest.TestCase):
         shutil.copy(LAUNCHER, self.top)
         self.answer(RT.format(calls=self.calls, seconds=0))
 
-    def answer(self, text):
-        """Puts a text in place of rt."""
-        tool = os.path.join(self.tools, 'rt')
+    def answer(self, text, tool='rt'):
+        """Puts a text in place of rt, or of another tool."""
+        tool = os.path.join(self.tools, tool)
         with open(tool, 'w', encoding='utf-8') as file:
             file.write(text)
         os.chmod(tool, 0o755)
@@ -83,6 +96,11 @@ class Launcher(unittest.TestCase):
         with open(self.calls, encoding='utf-8') as file:
             return file.read().splitlines()
 
+    def left_beside(self):
+        """The copies of the tree that are left."""
+        return [name for name in os.listdir(os.path.join(self.top, os.path.dirname(BUILT)))
+                if name.startswith('beside')]
+
     def builds(self):
         return self.called().count('run trac_cli')
 
@@ -98,8 +116,15 @@ class Launcher(unittest.TestCase):
 
     def test_it_knows_each_crate(self):
         with open(LAUNCHER, encoding='utf-8') as launcher:
-            crates = re.search("^crates='([^']*)'", launcher.read(), re.MULTILINE).group(1)
-        self.assertEqual(crates.split(), CRATES)
+            text = launcher.read()
+        libraries, apart = (re.search(f"^{name}='([^']*)'", text, re.MULTILINE).group(1).split()
+                            for name in ('libraries', 'apart'))
+        self.assertEqual(sorted(libraries), sorted(CRATES[:-1]))
+        self.assertEqual(sorted(apart), sorted(APART))
+        for at, crate in enumerate(libraries):
+            self.assertLessEqual(set(crates_of(crate)[:-1]), set(libraries[:at]))
+        for crate, after in zip(libraries, libraries[1:]):
+            self.assertEqual(crate in apart, crate not in crates_of(after))
 
     def test_it_builds_once(self):
         self.run_once(FIRST)
@@ -108,14 +133,40 @@ class Launcher(unittest.TestCase):
         self.assertEqual(self.builds(), 1)
 
     def test_a_first_build_goes_from_below(self):
+        self.answer(ON_LIBRARIES.format(calls=self.calls))
         self.run_once(FIRST)
         called = self.called()
-        called.remove('lib trac_words')  # beside the others
-        below = [crate for crate in CRATES[:-1] if crate != 'trac_words']
-        self.assertEqual(called, [f'lib {crate}' for crate in below] + ['run trac_cli'])
+        here = [f'lib {self.top}/crates/{crate}' for crate in CRATES if crate not in APART]
+        self.assertEqual([call for call in called if call.startswith('run') or call in here],
+                         here[:-1] + [here[-1].replace('lib', 'run')])
+        beside = [os.path.basename(call) for call in called if '/beside.' in call]
+        self.assertEqual(sorted(beside), sorted(APART))
+        self.assertEqual(len(called), len(CRATES))
+        self.assertEqual(self.left_beside(), [])
         os.remove(os.path.join(self.top, BUILT))
         self.run_once(AGAIN)
-        self.assertEqual(self.called()[len(CRATES):], ['run trac_cli'])
+        self.assertEqual(self.called()[len(CRATES):], [f'run {self.top}/crates/trac_cli'])
+
+    def test_a_first_build_with_none_beside_another(self):
+        for tool, text in (('cp', '#!/bin/sh\nexit 1\n'), ('nproc', '#!/bin/sh\necho 1\n')):
+            with self.subTest(tool):
+                self.answer(ON_LIBRARIES.format(calls=self.calls))
+                self.answer(text, tool)
+                self.run_once(FIRST)
+                self.assertEqual(sorted(self.called()), sorted(
+                    [f'lib {self.top}/crates/{crate}' for crate in CRATES[:-1]]
+                    + [f'run {self.top}/crates/trac_cli']))
+                os.remove(os.path.join(self.tools, tool))
+                os.remove(self.calls)
+                for crate in CRATES:
+                    shutil.rmtree(os.path.join(self.top, 'crates', crate, 'out'))
+
+    def test_a_crate_that_could_not_be_proved_beside_another(self):
+        self.answer('#!/bin/sh\ncase $PWD in */beside.*) exit 1 ;; esac\n'
+                    + ON_LIBRARIES.format(calls=self.calls))
+        self.run_once(FIRST)
+        self.assertEqual(len(self.called()), len(CRATES))
+        self.assertEqual(self.left_beside(), [])
 
     def test_an_interrupt_ends_a_first_build(self):
         # the machine, and the words that are proved beside it
@@ -134,6 +185,7 @@ class Launcher(unittest.TestCase):
         for pid in left:
             os.kill(int(pid), signal.SIGKILL)
         self.assertEqual(left, [])
+        self.assertFalse(os.path.exists(os.path.join(self.top, os.path.dirname(BUILT))))
 
     def test_an_edit_is_built(self):
         self.run_once(FIRST)
