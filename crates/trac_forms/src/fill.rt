@@ -18,7 +18,7 @@ ghost use Rattle.trac_forms.specs.Stored.{shown};
 use crate::item::FormId;
 use crate::work::Work;
 use trac_space::Space;
-use trac_store::{fill_items, heads, load_form, place_of};
+use trac_store::{fill_items, heads_of, load_form, place_of};
 
 impl<'a> Work<'a> {
     /// Puts the items of the form's body from its pointer on at the end of neutral, each gap of
@@ -96,7 +96,7 @@ fn fill_form(space: &mut Space, k: u32, start: u32, first: u32, end: u32) -> boo
     ensures full { OnFalse result (space.new ≡ record space.old { spare = space.new.spare }) }
     ensures kept { IsKept space.old.spare space.new.spare }
 {
-    let (name, body, pointer) = heads(space, start);
+    let (name, body, pointer) = heads_of(space, (k, start));
     let place = start + 3 + name;
     fill_items(space, place + pointer, place + body, first, end)
 }

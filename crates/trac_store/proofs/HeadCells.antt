@@ -1,5 +1,5 @@
 -- Head cells, as a slice of the store holds them.
-use Rattle.std.proofs.Common.{◌≡◌, ℕ, ◌+◌, ◌<◌, ◌≤◌, List, length, map, get_or, slice_range, Some, refl, sym, ap, ◌∙◌, arith}
+use Rattle.std.proofs.Common.{◌≡◌, ℕ, ◌+◌, ◌<◌, ◌≤◌, List, length, map, get_or, slice_range, slice_get, Option, Some, refl, sym, ap, ◌∙◌, arith}
 use Rattle.std.proofs.lemmas.List.{length-map, get_or-map}
 use Rattle.std.proofs.lemmas.List.Edits.{length-between, get_or-between}
 use Rattle.std.specs.Option.{option_map}
@@ -48,3 +48,7 @@ number-in-part list cells at end i within shown inside =
     sym (number-seen (get_or cells i (Byte 0)))
     ∙ ap (λ (cell : Cell). head_number (Some cell)) (sym (get_or-map seen cells i (Byte 0) (Byte 0) some) ∙ ap (λ cs. get_or cs i (Byte 0)) shown ∙ get_or-between list at end i (Byte 0) inside)
     ∙ ap head_number (sym (slice_get-get_or list (at + i) (Byte 0) (omega (arith, inside, within))))
+
+-- a number that stands at a place
+pub is-head-at : (store : List Cell) (i n : ℕ) → slice_get store i ≡ Some (Head n) → IsHeadAt store i
+is-head-at store i n e = e ∙ sym (ap (λ (o : Option Cell). Some (Head (head_number o))) e)

@@ -123,8 +123,8 @@ module _ (forms : List Form) (store : List Cell) (k at : ℕ) (whole : flat_form
         behind = read_behind front name body rest store at (length form.name) (length form.body) form.pointer split (sym begins) n m;
       }
 
-  -- the two cells with the lengths
-  pub head_cells : (slice_get store at ≡ Some (Head (length (form_at forms k).name))) × (slice_get store (at + 1) ≡ Some (Head (length (form_at forms k).body)))
+  -- the cells with the lengths and the pointer
+  pub head_cells : (slice_get store at ≡ Some (Head (length (form_at forms k).name))) × (slice_get store (at + 1) ≡ Some (Head (length (form_at forms k).body))) × (slice_get store (at + 2) ≡ Some (Head (form_at forms k).pointer))
   head_cells =
       let form = form_at forms k in
       let front = flat_forms (take k forms) in
@@ -136,6 +136,7 @@ module _ (forms : List Form) (store : List Cell) (k at : ℕ) (whole : flat_form
       let at_is : at ≡ at + 0 = omega arith in (
         ap (slice_get store) at_is ∙ read front name body rest store at (length form.name) (length form.body) form.pointer split (sym begins) n m 0,
         read front name body rest store at (length form.name) (length form.body) form.pointer split (sym begins) n m 1,
+        read front name body rest store at (length form.name) (length form.body) form.pointer split (sym begins) n m 2,
       )
 
 -- the cells without one form

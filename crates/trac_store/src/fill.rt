@@ -16,7 +16,7 @@ ghost use Rattle.trac_store.specs.Index.{IsKept};
 ghost use Rattle.trac_store.specs.Stored.{forms_in, start_of};
 
 use crate::arguments::{argument, list_parts};
-use crate::store::heads;
+use crate::store::heads_of;
 use trac_space::{Cell, Space, is_character};
 
 /// Puts the characters of the body of form `k`, which begins at a place of the store, from its
@@ -37,7 +37,7 @@ pub fn load_form(space: &mut Space, k: u32, start: u32) -> Option<u32>
           active = flat_text (text_of body) ++ space.old.active;
         })) }
 {
-    let (name, body, pointer) = heads(space, start);
+    let (name, body, pointer) = heads_of(space, (k, start));
     let place = start + 3 + name;
     let (from, stop) = (place + pointer, place + body);
     // hands on that the lists fit

@@ -10,7 +10,7 @@ ghost use Rattle.trac_language.specs.Text.{Text};
 ghost use Rattle.trac_language.specs.Store.{NoneNamed};
 ghost use Rattle.trac_space.specs.Cells.{seen};
 ghost use Rattle.trac_space.specs.Lists as lists;
-ghost use Rattle.trac_space.specs.Texts.{text_of_cells, character_of, IsByte};
+ghost use Rattle.trac_space.specs.Texts.{text_of_cells, IsByte};
 ghost use Rattle.trac_store.specs.FlatForms.{flat_forms};
 ghost use Rattle.trac_store.specs.Forms.{name_at};
 ghost use Rattle.trac_store.specs.Stored.{forms_in, start_of, IsFoundAt, IsPlace};
@@ -18,26 +18,16 @@ ghost use Rattle.trac_store.specs.Index.{hash, quarter, slots, IsIndex, IsIndexB
 ghost use Rattle.trac_store.specs.Index.{IsOpenFor, is_open, with_entry, start_in, home_in, buried};
 ghost use Rattle.trac_store.specs.Index.{forward, earlier, started, HasStartsFrom};
 
-use crate::store::{MANY, head, is_text, number, number_in_head};
-use trac_space::{Cell, Space};
+use crate::store::{MANY, head, heads_of, is_text, number, number_in_head};
+use trac_space::{Cell, Space, byte_in};
 
 // An odd number near 2^64 divided by the golden ratio.
 const MIXER: u64 = 11_400_714_819_323_198_485;
 
-// The character in a cell, 0 of one that holds none.
-#[inline]
-fn character(cell: Cell) -> u8
-    ensures { result ≡ character_of cell }
-{
-    match cell {
-        Cell::Byte(byte) => byte,
-        _ => 0,
-    }
-}
-
 // The number from which the slots of a name are counted.
 #[inline]
 fn hash(name: &[Cell]) -> usize
+    requires { All IsByte name.now }
     ensures value { result ≡ hash (text_of_cells name.now) }
     ensures bounded { result < 2 ^ 32 }
 {
@@ -46,7 +36,7 @@ fn hash(name: &[Cell]) -> usize
     while left > 0 {
         left -= 1;
         number = number
-            .wrapping_add(character(name[left]) as u64 + 1)
+            .wrapping_add(byte_in(&name[left]) as u64 + 1)
             .wrapping_mul(MIXER);
     }
     (number / 0x1_0000_0000) as usize
@@ -213,8 +203,9 @@ pub(crate) fn index_form(space: &mut Space, k: u32, start: u32)
     if space.spare_len() == 0 {
         return;
     }
+    let (len, _body, _pointer) = heads_of(space, (k, start));
     let from = start + 3;
-    let to = from + head(space, start);
+    let to = from + len;
     let first = hash(space.store_part(from, to));
     if k >= space.spare_len() / 4 || !add(space, first, k, start) {
         space.drop_spare();
@@ -457,7 +448,7 @@ fn index_worthwhile(space: &mut Space, count: u32, toil: &mut u32)
     ensures same { space.new ≡ record space.old { spare = space.new.spare } }
     ensures index { IsIndexed space.new.spare (forms_in space.old.store) }
 {
-    if (*toil / COST).saturating_sub(count) < space.active_len() / 64 {
+    if (*toil / COST).saturating_sub(count) < space.active_len() / 512 {
         return;
     }
     *toil = 0;

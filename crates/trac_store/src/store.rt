@@ -43,6 +43,25 @@ pub fn heads(space: &Space, start: u32) -> (u32, u32, u32)
     (number(cells[0]), number(cells[1]), number(cells[2]))
 }
 
+/// The same of a form, of a number and a place where it begins: its heads need no test.
+#[inline]
+pub fn heads_of(space: &Space, form: (u32, u32)) -> (u32, u32, u32)
+    requires whole { flat_forms (forms_in space.now.store) ≡ space.now.store }
+    requires bounded { length space.now.store ≤ 16777216 }
+    requires known { form.0 < length (forms_in space.now.store) }
+    requires begins { form.1 ≡ start_of (forms_in space.now.store) form.0 }
+    ensures name { result.0 ≡ head_at space.now.store form.1 }
+    ensures body { result.1 ≡ head_at space.now.store (form.1 + 1) }
+    ensures pointer { result.2 ≡ head_at space.now.store (form.1 + 2) }
+{
+    let cells = space.store_part(form.1, form.1 + 3);
+    (
+        number_in_head(cells[0]),
+        number_in_head(cells[1]),
+        number_in_head(cells[2]),
+    )
+}
+
 /// The item in the cell at place `i` of the store, a gap of ordinal 0 where none stands there.
 pub fn item_in(space: &Space, i: u32) -> Item
     ensures { result ≡ stored_item space.now.store i }

@@ -1,52 +1,47 @@
 use Rattle.std.proofs.Common.{refl, arith}
 use Rattle.trac_store.proofs.Filling.{AreItems, items}
 use Rattle.trac_forms.proofs.fill.fill_form.Goals as goal
-use Rattle.trac_forms.proofs.fill.fill_form.Goals.{After-heads-name}
+use Rattle.trac_forms.proofs.fill.fill_form.Goals.{After-heads_of-name}
 
 -- those that are called, once the heads are read
-called : (c : After-heads-name) → AreItems c.args.space.now c.args.k c.args.start c.heads-name.result.0 c.heads-name.result.1 c.heads-name.result.2
+called : (c : After-heads_of-name) → AreItems c.args.space.now c.args.k c.args.start c.heads_of-name.result.0 c.heads_of-name.result.1 c.heads_of-name.result.2
 called c =
-    let heads = c.heads-name.ensures in
+    let heads = c.heads_of-name.ensures in
     items _ _ _ _ _ _ c.requires.whole c.requires.forms c.requires.known c.requires.begins heads.name heads.body heads.pointer
-
-pub heads-name-requires-clause-within : goal.heads-name-requires-clause-within
-heads-name-requires-clause-within c =
-    let i = items c.args.space.now c.args.k c.args.start _ _ _ c.requires.whole c.requires.forms c.requires.known c.requires.begins refl refl refl in
-    omega (arith, i.behind)
 
 pub overflow_add-place : goal.overflow_add-place
 overflow_add-place c =
-    let i = called (goal.at.overflow_add-place c).After-heads-name in
+    let i = called (goal.at.overflow_add-place c).After-heads_of-name in
     omega (arith, i.behind, c.requires.bounded)
 
 pub overflow_add-place-2 : goal.overflow_add-place-2
 overflow_add-place-2 c =
-    let i = called (goal.at.overflow_add-place-2 c).After-heads-name in
+    let i = called (goal.at.overflow_add-place-2 c).After-heads_of-name in
     omega (arith, i.behind, c.requires.bounded, i.order)
 
 pub overflow_add-place-3 : goal.overflow_add-place-3
 overflow_add-place-3 c =
-    let i = called (goal.at.overflow_add-place-3 c).After-heads-name in
+    let i = called (goal.at.overflow_add-place-3 c).After-heads_of-name in
     omega (arith, i.behind, c.requires.bounded, i.order)
 
 pub overflow_add-place-4 : goal.overflow_add-place-4
 overflow_add-place-4 c =
-    let i = called (goal.at.overflow_add-place-4 c).After-heads-name in
+    let i = called (goal.at.overflow_add-place-4 c).After-heads_of-name in
     omega (arith, i.behind, c.requires.bounded, i.order)
 
 pub fill_items-requires-clause-order : goal.fill_items-requires-clause-order
 fill_items-requires-clause-order c =
-    omega (arith, (called (goal.at.fill_items-requires-clause-order c).After-heads-name).order)
+    omega (arith, (called (goal.at.fill_items-requires-clause-order c).After-heads_of-name).order)
 
 pub fill_items-requires-clause-within : goal.fill_items-requires-clause-within
-fill_items-requires-clause-within c = (called (goal.at.fill_items-requires-clause-within c).After-heads-name).behind
+fill_items-requires-clause-within c = (called (goal.at.fill_items-requires-clause-within c).After-heads_of-name).behind
 
 pub returns-clause-put : goal.returns-clause-put
 returns-clause-put c =
-    let i = called (goal.at.returns-clause-put c).After-heads-name in
+    let i = called (goal.at.returns-clause-put c).After-heads_of-name in
     rw i.are at c.fill_items.ensures.put
 
 pub returns-clause-last : goal.returns-clause-last
 returns-clause-last c =
-    let i = called (goal.at.returns-clause-last c).After-heads-name in
+    let i = called (goal.at.returns-clause-last c).After-heads_of-name in
     rw i.are at c.fill_items.ensures.last

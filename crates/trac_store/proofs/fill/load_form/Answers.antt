@@ -10,44 +10,39 @@ use Rattle.trac_store.specs.Loading.{AreCharacters}
 use Rattle.trac_store.specs.Stored.{item_of}
 use Rattle.trac_store.proofs.Filling.{AreItems, items, plain-items, plain-text}
 use Rattle.trac_store.proofs.fill.load_form.Goals as goal
-use Rattle.trac_store.proofs.fill.load_form.Goals.{After-heads-name}
+use Rattle.trac_store.proofs.fill.load_form.Goals.{After-heads_of-name}
 
 -- the items that are called, once the heads are read
-called : (c : After-heads-name) → AreItems c.args.space.now c.args.k c.args.start c.heads-name.result.0 c.heads-name.result.1 c.heads-name.result.2
+called : (c : After-heads_of-name) → AreItems c.args.space.now c.args.k c.args.start c.heads_of-name.result.0 c.heads_of-name.result.1 c.heads_of-name.result.2
 called c =
-    let heads = c.heads-name.ensures in
+    let heads = c.heads_of-name.ensures in
     items _ _ _ _ _ _ c.requires.whole c.requires.forms c.requires.known c.requires.begins heads.name heads.body heads.pointer
-
-pub heads-name-requires-clause-within : goal.heads-name-requires-clause-within
-heads-name-requires-clause-within c =
-    let i = items c.args.space.now c.args.k c.args.start _ _ _ c.requires.whole c.requires.forms c.requires.known c.requires.begins refl refl refl in
-    omega (arith, i.behind)
 
 pub overflow_add-place : goal.overflow_add-place
 overflow_add-place c =
-    let i = called (goal.at.overflow_add-place c).After-heads-name in
+    let i = called (goal.at.overflow_add-place c).After-heads_of-name in
     omega (arith, i.behind, i.order, c.requires.bounded)
 
 pub overflow_add-place-2 : goal.overflow_add-place-2
 overflow_add-place-2 c =
-    let i = called (goal.at.overflow_add-place-2 c).After-heads-name in
+    let i = called (goal.at.overflow_add-place-2 c).After-heads_of-name in
     omega (arith, i.behind, i.order, c.requires.bounded)
 
 pub overflow_add-from : goal.overflow_add-from
 overflow_add-from c =
-    let i = called (goal.at.overflow_add-from c).After-heads-name in
+    let i = called (goal.at.overflow_add-from c).After-heads_of-name in
     omega (arith, i.behind, i.order, c.requires.bounded)
 
 pub overflow_add-stop : goal.overflow_add-stop
 overflow_add-stop c =
-    let i = called (goal.at.overflow_add-stop c).After-heads-name in
+    let i = called (goal.at.overflow_add-stop c).After-heads_of-name in
     omega (arith, i.behind, i.order, c.requires.bounded)
 
 pub load_items-requires-clause-order : goal.load_items-requires-clause-order
-load_items-requires-clause-order c = omega (arith, (called (goal.at.load_items-requires-clause-order c).After-heads-name).order)
+load_items-requires-clause-order c = omega (arith, (called (goal.at.load_items-requires-clause-order c).After-heads_of-name).order)
 
 pub load_items-requires-clause-within : goal.load_items-requires-clause-within
-load_items-requires-clause-within c = (called (goal.at.load_items-requires-clause-within c).After-heads-name).behind
+load_items-requires-clause-within c = (called (goal.at.load_items-requires-clause-within c).After-heads_of-name).behind
 
 -- characters in the store are items, and a text
 handed : (result : Option ℕ) (s t : Lists) (body : List Item) (from stop : ℕ) → map item_of (slice_range s.store from stop) ≡ body → stop ≤ length s.store → MatchOption result (t ≡ s) (λ n. All IsByte (slice_range s.store from stop) × (from + n ≡ stop) × (used s + n ≤ s.room) × (t ≡ record (with_way n s) { active = slice_range s.store from stop ++ s.active })) → MatchOption result (t ≡ s) (λ n. AreCharacters body × (length body ≡ n) × (used s + n ≤ s.room) × (t ≡ record (with_way n s) { active = flat_text (text_of body) ++ s.active }))
@@ -62,16 +57,16 @@ handed (Some n) s t body from stop are within loaded =
 
 pub returns : goal.returns
 returns c =
-    let i = called (goal.at.returns c).After-heads-name in
+    let i = called (goal.at.returns c).After-heads_of-name in
     handed c.load_items.result c.args.space.now c.load_items.new.space _ _ _ i.are i.behind c.load_items.ensures
 
 pub returns-then-from-stop : goal.returns-then-from-stop
 returns-then-from-stop c =
     let old = c.args.space.now in
-    let i = called (goal.at.returns-then-from-stop c).After-heads-name in
-    let from = c.args.start + 3 + c.heads-name.result.0 + c.heads-name.result.2 in
-    let none : slice_range old.store from (c.args.start + 3 + c.heads-name.result.0 + c.heads-name.result.1) ≡ [] =
-    (let zero : c.args.start + 3 + c.heads-name.result.0 + c.heads-name.result.1 - from ≡ 0 = omega (arith, c.if-from-stop.true) in rw zero refl) in
+    let i = called (goal.at.returns-then-from-stop c).After-heads_of-name in
+    let from = c.args.start + 3 + c.heads_of-name.result.0 + c.heads_of-name.result.2 in
+    let none : slice_range old.store from (c.args.start + 3 + c.heads_of-name.result.0 + c.heads_of-name.result.1) ≡ [] =
+    (let zero : c.args.start + 3 + c.heads_of-name.result.0 + c.heads_of-name.result.1 - from ≡ 0 = omega (arith, c.if-from-stop.true) in rw zero refl) in
     let items_are = sym i.are ∙ ap (map item_of) none in
     let stays : nat_le (used old + 0 + length old.spare) old.room ≡ true = grind (arith, c.way-way.ensures) in
     rw (items_are, stays) (All-nil (λ item. is_character item ≡ true), refl, omega (arith, c.way-way.ensures), refl)

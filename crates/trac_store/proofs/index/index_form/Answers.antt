@@ -1,9 +1,10 @@
-use Rattle.std.proofs.Common.{◌≡◌, ◌+◌, ◌/◌, ◌<◌, length, take, slice_range, sym, ap, ◌∙◌, subst, arith}
+use Rattle.std.proofs.Common.{◌≡◌, ◌+◌, ◌/◌, ◌<◌, length, take, slice_range, sym, ap, ◌∙◌, subst, arith, All}
 use Rattle.trac_space.specs.Lists.{Lists}
-use Rattle.trac_space.specs.Texts.{text_of_cells}
+use Rattle.trac_space.specs.Texts.{text_of_cells, IsByte}
 use Rattle.trac_store.specs.Forms.{form_at}
 use Rattle.trac_store.specs.Stored.{forms_in}
 use Rattle.trac_store.specs.Index.{hash, IsIndex, IsOpenFor}
+use Rattle.trac_store.proofs.Finding.{bytes-of-seen, bytes-flat}
 use Rattle.trac_store.proofs.Gaps.{bytes-seen}
 use Rattle.trac_store.proofs.FlatLemmas.{character_of-Byte}
 use Rattle.trac_store.proofs.Places.{stands}
@@ -20,13 +21,13 @@ pub overflow_add-to : goal.overflow_add-to
 overflow_add-to c =
     let s = c.args.space.now in
     let f = stands (forms_in s.store) s.store c.args.k c.args.start c.requires.whole c.requires.within c.requires.begins in
-    omega (arith, f.end, f.name_len, c.head.ensures, c.requires.bounded)
+    omega (arith, f.end, f.name_len, c.heads_of-len.ensures.name, c.requires.bounded)
 
 pub store_part-requires-clause-within : goal.store_part-requires-clause-within
 store_part-requires-clause-within c =
     let s = c.args.space.now in
     let f = stands (forms_in s.store) s.store c.args.k c.args.start c.requires.whole c.requires.within c.requires.begins in
-    omega (arith, f.end, f.name_len, c.head.ensures)
+    omega (arith, f.end, f.name_len, c.heads_of-len.ensures.name)
 
 pub returns-else-not-add-clause-index : goal.returns-else-not-add-clause-index
 returns-else-not-add-clause-index c =
@@ -35,7 +36,7 @@ returns-else-not-add-clause-index c =
     let k = c.args.k in
     let f = stands forms s.store k c.args.start c.requires.whole c.requires.within c.requires.begins in
     let form = form_at forms k in
-    let len : c.head.result ≡ length form.name = c.head.ensures ∙ f.name_len in
+    let len : c.heads_of-len.result.0 ≡ length form.name = c.heads_of-len.ensures.name ∙ f.name_len in
     let part = c.store_part.ensures ∙ ap (λ n. slice_range s.store (c.args.start + 3) (c.args.start + 3 + n)) len ∙ f.name_part in
     let name : text_of_cells c.store_part.result.now ≡ form.name = sym (bytes-seen c.store_part.result.now) ∙ ap text_of_cells part ∙ character_of-Byte form.name in
     let number : c.hash-first.result ≡ hash form.name = c.hash-first.ensures.value ∙ ap hash name in
@@ -45,3 +46,13 @@ returns-else-not-add-clause-index c =
     let roomy : k < length s.spare / 4 = omega (arith, c.spare_len-2.ensures.value, c.if-k-spare_len.false) in
     let all = index-next s.spare forms k done.0 c.args.start c.requires.within c.requires.begins index roomy place in
     λ _. subst (λ t. IsIndex t (take (k + 1) forms)) (sym (ap (λ (w : Lists). w.spare) done.2)) all
+
+pub hash-first-requires : goal.hash-first-requires
+hash-first-requires c =
+    let s = c.args.space.now in
+    let k = c.args.k in
+    let f = stands (forms_in s.store) s.store k c.args.start c.requires.whole c.requires.within c.requires.begins in
+    let form = form_at (forms_in s.store) k in
+    let len : c.heads_of-len.result.0 ≡ length form.name = c.heads_of-len.ensures.name ∙ f.name_len in
+    let part = c.store_part.ensures ∙ ap (λ n. slice_range s.store (c.args.start + 3) (c.args.start + 3 + n)) len ∙ f.name_part in
+    bytes-of-seen c.store_part.result.now (subst (All IsByte) (sym part) (bytes-flat form.name))

@@ -9,7 +9,7 @@ use Rattle.trac_store.specs.Forms.{name_at}
 use Rattle.trac_store.specs.Stored.{forms_in}
 use Rattle.trac_store.specs.Index.{hash, slot, cell_at, is_blank}
 use Rattle.trac_store.proofs.TableChanges.{slot-within}
-use Rattle.trac_store.proofs.Finding.{head-seen}
+use Rattle.trac_store.proofs.Finding.{head-seen, bytes-of-seen}
 use Rattle.trac_store.proofs.Gaps.{bytes-seen}
 use Rattle.trac_store.proofs.Indexed.{none-at_blank, none-at_end, slots_len, cell-seen, held-at}
 use Rattle.trac_store.proofs.index.look_up.Goals as goal
@@ -57,3 +57,6 @@ loop-i-preserved c = λ j k less within named at.
       | in_default w ↦ w.in_default.not-Head k (head-seen (get_or table (bit_and (c.hash-first.result + i) (2 * (length table / 4) - 1)) (Byte 0)) k there)
     ])
     (cases_lt j i)
+
+pub hash-first-requires : goal.hash-first-requires
+hash-first-requires c = bytes-of-seen c.args.name.now c.requires.bytes
