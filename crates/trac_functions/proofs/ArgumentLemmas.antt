@@ -64,30 +64,18 @@ bytes-flat text = All-map IsByte Byte text (λ k d within. tt)
 
 -- ---- texts between comma marks
 
+in_first-first : (c : ℕ) (texts : List Text) → argument (in_first c texts) 0 ≡ c ∷ argument texts 0
+in_first-first c [] = refl
+in_first-first c (t ∷ ts) = refl
+
 -- the first of the texts that comma marks part
 pub texts_of-first : (cells : List Cell) → argument (texts_of cells) 0 ≡ text_of_cells (take (before_comma cells) cells)
 texts_of-first [] = refl
-texts_of-first (Byte c ∷ cells) = first c (texts_of cells) ∙ ap (λ t. c ∷ t) (texts_of-first cells)
-  where
-    first : (c : ℕ) (texts : List Text) → argument (in_first c texts) 0 ≡ c ∷ argument texts 0
-    first c [] = refl
-    first c (t ∷ ts) = refl
-texts_of-first (Call mode k ∷ cells) = first (texts_of cells) ∙ ap (λ t. 0 ∷ t) (texts_of-first cells)
-  where
-    first : (texts : List Text) → argument (in_first 0 texts) 0 ≡ 0 ∷ argument texts 0
-    first [] = refl
-    first (t ∷ ts) = refl
+texts_of-first (Byte c ∷ cells) = in_first-first c (texts_of cells) ∙ ap (λ t. c ∷ t) (texts_of-first cells)
+texts_of-first (Call mode k ∷ cells) = in_first-first 0 (texts_of cells) ∙ ap (λ t. 0 ∷ t) (texts_of-first cells)
 texts_of-first (Comma ∷ cells) = refl
-texts_of-first (Gap k ∷ cells) = first (texts_of cells) ∙ ap (λ t. 0 ∷ t) (texts_of-first cells)
-  where
-    first : (texts : List Text) → argument (in_first 0 texts) 0 ≡ 0 ∷ argument texts 0
-    first [] = refl
-    first (t ∷ ts) = refl
-texts_of-first (Head k ∷ cells) = first (texts_of cells) ∙ ap (λ t. 0 ∷ t) (texts_of-first cells)
-  where
-    first : (texts : List Text) → argument (in_first 0 texts) 0 ≡ 0 ∷ argument texts 0
-    first [] = refl
-    first (t ∷ ts) = refl
+texts_of-first (Gap k ∷ cells) = in_first-first 0 (texts_of cells) ∙ ap (λ t. 0 ∷ t) (texts_of-first cells)
+texts_of-first (Head k ∷ cells) = in_first-first 0 (texts_of cells) ∙ ap (λ t. 0 ∷ t) (texts_of-first cells)
 
 -- those after the first: none where no comma mark follows it
 later : List Cell → List Text
@@ -143,7 +131,7 @@ take-range cells from n end within =
     let k : from + n - from ≡ n = omega arith in
     ap (λ k. take n (take k (drop from cells))) e ∙ take-take n (n + (end - (from + n))) (drop from cells) (omega arith) ∙ ap (λ k. take k (drop from cells)) (sym k)
 
-texts_from-some : (neutral : List Cell) (from end : ℕ) → from ≤ end → texts_from neutral from end ≡ texts_of (slice_range neutral from end)
+pub texts_from-some : (neutral : List Cell) (from end : ℕ) → from ≤ end → texts_from neutral from end ≡ texts_of (slice_range neutral from end)
 texts_from-some neutral from end le = let yes : nat_le from end ≡ true = grind arith in rw yes refl
 
 texts_from-none : (neutral : List Cell) (from end : ℕ) → end < from → texts_from neutral from end ≡ []
@@ -151,15 +139,6 @@ texts_from-none neutral from end lt = let no : nat_le from end ≡ false = grind
 
 -- the cells of an argument, and the arguments after it
 module _ (w : Contents) (a : Arguments) (are : AreArguments w a) (le : a.from ≤ a.end) where
-  cells : List Cell
-  cells = slice_range w.neutral a.from a.end
-
-  n : ℕ
-  n = before_comma (slice_range w.neutral a.from a.end)
-
-  to : ℕ
-  to = a.from + before_comma (slice_range w.neutral a.from a.end)
-
   fits : a.from + before_comma (slice_range w.neutral a.from a.end) ≤ a.end
   fits = let within = are.within in omega (arith, before_comma-within (slice_range w.neutral a.from a.end), length-range w.neutral a.from a.end are.within)
 

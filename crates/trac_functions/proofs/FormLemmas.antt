@@ -24,7 +24,7 @@ use Rattle.trac_forms.proofs.Parted.{parts-first, parts-none}
 use Rattle.trac_functions.specs.declared.arguments.Arguments.{Arguments}
 use Rattle.trac_functions.specs.Flat.{texts_of, in_first, with_first}
 use Rattle.trac_functions.specs.Calls.{Means, IsValue, AreArguments, texts, texts_from}
-use Rattle.trac_functions.proofs.ArgumentLemmas.{none-left, taken-part, taken-text, taken-rest, taken-left}
+use Rattle.trac_functions.proofs.ArgumentLemmas.{none-left, texts_from-some, taken-part, taken-text, taken-rest, taken-left}
 use Rattle.trac_functions.proofs.MadeValues.{valued-of}
 
 -- a null value, of which nothing stands at the end of neutral
@@ -59,9 +59,6 @@ names-none before forms k past = ap (names before) (drop_all k forms past)
 pub arguments-kept : (w v : Contents) (a : Arguments) → AreArguments w a → IsSound v → v.neutral ≡ w.neutral → AreArguments v a
 arguments-kept w v a are sound same =
     record { sound = sound; order = are.order; within = rw same are.within; no_call = rw same are.no_call; no_comma = rw same are.no_comma }
-
-texts_from-some : (neutral : List Cell) (from end : ℕ) → from ≤ end → texts_from neutral from end ≡ texts_of (slice_range neutral from end)
-texts_from-some neutral from end le = let yes : nat_le from end ≡ true = grind arith in rw yes refl
 
 texts_of-some : (cells : List Cell) → 0 < length (texts_of cells)
 texts_of-some [] = omega arith
