@@ -1,7 +1,7 @@
 -- Parts of the neutral string as texts, and arguments cut at comma marks.
 use Rattle.std.proofs.Common.{◌≡◌, ℕ, suc, ◌+◌, ◌-◌, ◌<◌, ◌≤◌, Bool, true, false, List, [], ◌∷◌, length, take, drop, slice_range, All, map, refl, sym, ap, ◌∙◌, subst, ⊎_elim, arith, get_or, cond, nat_le}
 use Rattle.std.proofs.lemmas.Bool.{cases_lt}
-use Rattle.std.proofs.lemmas.List.{length-map, length-take, length-drop, get_or-drop, take-take, take-map, drop-take, drop-drop}
+use Rattle.std.proofs.lemmas.List.{length-map, get_or-drop, take-take, take-map, drop-take, drop-drop}
 use Rattle.std.proofs.lemmas.List.Edits.{length-between}
 use Rattle.std.proofs.lemmas.List.Elements.{All-cons, All-take, All-drop, All-map}
 use Rattle.trac_language.specs.Text.{Text}

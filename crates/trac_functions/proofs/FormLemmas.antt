@@ -1,5 +1,5 @@
 -- Lists of forms, and what the functions that change them make of a call.
-use Rattle.std.proofs.Common.{◌≡◌, ℕ, zero, suc, ◌+◌, ◌<◌, ◌≤◌, Bool, true, false, List, [], ◌∷◌, ◌++◌, length, drop, set, slice_range, subst, ◌-◌, refl, sym, ap, ◌∙◌, arith, Some, nat_le, ⊎_elim}
+use Rattle.std.proofs.Common.{◌≡◌, ℕ, zero, suc, ◌+◌, ◌<◌, ◌≤◌, Bool, true, false, List, [], ◌∷◌, ◌++◌, length, drop, set, slice_range, subst, ◌-◌, refl, sym, ap, ◌∙◌, arith, Some, ⊎_elim}
 use Rattle.std.specs.Prelude.{if◌then◌else◌, flat_map, filter, bytes_eq, not, ◌||◌}
 use Rattle.std.specs.List.{list_any}
 use Rattle.std.proofs.lemmas.Bool.{cases_lt}
@@ -23,7 +23,7 @@ use Rattle.trac_forms.proofs.Stores.{without-none}
 use Rattle.trac_forms.proofs.Parted.{parts-first, parts-none}
 use Rattle.trac_functions.specs.declared.arguments.Arguments.{Arguments}
 use Rattle.trac_functions.specs.Flat.{texts_of, in_first, with_first}
-use Rattle.trac_functions.specs.Calls.{Means, IsValue, AreArguments, texts, texts_from}
+use Rattle.trac_functions.specs.Calls.{Means, IsValue, AreArguments, texts}
 use Rattle.trac_functions.proofs.ArgumentLemmas.{none-left, texts_from-some, taken-part, taken-text, taken-rest, taken-left}
 use Rattle.trac_functions.proofs.FlatLemmas.{texts_of-some}
 use Rattle.trac_functions.proofs.MadeValues.{valued-of}
