@@ -123,8 +123,12 @@ class Launcher(unittest.TestCase):
         self.assertEqual(sorted(apart), sorted(APART))
         for at, crate in enumerate(libraries):
             self.assertLessEqual(set(crates_of(crate)[:-1]), set(libraries[:at]))
-        for crate, after in zip(libraries, libraries[1:]):
-            self.assertEqual(crate in apart, crate not in crates_of(after))
+        for at, crate in enumerate(libraries[:-1]):
+            if crate in apart:
+                self.assertNotIn(crate, crates_of(libraries[at + 1]))
+            else:
+                after = [other for other in libraries[at + 1:] if other not in apart]
+                self.assertIn(crate, crates_of(after[0]))
 
     def test_it_builds_once(self):
         self.run_once(FIRST)

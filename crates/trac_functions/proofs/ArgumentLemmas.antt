@@ -1,7 +1,8 @@
 -- Parts of the neutral string as texts, and arguments cut at comma marks.
 use Rattle.std.proofs.Common.{◌≡◌, ℕ, suc, ◌+◌, ◌-◌, ◌<◌, ◌≤◌, Bool, true, false, List, [], ◌∷◌, length, take, drop, slice_range, All, map, refl, sym, ap, ◌∙◌, subst, ⊎_elim, arith, get_or, cond, nat_le}
 use Rattle.std.proofs.lemmas.Bool.{cases_lt}
-use Rattle.std.proofs.lemmas.List.{length-map, length-take, length-drop, get_or-drop, take-take, take-map, drop-take, drop-drop}
+use Rattle.std.proofs.lemmas.List.{length-map, get_or-drop, take-take, take-map, drop-take, drop-drop}
+use Rattle.std.proofs.lemmas.List.Edits.{length-between}
 use Rattle.std.proofs.lemmas.List.Elements.{All-cons, All-take, All-drop, All-map}
 use Rattle.trac_language.specs.Text.{Text}
 use Rattle.trac_language.specs.State.{argument}
@@ -64,30 +65,18 @@ bytes-flat text = All-map IsByte Byte text (λ k d within. tt)
 
 -- ---- texts between comma marks
 
+in_first-first : (c : ℕ) (texts : List Text) → argument (in_first c texts) 0 ≡ c ∷ argument texts 0
+in_first-first c [] = refl
+in_first-first c (t ∷ ts) = refl
+
 -- the first of the texts that comma marks part
 pub texts_of-first : (cells : List Cell) → argument (texts_of cells) 0 ≡ text_of_cells (take (before_comma cells) cells)
 texts_of-first [] = refl
-texts_of-first (Byte c ∷ cells) = first c (texts_of cells) ∙ ap (λ t. c ∷ t) (texts_of-first cells)
-  where
-    first : (c : ℕ) (texts : List Text) → argument (in_first c texts) 0 ≡ c ∷ argument texts 0
-    first c [] = refl
-    first c (t ∷ ts) = refl
-texts_of-first (Call mode k ∷ cells) = first (texts_of cells) ∙ ap (λ t. 0 ∷ t) (texts_of-first cells)
-  where
-    first : (texts : List Text) → argument (in_first 0 texts) 0 ≡ 0 ∷ argument texts 0
-    first [] = refl
-    first (t ∷ ts) = refl
+texts_of-first (Byte c ∷ cells) = in_first-first c (texts_of cells) ∙ ap (λ t. c ∷ t) (texts_of-first cells)
+texts_of-first (Call mode k ∷ cells) = in_first-first 0 (texts_of cells) ∙ ap (λ t. 0 ∷ t) (texts_of-first cells)
 texts_of-first (Comma ∷ cells) = refl
-texts_of-first (Gap k ∷ cells) = first (texts_of cells) ∙ ap (λ t. 0 ∷ t) (texts_of-first cells)
-  where
-    first : (texts : List Text) → argument (in_first 0 texts) 0 ≡ 0 ∷ argument texts 0
-    first [] = refl
-    first (t ∷ ts) = refl
-texts_of-first (Head k ∷ cells) = first (texts_of cells) ∙ ap (λ t. 0 ∷ t) (texts_of-first cells)
-  where
-    first : (texts : List Text) → argument (in_first 0 texts) 0 ≡ 0 ∷ argument texts 0
-    first [] = refl
-    first (t ∷ ts) = refl
+texts_of-first (Gap k ∷ cells) = in_first-first 0 (texts_of cells) ∙ ap (λ t. 0 ∷ t) (texts_of-first cells)
+texts_of-first (Head k ∷ cells) = in_first-first 0 (texts_of cells) ∙ ap (λ t. 0 ∷ t) (texts_of-first cells)
 
 -- those after the first: none where no comma mark follows it
 later : List Cell → List Text
@@ -127,9 +116,6 @@ later-none (cell ∷ cells) within = go (is_comma cell) (later-none cells) withi
 
 -- ---- arguments taken one after the other
 
-length-range : (cells : List Cell) (from end : ℕ) → end ≤ length cells → length (slice_range cells from end) ≡ end - from
-length-range cells from end within = rw (length-take (end - from) (drop from cells), length-drop from cells) (omega arith)
-
 drop-range : (cells : List Cell) (from n end : ℕ) → n + from ≤ end → drop n (slice_range cells from end) ≡ slice_range cells (from + n) end
 drop-range cells from n end within =
     let e : end - from ≡ n + (end - (from + n)) = omega arith in
@@ -143,7 +129,7 @@ take-range cells from n end within =
     let k : from + n - from ≡ n = omega arith in
     ap (λ k. take n (take k (drop from cells))) e ∙ take-take n (n + (end - (from + n))) (drop from cells) (omega arith) ∙ ap (λ k. take k (drop from cells)) (sym k)
 
-texts_from-some : (neutral : List Cell) (from end : ℕ) → from ≤ end → texts_from neutral from end ≡ texts_of (slice_range neutral from end)
+pub texts_from-some : (neutral : List Cell) (from end : ℕ) → from ≤ end → texts_from neutral from end ≡ texts_of (slice_range neutral from end)
 texts_from-some neutral from end le = let yes : nat_le from end ≡ true = grind arith in rw yes refl
 
 texts_from-none : (neutral : List Cell) (from end : ℕ) → end < from → texts_from neutral from end ≡ []
@@ -151,17 +137,8 @@ texts_from-none neutral from end lt = let no : nat_le from end ≡ false = grind
 
 -- the cells of an argument, and the arguments after it
 module _ (w : Contents) (a : Arguments) (are : AreArguments w a) (le : a.from ≤ a.end) where
-  cells : List Cell
-  cells = slice_range w.neutral a.from a.end
-
-  n : ℕ
-  n = before_comma (slice_range w.neutral a.from a.end)
-
-  to : ℕ
-  to = a.from + before_comma (slice_range w.neutral a.from a.end)
-
   fits : a.from + before_comma (slice_range w.neutral a.from a.end) ≤ a.end
-  fits = let within = are.within in omega (arith, before_comma-within (slice_range w.neutral a.from a.end), length-range w.neutral a.from a.end are.within)
+  fits = let within = are.within in omega (arith, before_comma-within (slice_range w.neutral a.from a.end), length-between w.neutral a.from a.end are.within)
 
   pub taken-text : part_text w.neutral a.from (a.from + before_comma (slice_range w.neutral a.from a.end)) ≡ argument (texts w a) 0
   taken-text =
@@ -174,7 +151,7 @@ module _ (w : Contents) (a : Arguments) (are : AreArguments w a) (le : a.from �
   taken-rest =
       let f = fits in
       let here = slice_range w.neutral a.from a.end in
-      let long = length-range w.neutral a.from a.end are.within in
+      let long = length-between w.neutral a.from a.end are.within in
       sym (ap (drop 1) (texts_from-some w.neutral a.from a.end le) ∙ texts_of-later here
       ∙ ⊎_elim
       (λ more.
@@ -216,7 +193,7 @@ pub taken-part : (w : Contents) (a : Arguments) → AreArguments w a → a.from 
 taken-part w a are le =
     let here = slice_range w.neutral a.from a.end in
     let n = before_comma here in
-    let f : n + a.from ≤ a.end = let within = are.within in omega (arith, before_comma-within here, length-range w.neutral a.from a.end are.within) in
+    let f : n + a.from ≤ a.end = let within = are.within in omega (arith, before_comma-within here, length-between w.neutral a.from a.end are.within) in
     let inside = are.within in
     let part = slice_range w.neutral a.from (a.from + n) in
     let strings : All IsStringCell part = string-range w are.sound a.from (a.from + n) in
@@ -233,7 +210,7 @@ taken-left w a b are le from_is end_is plain_is =
     let here = slice_range w.neutral a.from a.end in
     let n = before_comma here in
     let inside = are.within in
-    let f : n + a.from ≤ a.end = omega (arith, before_comma-within here, length-range w.neutral a.from a.end are.within) in
+    let f : n + a.from ≤ a.end = omega (arith, before_comma-within here, length-between w.neutral a.from a.end are.within) in
     record {
       sound = are.sound;
       order = omega arith;
@@ -260,7 +237,7 @@ last-long w a are le late =
     let here : a.plain + n ≡ a.from = omega arith in
     let rest = subst (λ k. NoComma (slice_range w.neutral k a.end)) here
     (subst NoComma (drop-range w.neutral a.plain n a.end (omega arith)) (All-drop (λ cell. is_comma cell ≡ false) n (slice_range w.neutral a.plain a.end) are.no_comma)) in
-    let long = length-range w.neutral a.from a.end are.within in
+    let long = length-between w.neutral a.from a.end are.within in
     let whole = before_comma-all (slice_range w.neutral a.from a.end) rest in
     omega arith
 
@@ -283,16 +260,16 @@ within-room w a b cells sound part e =
     let fits = sound.fits in
     let bounded = sound.bounded in
     let within = part.within in
-    omega (arith, long, length-range w.neutral a b part.within)
+    omega (arith, long, length-between w.neutral a b part.within)
 
 pub next-fits : (w : Contents) (a : Arguments) (n : ℕ) → AreArguments w a → a.from ≤ a.end → n ≡ before_comma (slice_range w.neutral a.from a.end) → a.from + n ≤ a.end
 next-fits w a n are le e =
     let within = are.within in
-    omega (arith, e, before_comma-within (slice_range w.neutral a.from a.end), length-range w.neutral a.from a.end are.within)
+    omega (arith, e, before_comma-within (slice_range w.neutral a.from a.end), length-between w.neutral a.from a.end are.within)
 
 -- a part has as many characters as cells
 pub part-long : (neutral : List Cell) (a b : ℕ) → IsTextPart neutral a b → length (part_text neutral a b) ≡ b - a
-part-long neutral a b part = length-map (slice_range neutral a b) character_of ∙ length-range neutral a b part.within
+part-long neutral a b part = length-map (slice_range neutral a b) character_of ∙ length-between neutral a b part.within
 
 -- ---- the first argument, as its cells are read
 

@@ -3,6 +3,7 @@ use Rattle.std.proofs.Common.{◌≡◌, ℕ, ◌+◌, ◌-◌, ◌*◌, ◌≤�
 use Rattle.std.specs.Prelude.{flat_map, ◌+ℤ◌}
 use Rattle.std.specs.Int.{int_rem_euclid}
 use Rattle.std.proofs.lemmas.List.{length-append, length-replicate, length-drop, length-map}
+use Rattle.std.proofs.lemmas.List.Edits.{length-between}
 use Rattle.std.proofs.lemmas.List.FromFn.{length-map-range_with_len}
 use Rattle.trac_language.specs.Text.{Text}
 use Rattle.trac_language.specs.BitString.{Bits, is_octal, bits_of_digit, bit_at, octal, padded, cut, union, intersection, complement, shifted, rotated}
@@ -21,14 +22,14 @@ use Rattle.trac_functions.specs.declared.bit_strings.BitResult.TheVariants.{Unio
 use Rattle.trac_functions.specs.BitResults.{AreDigits, AreFor, bits_at, bits_made}
 use Rattle.trac_functions.proofs.PutCharacters.{with_text, used-with, with-both}
 use Rattle.trac_functions.proofs.ArgumentLemmas.{text_of_cells-seen}
-use Rattle.trac_functions.proofs.DigitParts.{length-part, part-append}
+use Rattle.trac_functions.proofs.DigitParts.{part-append}
 
 -- ---- how many digits there are
 
 pub length-at : (neutral : List Cell) (part : ℕ × ℕ) → AreDigits neutral part → length (bits_at neutral part) ≡ 3 * (part.1 - part.0)
 length-at neutral part are =
     let cells = slice_range neutral part.0 part.1 in
-    omega (arith, length-bits_of (text_of_cells cells), length-text cells, length-part neutral part.0 part.1 are.order are.within)
+    omega (arith, length-bits_of (text_of_cells cells), length-text cells, length-between neutral part.0 part.1 are.within)
 
 length-padded : (n : ℕ) (l : Bits) → length (padded n l) ≡ max n (length l)
 length-padded n l = omega (arith, length-append (replicate (n - length l) false) l, length-replicate {A = Bool} (n - length l) false)

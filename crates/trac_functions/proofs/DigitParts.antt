@@ -3,6 +3,7 @@ use Rattle.std.proofs.Common.{◌≡◌, ℕ, ◌+◌, ◌-◌, ◌≤◌, List,
 use Rattle.std.specs.Prelude.{slice_range, slice_get}
 use Rattle.std.specs.List.{suffix_len}
 use Rattle.std.proofs.lemmas.List.{length-take, length-drop, drop-append-le, take-append-le, drop-take, drop-drop, map_more}
+use Rattle.std.proofs.lemmas.List.Edits.{length-between}
 use Rattle.std.proofs.lemmas.Option.{slice_get_within, get_or_from_slice_get}
 use Rattle.trac_language.specs.Text.{Text}
 use Rattle.trac_language.specs.BitString.{is_octal, octal_digits, octal_prefix}
@@ -11,9 +12,6 @@ use Rattle.trac_space.specs.Texts.{text_of_cells, flat_text}
 use Rattle.trac_values.specs.Digits.{IsOctal}
 use Rattle.trac_values.proofs.Texts.{length-text}
 use Rattle.trac_values.proofs.SuffixCells.{back_is, back_passes}
-
-pub length-part : (xs : List Cell) (i j : ℕ) → i ≤ j → j ≤ length xs → length (slice_range xs i j) ≡ j - i
-length-part xs i j order within = omega (arith, length-take (j - i) (drop i xs), length-drop i xs)
 
 -- a part stays when cells are put after it
 pub part-append : (xs ys : List Cell) (i j : ℕ) → i ≤ j → j ≤ length xs → slice_range (xs ++ ys) i j ≡ slice_range xs i j
@@ -32,7 +30,7 @@ module _ (xs : List Cell) (i j n : ℕ) (order : i ≤ j) (within : j ≤ length
   inside : i + n ≤ j
   inside =
       let t = text_of_cells (slice_range xs i j) in
-      let long = length-part xs i j order within in
+      let long = length-between xs i j within in
       let text = length-text (slice_range xs i j) in
       omega (arith, length-take (length t - suffix_len is_octal t) t)
 

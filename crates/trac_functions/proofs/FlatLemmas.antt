@@ -162,16 +162,16 @@ joined-first earlier last c [] = refl
 joined-first earlier last c (text ∷ texts) = ap (λ t. earlier ++ (t ∷ texts)) (append_assoc last (c ∷ []) text)
 
 -- texts_of gives at least one text
+in_first-some : (c : ℕ) (texts : List Text) → 0 < length (in_first c texts)
+in_first-some c [] = omega arith
+in_first-some c (text ∷ texts) = omega arith
+
 with_first-some : (cell : Cell) (texts : List Text) → 0 < length (with_first cell texts)
-with_first-some (Byte c) [] = omega arith
-with_first-some (Byte c) (t ∷ ts) = omega arith
-with_first-some (Call mode k) [] = omega arith
-with_first-some (Call mode k) (t ∷ ts) = omega arith
+with_first-some (Byte c) texts = in_first-some c texts
+with_first-some (Call mode k) texts = in_first-some 0 texts
 with_first-some Comma texts = omega arith
-with_first-some (Gap k) [] = omega arith
-with_first-some (Gap k) (t ∷ ts) = omega arith
-with_first-some (Head k) [] = omega arith
-with_first-some (Head k) (t ∷ ts) = omega arith
+with_first-some (Gap k) texts = in_first-some 0 texts
+with_first-some (Head k) texts = in_first-some 0 texts
 
 pub texts_of-some : (cells : List Cell) → 0 < length (texts_of cells)
 texts_of-some [] = omega arith

@@ -1,5 +1,5 @@
 -- Lists of forms, and what the functions that change them make of a call.
-use Rattle.std.proofs.Common.{◌≡◌, ℕ, zero, suc, ◌+◌, ◌<◌, ◌≤◌, Bool, true, false, List, [], ◌∷◌, ◌++◌, length, drop, set, slice_range, subst, ◌-◌, refl, sym, ap, ◌∙◌, arith, Some, nat_le, ⊎_elim}
+use Rattle.std.proofs.Common.{◌≡◌, ℕ, zero, suc, ◌+◌, ◌<◌, ◌≤◌, Bool, true, false, List, [], ◌∷◌, ◌++◌, length, drop, set, slice_range, subst, ◌-◌, refl, sym, ap, ◌∙◌, arith, Some, ⊎_elim}
 use Rattle.std.specs.Prelude.{if◌then◌else◌, flat_map, filter, bytes_eq, not, ◌||◌}
 use Rattle.std.specs.List.{list_any}
 use Rattle.std.proofs.lemmas.Bool.{cases_lt}
@@ -23,8 +23,9 @@ use Rattle.trac_forms.proofs.Stores.{without-none}
 use Rattle.trac_forms.proofs.Parted.{parts-first, parts-none}
 use Rattle.trac_functions.specs.declared.arguments.Arguments.{Arguments}
 use Rattle.trac_functions.specs.Flat.{texts_of, in_first, with_first}
-use Rattle.trac_functions.specs.Calls.{Means, IsValue, AreArguments, texts, texts_from}
-use Rattle.trac_functions.proofs.ArgumentLemmas.{none-left, taken-part, taken-text, taken-rest, taken-left}
+use Rattle.trac_functions.specs.Calls.{Means, IsValue, AreArguments, texts}
+use Rattle.trac_functions.proofs.ArgumentLemmas.{none-left, texts_from-some, taken-part, taken-text, taken-rest, taken-left}
+use Rattle.trac_functions.proofs.FlatLemmas.{texts_of-some}
 use Rattle.trac_functions.proofs.MadeValues.{valued-of}
 
 -- a null value, of which nothing stands at the end of neutral
@@ -59,24 +60,6 @@ names-none before forms k past = ap (names before) (drop_all k forms past)
 pub arguments-kept : (w v : Contents) (a : Arguments) → AreArguments w a → IsSound v → v.neutral ≡ w.neutral → AreArguments v a
 arguments-kept w v a are sound same =
     record { sound = sound; order = are.order; within = rw same are.within; no_call = rw same are.no_call; no_comma = rw same are.no_comma }
-
-texts_from-some : (neutral : List Cell) (from end : ℕ) → from ≤ end → texts_from neutral from end ≡ texts_of (slice_range neutral from end)
-texts_from-some neutral from end le = let yes : nat_le from end ≡ true = grind arith in rw yes refl
-
-texts_of-some : (cells : List Cell) → 0 < length (texts_of cells)
-texts_of-some [] = omega arith
-texts_of-some (cell ∷ cells) = go cell (texts_of cells)
-  where
-    in_first-some : (c : ℕ) (texts : List Text) → 0 < length (in_first c texts)
-    in_first-some c [] = omega arith
-    in_first-some c (text ∷ texts) = omega arith
-
-    go : (cell : Cell) (texts : List Text) → 0 < length (with_first cell texts)
-    go (Byte c) texts = in_first-some c texts
-    go (Call mode k) texts = in_first-some 0 texts
-    go Comma texts = omega arith
-    go (Gap k) texts = in_first-some 0 texts
-    go (Head k) texts = in_first-some 0 texts
 
 first_of_some : (texts : List Text) → 0 < length texts → texts ≡ argument texts 0 ∷ drop 1 texts
 first_of_some [] some = absurd (omega arith)

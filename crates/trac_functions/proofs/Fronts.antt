@@ -11,7 +11,7 @@ use Rattle.trac_space.specs.declared.cell.Cell.{Cell}
 use Rattle.trac_space.specs.Texts.{text_of_cells, character_of, IsByte}
 use Rattle.trac_values.proofs.Texts.{length-text}
 use Rattle.trac_forms.specs.Contents.{IsTextPart, part_text}
-use Rattle.trac_functions.proofs.DigitParts.{length-part}
+use Rattle.std.proofs.lemmas.List.Edits.{length-between}
 
 -- a text that another begins with
 pub record IsFront (front text : Text) : Type 0 where
@@ -54,7 +54,7 @@ pub octal_prefix-front : (text : Text) → IsFront (octal_prefix text) text
 octal_prefix-front text = front-take (length text - suffix_len is_octal text) text
 
 pub length-part_text : (cells : List Cell) (a b : ℕ) → a ≤ b → b ≤ length cells → length (part_text cells a b) ≡ b - a
-length-part_text cells a b order within = omega (arith, length-text (slice_range cells a b), length-part cells a b order within)
+length-part_text cells a b order within = omega (arith, length-text (slice_range cells a b), length-between cells a b within)
 
 -- the front of a part, and what is behind it
 module _ (cells : List Cell) (a b n : ℕ) (part : IsTextPart cells a b) (front : Text) (is : IsFront front (part_text cells a b)) (long : n ≡ length front) where

@@ -84,4 +84,3 @@ module _ (old now : Contents) (whole left : Text) (put : HasPut old now whole le
 
   pub text-kept : (a b : ℕ) → IsTextPart old.neutral a b → part_text now.neutral a b ≡ part_text old.neutral a b
   text-kept a b part = rw (kept a b part.within) refl
-  -- and so do the arguments of a call

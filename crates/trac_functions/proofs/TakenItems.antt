@@ -2,6 +2,7 @@
 use Rattle.std.proofs.Common.{◌≡◌, ℕ, zero, suc, ◌+◌, ◌-◌, ◌<◌, ◌≤◌, min, Bool, true, false, List, [], ◌∷◌, ◌++◌, length, take, drop, reverse, All, slice_range, get_or, refl, sym, ap, ◌∙◌, arith, append_assoc, append-nil, length-append}
 use Rattle.std.proofs.lemmas.List.{length-take, length-drop, length-reverse, get_or-drop, get_or-reverse, get_or-take, drop-drop, drop-take, take-append-drop, reverse-append, reverse-reverse, take-take, map-append, length-map}
 use Rattle.std.proofs.Math.Seq.{take-append_seam, take-add, drop-append_seam}
+use Rattle.std.proofs.lemmas.List.Edits.{length-between}
 use Rattle.trac_language.specs.declared.item.Item.{Item}
 use Rattle.trac_language.specs.declared.item.Item.TheVariants.{Byte, Gap}
 use Rattle.trac_language.specs.Text.{Text}
@@ -267,13 +268,10 @@ text_of-split body a b c ab bc =
 range-at : (body : List Item) (a b k : ℕ) → k < b - a → get_or (slice_range body a b) k (Byte 0) ≡ get_or body (a + k) (Byte 0)
 range-at body a b k lt = get_or-take (b - a) (drop a body) k (Byte 0) lt ∙ get_or-drop a body k (Byte 0)
 
-length-range : (body : List Item) (a b : ℕ) → b ≤ length body → length (slice_range body a b) ≡ b - a
-length-range body a b within = length-take (b - a) (drop a body) ∙ ap (λ n. min (b - a) n) (length-drop a body) ∙ omega arith
-
 -- gaps alone have no text
 pub text_of-gaps : (body : List Item) (a b : ℕ) → b ≤ length body → NonePasses (character_at body) a b → text_of (slice_range body a b) ≡ []
 text_of-gaps body a b within none =
-    no-character (slice_range body a b) (λ k lt. let long = length-range body a b within in ap is_character (range-at body a b k (omega arith)) ∙ none (a + k) (omega arith) (omega arith))
+    no-character (slice_range body a b) (λ k lt. let long = length-between body a b within in ap is_character (range-at body a b k (omega arith)) ∙ none (a + k) (omega arith) (omega arith))
 
 -- characters alone are as many as their text
 pub all-characters : (items : List Item) → All (λ item. is_character item ≡ true) items → length (text_of items) ≡ length items
@@ -282,7 +280,7 @@ all-characters (Byte c ∷ items) all = ap suc (all-characters items (λ k d lt.
 all-characters (Gap g ∷ items) all = absurd (let wrong = all 0 (Byte 0) (omega arith) in cc)
 
 pub length-characters : (body : List Item) (a b : ℕ) → b ≤ length body → All (λ item. is_character item ≡ true) (slice_range body a b) → length (text_of (slice_range body a b)) ≡ b - a
-length-characters body a b within all = all-characters (slice_range body a b) all ∙ length-range body a b within
+length-characters body a b within all = all-characters (slice_range body a b) all ∙ length-between body a b within
 
 -- ---- a run of characters
 

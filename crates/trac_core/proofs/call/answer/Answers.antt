@@ -1,6 +1,7 @@
 use Rattle.trac_core.proofs.Words.{refl, inl, arith, rules, drop, Some, ap, ◌∙◌, argument, arguments_at, texts}
 use Rattle.trac_core.proofs.Performing.{texts-all, named-at, plain-rest, answers-nothing, answers-made, stands-made, no-failure-made, only-full}
 use Rattle.trac_core.proofs.Printing.{answers-halt}
+use Rattle.std.proofs.lemmas.Grind.{common_steps}
 use Rattle.trac_core.proofs.call.answer.Goals as goal
 
 pub returns-in_default-clause-answers : goal.returns-in_default-clause-answers
@@ -33,3 +34,33 @@ returns-in_default-function g c =
       takes = search rules;
       keeps = c.value_of.ensures.keeps;
     }
+
+pub function-requires-clause-arguments : goal.function-requires-clause-arguments
+function-requires-clause-arguments g c = grind (arith, common_steps)
+
+pub returns-in-ReadString-clause-answers : goal.returns-in-ReadString-clause-answers
+returns-in-ReadString-clause-answers g c = grind (arith, common_steps)
+
+pub returns-in-ReadString-clause-source : goal.returns-in-ReadString-clause-source
+returns-in-ReadString-clause-source g c = grind (arith, common_steps)
+
+pub returns-in-ReadCharacter-clause-answers : goal.returns-in-ReadCharacter-clause-answers
+returns-in-ReadCharacter-clause-answers g c = grind (arith, common_steps)
+
+pub returns-in-ReadCharacter-clause-source : goal.returns-in-ReadCharacter-clause-source
+returns-in-ReadCharacter-clause-source g c = grind (arith, common_steps)
+
+pub returns-in-PrintString-clause-answers : goal.returns-in-PrintString-clause-answers
+returns-in-PrintString-clause-answers g c = grind (arith, common_steps)
+
+pub returns-in-PrintString-clause-sink : goal.returns-in-PrintString-clause-sink
+returns-in-PrintString-clause-sink g c = grind (arith, common_steps)
+
+pub returns-in-PrintForm-clause-answers : goal.returns-in-PrintForm-clause-answers
+returns-in-PrintForm-clause-answers g c = grind (arith, common_steps)
+
+pub returns-in-PrintForm-clause-sink : goal.returns-in-PrintForm-clause-sink
+returns-in-PrintForm-clause-sink g c = grind (arith, common_steps)
+
+pub returns-in-ChangeMeta-clause-answers : goal.returns-in-ChangeMeta-clause-answers
+returns-in-ChangeMeta-clause-answers g c = grind (arith, common_steps)
