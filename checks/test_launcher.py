@@ -20,7 +20,7 @@ SOURCE = os.path.join('crates', 'trac_core', 'src', 'machine.rt')
 NOBODY = 65534
 AS_NOBODY = {'user': NOBODY, 'group': NOBODY} if os.getuid() == 0 else {}
 FIRST = ('trac: building the program, and proving it: '
-         'some six minutes on four idle cores ..\n')
+         'some eight minutes on four idle cores ..\n')
 AGAIN = 'trac: building the program again, and proving what changed ..\n'
 RT = """#!/bin/sh
 echo "$1 ${{PWD##*/}}" >>'{calls}'

@@ -448,7 +448,7 @@ fn index_worthwhile(space: &mut Space, count: u32, toil: &mut u32)
     ensures same { space.new ≡ record space.old { spare = space.new.spare } }
     ensures index { IsIndexed space.new.spare (forms_in space.old.store) }
 {
-    if (*toil / COST).saturating_sub(count) < space.active_len() / 512 {
+    if (*toil / COST).saturating_sub(count) < space.active_len() / 256 {
         return;
     }
     *toil = 0;
