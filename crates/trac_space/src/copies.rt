@@ -351,6 +351,23 @@ pub(crate) fn copy_forward(cells: &mut [Cell], start: usize, end: usize, to: usi
     }
 }
 
+// As `copy_within`, for moves to a place before. A few blocks go by code that stands where it is used.
+#[inline(always)]
+pub(crate) fn copy_back(cells: &mut [Cell], start: usize, end: usize, to: usize)
+    requires order { start ≤ end }
+    requires within { end ≤ length cells.old }
+    requires before { to ≤ start }
+    ensures len { length cells.new ≡ length cells.old }
+    ensures after { cells.new ≡ copy_within cells.old start end to }
+{
+    let n = end - start;
+    if n >= BLOCK && n <= FEW && start - to >= BLOCK {
+        copy_blocks_before(cells, start, n, to);
+    } else {
+        copy_cells(cells, start, end, to);
+    }
+}
+
 // As `copy_within`, to a place so far behind that the places are apart. A move of eight cells or
 // more goes by blocks, of which the last may begin in the one before it; a shorter one by two
 // halves, which may do so too.
