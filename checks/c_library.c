@@ -1,6 +1,6 @@
-/* c_library turns CELLS STEPS ROOM PIECE MOST: the same by trac_turn, with the script in pieces of
- * PIECE bytes and MOST steps a turn; each turn has an output of ROOM bytes, or of as many as a step
- * asked for.
+/* c_library turns CELLS STEPS MOST ROOM PIECE ..: the same by trac_turn, with MOST steps a turn, once
+ * for each ROOM and PIECE: the script is given in pieces of PIECE bytes, and each turn has an output
+ * of ROOM bytes, or of as many as a step asked for.
  * c_library CELLS STEPS ROOM [STACK]: runs the script on standard input, by trac_run, in a block of
  * CELLS cells with an output of ROOM bytes; with STACK on a stack of so many bytes, between pages
  * that can't be touched. Writes the output on standard output, and the numbers of the report on
@@ -254,11 +254,27 @@ static void view(uint64_t most) {
     free(seen);
 }
 
+/* The buffers of a run with an output of so many bytes. */
+static void begin(const uint8_t *script, size_t room) {
+    run.room = room;
+    run.block = buffer(run.cells > TRAC_MOST_CELLS ? 0 : run.cells * TRAC_CELL_SIZE);
+    run.script = (uint8_t *)buffer(run.script_len);
+    run.output = (uint8_t *)buffer(run.room);
+    memcpy(run.script, script, run.script_len);
+}
+
+static void end(void) {
+    tell(run.report);
+    free(run.block);
+    free(run.script);
+    free(run.output);
+}
+
 int main(int argc, char **argv) {
     static uint8_t read[1 << 22];
     if (argc == 2 && strcmp(argv[1], "pointers") == 0)
         return pointers();
-    const int in_turns = argc == 7 && strcmp(argv[1], "turns") == 0;
+    const int in_turns = argc > 6 && argc % 2 && strcmp(argv[1], "turns") == 0;
     const int viewed = argc == 5 && strcmp(argv[1], "view") == 0;
     if (in_turns || viewed) {
         argc--;
@@ -269,25 +285,25 @@ int main(int argc, char **argv) {
     run.script_len = fread(read, 1, sizeof read, stdin);
     run.cells = strtoul(argv[1], 0, 10);
     run.steps = strtoull(argv[2], 0, 10);
-    run.room = strtoul(argv[3], 0, 10);
-    run.block = buffer(run.cells > TRAC_MOST_CELLS ? 0 : run.cells * TRAC_CELL_SIZE);
-    run.script = (uint8_t *)buffer(run.script_len);
-    run.output = (uint8_t *)buffer(run.room);
-    memcpy(run.script, read, run.script_len);
+    const uint64_t third = strtoull(argv[3], 0, 10);
+    if (in_turns) {
+        for (int at = 4; at < argc; at += 2) {
+            begin(read, strtoul(argv[at], 0, 10));
+            run_in_turns(strtoul(argv[at + 1], 0, 10), third);
+            end();
+        }
+        return 0;
+    }
+    begin(read, third);
     if (viewed) {
         run.room = 1 << 20;
-        view(strtoull(argv[3], 0, 10));
-    } else if (in_turns)
-        run_in_turns(strtoul(argv[4], 0, 10), strtoull(argv[5], 0, 10));
-    else if (argc > 4)
+        view(third);
+    } else if (argc > 4)
         run_on_stack(strtoul(argv[4], 0, 10));
     else
         run_at_once();
-    if (!in_turns && !viewed)
+    if (!viewed)
         fwrite(run.output, 1, run.report.written, stdout);
-    tell(run.report);
-    free(run.block);
-    free(run.script);
-    free(run.output);
+    end();
     return 0;
 }

@@ -8,7 +8,7 @@ import tempfile
 import unittest
 
 from rows import Row, rows
-from trac import TOP, report, trace
+from trac import TOP, release, report, trace
 
 DIST = os.path.join(TOP, 'dist')
 LIBRARY = os.path.join(DIST, 'libtrac.a')
@@ -42,10 +42,6 @@ ESCAPED = {9: r'\t', 10: r'\n', 13: r'\r', 92: r'\\'}
 STACK = 8 * 1024
 
 
-def build_library():
-    subprocess.run([os.path.join(TOP, 'release'), 'library'], check=True)
-
-
 def compiled(folder, compiler, flags, source=DRIVER, headers=DIST, engine=LIBRARY):
     program = os.path.join(folder, f'{compiler}{len(os.listdir(folder))}')
     subprocess.run([compiler, '-I', headers, '-I', DIST, '-o', program, *flags, source,
@@ -53,13 +49,30 @@ def compiled(folder, compiler, flags, source=DRIVER, headers=DIST, engine=LIBRAR
     return program
 
 
-def call(program, script, *numbers, kind=None):
+def call(program, script, *numbers):
     """What a run printed, and the numbers of its report."""
-    words = ([kind] if kind else []) + [str(number) for number in numbers]
-    done = subprocess.run([program, *words], input=script, capture_output=True, timeout=60)
+    done = subprocess.run([program, *map(str, numbers)], input=script, capture_output=True,
+                          timeout=60)
     if done.returncode:
         raise AssertionError(f'{done.returncode}: {done.stderr.decode()}')
     return done.stdout, *map(int, done.stderr.split())
+
+
+def turns(program, row, most, sizes):
+    """The same of runs by turns of so many steps, one for each size of the output and of the pieces."""
+    words = [str(number) for pair in sizes for number in pair]
+    done = subprocess.run([program, 'turns', str(row.cells), str(row.allowed), str(most), *words],
+                          input=row.script, capture_output=True, timeout=60)
+    if done.returncode:
+        raise AssertionError(f'{done.returncode}: {done.stderr.decode()}')
+    found, output = [], done.stdout
+    for line in done.stderr.splitlines():
+        numbers = [int(number) for number in line.split()]
+        found.append((output[:numbers[3]], *numbers))
+        output = output[numbers[3]:]
+    if output or len(found) != len(sizes):
+        raise AssertionError(f'{row}: {len(found)} runs, and {output} behind them')
+    return found
 
 
 def shown(code):
@@ -111,15 +124,14 @@ class Engine:
                         self.assertEqual(consumed, len(row.script))
 
     def test_each_row_in_turns(self):
-        for piece in PIECES:
-            for most in (1, 1000):
-                # the third program at one size of a turn, which is enough for it
-                program = self.programs[2 if most == 1000 else 0]
-                for row in rows():
-                    with self.subTest(row=row, piece=piece, most=most):
-                        output, fate, steps, peak, written, consumed, left = call(
-                            program, row.script, row.cells, row.allowed, len(row.output), piece,
-                            most, kind='turns')
+        for most in (1, 1000):
+            # the third program at one size of a turn, which is enough for it
+            program = self.programs[2 if most == 1000 else 0]
+            for row in rows():
+                sizes = [(len(row.output), piece) for piece in PIECES]
+                for size, told in zip(sizes, turns(program, row, most, sizes)):
+                    output, fate, steps, peak, written, consumed, left = told
+                    with self.subTest(row=row, size=size, most=most):
                         self.assertEqual(
                             (output, STATUS.get(fate), steps, peak, written),
                             (row.output, row.status, row.steps, row.peak, len(row.output)))
@@ -127,12 +139,11 @@ class Engine:
                         self.assertEqual(left, 0)
 
     def test_each_row_in_turns_with_little_room_for_output(self):
-        for room in (0, 1, 5):
-            for row in rows():
-                with self.subTest(row=row, room=room):
-                    output, fate, steps, peak, written, *_ = call(
-                        self.programs[2], row.script, row.cells, row.allowed, room, 7, 1000,
-                        kind='turns')
+        sizes = [(room, 7) for room in (0, 1, 5)]
+        for row in rows():
+            for size, told in zip(sizes, turns(self.programs[2], row, 1000, sizes)):
+                output, fate, steps, peak, written, *_ = told
+                with self.subTest(row=row, size=size):
                     self.assertEqual(
                         (output, STATUS.get(fate), steps, peak, written),
                         (row.output, row.status, row.steps, row.peak, len(row.output)))
@@ -188,14 +199,15 @@ class Engine:
         ])
 
     def test_a_string_that_the_cells_can_not_hold(self):
+        sizes = [(64, piece) for piece in (1, 7, 64)]
         for length in range(1, 40):
             script = b'x' * length
             for cells in range(11, 31):
                 wanted = report(script, '--cells', str(cells))
-                for piece in (1, 7, 64):
-                    with self.subTest(length=length, cells=cells, piece=piece):
-                        output, fate, steps, peak, *_ = call(
-                            self.programs[0], script, cells, 1000, 64, piece, 1000, kind='turns')
+                row = Row(script, cells, 1000, *wanted)
+                for size, told in zip(sizes, turns(self.programs[0], row, 1000, sizes)):
+                    output, fate, steps, peak, *_ = told
+                    with self.subTest(length=length, cells=cells, size=size):
                         self.assertEqual((output, steps, peak, STATUS[fate]), wanted)
 
     def test_an_output_that_is_too_small(self):
@@ -221,7 +233,7 @@ class Engine:
 class Library(Engine, unittest.TestCase):
     @classmethod
     def setUpClass(cls):
-        build_library()
+        release('library')
         cls.folder = tempfile.mkdtemp()
         cls.addClassCleanup(shutil.rmtree, cls.folder)
         cls.programs = [compiled(cls.folder, 'gcc', STRICT), compiled(cls.folder, 'clang', STRICT),

@@ -1,5 +1,5 @@
 """The program that the page on embedding makes, word for word: its commands and its files, in a copy
-of the crates with what is kept of their proofs."""
+of the crates with their built libraries."""
 import os
 import re
 import shutil
@@ -20,10 +20,16 @@ def read():
         return SECTION.search(page.read()).group(1)
 
 
+def left_out(folder, names):
+    """What was made in a folder, but for its library."""
+    return set(names) - {'rlib'} if os.path.basename(folder) == 'out' else set()
+
+
 def copy_crates(place):
     for name in ('crates.txt', 'HANDLES'):
         shutil.copy(os.path.join(TOP, name), place)
-    shutil.copytree(os.path.join(TOP, 'crates'), os.path.join(place, 'crates'), symlinks=True)
+    shutil.copytree(os.path.join(TOP, 'crates'), os.path.join(place, 'crates'), symlinks=True,
+                    ignore=left_out)
 
 
 def do(commands, place):

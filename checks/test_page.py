@@ -4,12 +4,11 @@ import glob
 import json
 import os
 import re
-import subprocess
 import sys
 import unittest
 
 from test_trace import rows as traced
-from trac import TOP, report, run, trace
+from trac import TOP, release, report, run, trace
 
 # Where Debian puts what belongs to no Python of one's own.
 sys.path.append('/usr/lib/python3/dist-packages')
@@ -64,7 +63,7 @@ CONTRAST = """
 
 def setUpModule():
     global browser
-    subprocess.run([os.path.join(TOP, 'release')], check=True)
+    release()
     options = webdriver.ChromeOptions()
     options.binary_location = '/usr/bin/chromium'
     for word in ('--headless=new', '--no-sandbox', '--disable-gpu', '--disable-dev-shm-usage'):

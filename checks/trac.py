@@ -12,6 +12,8 @@ LAUNCHER = os.path.join(TOP, 'trac')
 PROGRAM = os.path.join(TOP, 'crates', 'trac_cli', 'out', 'trac_cli')
 TRACER = os.path.join(TOP, 'crates', 'trac_trace', 'out', 'trac_trace')
 TERMINAL = os.path.join(TOP, 'crates', 'trac_terminal', 'out', 'trac_terminal')
+# Set in the environment where ./release was run for all checks together.
+RELEASED = 'RELEASED'
 
 
 def crates_of(crate):
@@ -26,6 +28,12 @@ def crates_of(crate):
                 found.add(name)
                 left.append(name)
     return [name for name in uses if name in found]
+
+
+def release(*words):
+    """Makes dist/, or a part of it, where that was not done before."""
+    if RELEASED not in os.environ:
+        subprocess.run([os.path.join(TOP, 'release'), *words], check=True)
 
 
 def run(script, *words, **more):

@@ -45,7 +45,7 @@ static void give(const uint8_t *script, size_t len) {
 static trac_report taken(trac_report report, uint8_t *output, size_t output_len) {
     if (report.written > output_len)
         exit(91);
-    if (report.written)
+    if (output)
         memcpy(output, trac_engine_output(plain), report.written);
     return report;
 }
