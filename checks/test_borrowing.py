@@ -67,7 +67,7 @@ class Borrowing(unittest.TestCase):
         self.assertFalse(passes)
         self.assertRegex(
             said, r'main.rt:13:\d+: error\[borrow-e0502\]: cannot borrow `block` as immutable')
-        self.assertEqual(len(re.findall(r'error[\[:]', said)), 1)
+        self.assertEqual(len(re.findall(r'\berror[\[:]', said)), 1)
 
     def test_after_its_last_use(self):
         # the same compiles and runs, which takes no proof

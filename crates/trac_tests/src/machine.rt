@@ -25,6 +25,8 @@ const HELLO: &str = "#(ps,hello)'";
 
 const LOOP: &str = "#(ds,L,(#(cl,L)))#(cl,L)'";
 
+const DEFINING: &[u8] = b"#(ds,A,b)'";
+
 const SHOWN: &str = "#(ds,F,a-b)#(ss,F,-)#(pf,F)'";
 
 /// What a run came to, and what it wrote; the bytes past that are 0.
@@ -181,9 +183,9 @@ fn displays(rt: HostRuntime) {
 
 #[test]
 fn reports(rt: HostRuntime) {
-    for (script, cells, allowance, output, fate, steps, peak) in REPORTS {
-        let got = outcome(script.as_bytes(), cells, allowance);
-        came_to(&rt, &got, output, fate, steps, peak);
+    for (script, cells, allowance, output, fate, steps, peak) in &REPORTS {
+        let got = outcome(script.as_bytes(), *cells, *allowance);
+        came_to(&rt, &got, output, *fate, *steps, *peak);
     }
 }
 
@@ -230,13 +232,21 @@ fn answer_in(rt: &impl Abort, rows: &[(&str, &str)], block: &mut [Cell])
     }
 }
 
+fn answer_each_in(rt: &impl Abort, tables: &[&[(&str, &str)]], block: &mut [Cell])
+    requires { length block.old ≤ 16777216 }
+{
+    for rows in tables {
+        answer_in(rt, rows, block);
+    }
+}
+
 fn report_in(rt: &impl Abort, block: &mut [Cell])
     requires { length block.old ≤ 16777216 }
 {
-    for (script, cells, allowance, output, fate, steps, peak) in REPORTS {
-        if cells == AMPLE {
-            let got = run(script.as_bytes(), NO_FAULTS, block, allowance);
-            came_to(rt, &got, output, fate, steps, peak);
+    for (script, cells, allowance, output, fate, steps, peak) in &REPORTS {
+        if *cells == AMPLE {
+            let got = run(script.as_bytes(), NO_FAULTS, block, *allowance);
+            came_to(rt, &got, output, *fate, *steps, *peak);
         }
     }
 }
@@ -244,13 +254,10 @@ fn report_in(rt: &impl Abort, block: &mut [Cell])
 #[test]
 fn rows_in_a_block_of_the_default_size(rt: HostRuntime) -> Result<(), Fail> {
     let mut block = make_block(rt.alloc(), DEFAULT)?;
-    answer_in(&rt, &SCANNED, &mut block);
-    answer_in(&rt, &READ, &mut block);
-    answer_in(&rt, &HALTING, &mut block);
-    answer_in(&rt, &FORMS, &mut block);
-    answer_in(&rt, &PARTS, &mut block);
-    answer_in(&rt, &VALUES, &mut block);
-    answer_in(&rt, &DISPLAYED, &mut block);
+    let tables: [&[(&str, &str)]; 7] = [
+        &SCANNED, &READ, &HALTING, &FORMS, &PARTS, &VALUES, &DISPLAYED,
+    ];
+    answer_each_in(&rt, &tables, &mut block);
     Ok(())
 }
 
@@ -276,14 +283,14 @@ fn input_that_stops(rt: HostRuntime) {
 
 #[test]
 fn rooms_of_a_refusal(rt: HostRuntime) {
-    for (script, least) in [(HELLO, 19), ("#(ds,A,b)'", 17)] {
-        for cells in 0..least {
+    for (script, least) in &[(HELLO, 19), ("#(ds,A,b)'", 17)] {
+        for cells in 0..*least {
             let got = outcome(script.as_bytes(), cells, MANY);
             let (steps, peak) = if cells < 11 { (0, 0) } else { (8, 11) };
             came_to(&rt, &got, "", Fate::Workspace, steps, peak);
         }
         assert_eq!(rt;
-            outcome(script.as_bytes(), least, MANY).report.fate,
+            outcome(script.as_bytes(), *least, MANY).report.fate,
             Fate::InputEnded
         );
     }
@@ -299,10 +306,9 @@ fn block_of_other_cells(rt: HostRuntime) {
 }
 
 #[test]
-fn block_after_runs(rt: HostRuntime) {
+fn block_after_a_run(rt: HostRuntime) {
     let mut block = [Cell::Byte(0); 17];
-    let defining = b"#(ds,A,b)'".as_slice();
-    let got = run(defining, NO_FAULTS, &mut block, MANY);
+    let got = run(DEFINING, NO_FAULTS, &mut block, MANY);
     came_to(&rt, &got, "", Fate::InputEnded, 27, 17);
     let form = matches!(
         &block[..5],
@@ -315,14 +321,19 @@ fn block_after_runs(rt: HostRuntime) {
         ]
     );
     assert!(rt; form);
-    // the forms of the run before are gone, however it ended
-    for (script, output) in [
+}
+
+// The forms of the run before are gone, however it ended.
+#[test]
+fn block_after_runs(rt: HostRuntime) {
+    let mut block = [Cell::Byte(0); 17];
+    for (script, output) in &[
         ("#(ln,/)'", ""),
         ("#(cl,A)'", ""),
         ("(unclosed'", ""),
         ("a'", "a"),
     ] {
-        run(defining, NO_FAULTS, &mut block, MANY);
+        run(DEFINING, NO_FAULTS, &mut block, MANY);
         let got = run(script.as_bytes(), NO_FAULTS, &mut block, MANY);
         assert!(rt; got == outcome(script.as_bytes(), 17, MANY), "{script}");
         assert!(rt; got.output() == output.as_bytes(), "{script}");

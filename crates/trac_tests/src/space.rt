@@ -1,4 +1,5 @@
 //! The three lists of a block.
+use std::process::Abort;
 use std::test::Fail;
 use trac_space::{Cell, Mode, Space, make_block};
 
@@ -75,37 +76,39 @@ fn numbers_of_call_marks(rt: HostRuntime) {
     assert!(rt; space.last_call().is_none());
 }
 
+fn moves_to_the_store(rt: &impl Abort, block: &mut [Cell; 3]) {
+    let mut space = Space::over(block);
+    assert!(rt; space.load_active(b"C"));
+    assert!(rt; space.push_neutral(Cell::Byte(b'A')));
+    space.neutral_to_store(0);
+    assert!(rt; space.push_neutral(Cell::Byte(b'B')));
+    assert!(rt; !space.push_neutral(Cell::Byte(b'D')));
+    space.neutral_to_store(0);
+    assert!(rt; is_byte(space.store_at(0), b'A'));
+    assert!(rt; is_byte(space.store_at(1), b'B'));
+    assert!(rt; space.neutral_len() == 0);
+    assert!(rt; is_byte(space.active_at(0), b'C'));
+}
+
+fn moves_to_the_active_string(rt: &impl Abort, block: &mut [Cell; 3]) {
+    let mut space = Space::over(block);
+    assert!(rt; space.load_active(b"C"));
+    assert!(rt; space.push_neutral(Cell::Byte(b'A')));
+    space.neutral_to_store(0);
+    assert!(rt; space.push_neutral(Cell::Byte(b'B')));
+    space.neutral_to_active(0);
+    assert!(rt; is_byte(space.store_at(0), b'A'));
+    assert!(rt; space.neutral_len() == 0);
+    assert!(rt; is_byte(space.active_at(0), b'B'));
+    assert!(rt; is_byte(space.active_at(1), b'C'));
+}
+
 #[test]
 fn moves_with_no_free_cell(rt: HostRuntime) {
     let mut block = [Cell::Gap(7); 3];
-    {
-        let mut space = Space::over(&mut block);
-        assert!(rt; space.load_active(b"C"));
-        assert!(rt; space.push_neutral(Cell::Byte(b'A')));
-        space.neutral_to_store(0);
-        assert!(rt; space.push_neutral(Cell::Byte(b'B')));
-        assert!(rt; !space.push_neutral(Cell::Byte(b'D')));
-        space.neutral_to_store(0);
-        assert!(rt; is_byte(space.store_at(0), b'A'));
-        assert!(rt; is_byte(space.store_at(1), b'B'));
-        assert!(rt; space.neutral_len() == 0);
-        assert!(rt; is_byte(space.active_at(0), b'C'));
-    }
-    {
-        let mut space = Space::over(&mut block);
-        assert!(rt; space.load_active(b"C"));
-        assert!(rt; space.push_neutral(Cell::Byte(b'A')));
-        space.neutral_to_store(0);
-        assert!(rt; space.push_neutral(Cell::Byte(b'B')));
-        space.neutral_to_active(0);
-        assert!(rt; is_byte(space.store_at(0), b'A'));
-        assert!(rt; space.neutral_len() == 0);
-        assert!(rt; is_byte(space.active_at(0), b'B'));
-        assert!(rt; is_byte(space.active_at(1), b'C'));
-    }
-    assert!(rt; is_byte(Some(block[0]), b'A'));
-    assert!(rt; is_byte(Some(block[1]), b'B'));
-    assert!(rt; is_byte(Some(block[2]), b'C'));
+    moves_to_the_store(&rt, &mut block);
+    moves_to_the_active_string(&rt, &mut block);
+    assert!(rt; are_bytes(&block, b"ABC"));
 }
 
 #[test]

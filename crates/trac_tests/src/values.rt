@@ -29,25 +29,23 @@ fn byte_at(text: &str, place: u32) -> Option<u8> {
 
 #[test]
 fn same_texts(rt: HostRuntime) -> Result<(), Fail> {
-    for (a, b, same) in [
+    for (a, b, same) in &[
         ("", "", true),
         ("a", "a", true),
         ("a", "A", false),
         ("ab", "a", false),
         ("ab", "ac", false),
     ] {
-        assert_eq!(rt;
-            equal(&cells(&rt, rt.alloc(), a)?, &cells(&rt, rt.alloc(), b)?),
-            same,
-            "{a} {b}"
-        );
+        let left = cells(&rt, rt.alloc(), a)?;
+        let right = cells(&rt, rt.alloc(), b)?;
+        assert!(rt; equal(&left, &right) == *same, "{a} {b}");
     }
     Ok(())
 }
 
 #[test]
 fn tail_numbers(rt: HostRuntime) -> Result<(), Fail> {
-    let rows = [
+    let rows = &[
         ("Apples5", 6, Some(5)),
         ("x-07", 1, Some(-7)),
         ("--5", 1, Some(-5)),
@@ -71,15 +69,15 @@ fn tail_numbers(rt: HostRuntime) -> Result<(), Fail> {
     ];
     for (text, start, value) in rows {
         let number = tail_number(&cells(&rt, rt.alloc(), text)?);
-        assert_eq!(rt; number.start, start, "{text}");
-        assert_eq!(rt; number.value, value, "{text}");
+        assert!(rt; number.start == *start, "{text}");
+        assert!(rt; number.value == *value, "{text}");
     }
     Ok(())
 }
 
 #[test]
 fn greater_numbers(rt: HostRuntime) -> Result<(), Fail> {
-    let rows = [
+    let rows = &[
         ("100000000000000000000", "99999999999999999999", true),
         ("99999999999999999999", "100000000000000000000", false),
         ("x007", "7", false),
@@ -92,11 +90,9 @@ fn greater_numbers(rt: HostRuntime) -> Result<(), Fail> {
         ("-5", "3", false),
     ];
     for (a, b, is_greater) in rows {
-        assert_eq!(rt;
-            greater(&cells(&rt, rt.alloc(), a)?, &cells(&rt, rt.alloc(), b)?),
-            is_greater,
-            "{a} {b}"
-        );
+        let left = cells(&rt, rt.alloc(), a)?;
+        let right = cells(&rt, rt.alloc(), b)?;
+        assert!(rt; greater(&left, &right) == *is_greater, "{a} {b}");
     }
     Ok(())
 }
@@ -196,23 +192,18 @@ const RESULTS: [(Arith, &str, &str, Option<i128>); 19] = [
 
 #[test]
 fn results_of_arithmetic(rt: HostRuntime) -> Result<(), Fail> {
-    for (operation, a, b, value) in RESULTS {
-        assert_eq!(rt;
-            calculated(
-                operation,
-                &cells(&rt, rt.alloc(), a)?,
-                &cells(&rt, rt.alloc(), b)?
-            ),
-            value,
-            "{a} {b}"
-        );
+    for (operation, a, b, value) in &RESULTS {
+        let left = cells(&rt, rt.alloc(), a)?;
+        let right = cells(&rt, rt.alloc(), b)?;
+        let got = calculated(*operation, &left, &right);
+        assert!(rt; got == *value, "{a} {b}");
     }
     Ok(())
 }
 
 #[test]
 fn counts(rt: HostRuntime) -> Result<(), Fail> {
-    let rows = [
+    let rows = &[
         ("2", false, 2),
         ("-1", true, 1),
         ("-0", false, 0),
@@ -223,42 +214,34 @@ fn counts(rt: HostRuntime) -> Result<(), Fail> {
     ];
     for (text, negative, size) in rows {
         let count = count_of(&cells(&rt, rt.alloc(), text)?);
-        assert_eq!(rt; count.negative, negative, "{text}");
-        assert_eq!(rt; count.size, size, "{text}");
+        assert!(rt; count.negative == *negative, "{text}");
+        assert!(rt; count.size == *size, "{text}");
     }
     Ok(())
 }
 
 #[test]
 fn octal_starts(rt: HostRuntime) -> Result<(), Fail> {
-    for (text, start) in [("a42", 1), ("x09", 3), ("78", 2), ("077", 0), ("", 0)] {
-        assert_eq!(rt;
-            octal_start(&cells(&rt, rt.alloc(), text)?),
-            start,
-            "{text}"
-        );
+    for (text, start) in &[("a42", 1), ("x09", 3), ("78", 2), ("077", 0), ("", 0)] {
+        let bits = cells(&rt, rt.alloc(), text)?;
+        assert!(rt; octal_start(&bits) == *start, "{text}");
     }
     Ok(())
 }
 
 #[test]
 fn unions(rt: HostRuntime) -> Result<(), Fail> {
-    for (a, b, digits) in [
+    for (a, b, digits) in &[
         ("12", "4", "16"),
         ("a1", "b20", "21"),
         ("", "", ""),
         ("7", "x", "7"),
     ] {
+        let left = cells(&rt, rt.alloc(), a)?;
+        let right = cells(&rt, rt.alloc(), b)?;
         for place in 0..4 {
-            assert_eq!(rt;
-                bool_union(
-                    &cells(&rt, rt.alloc(), a)?,
-                    &cells(&rt, rt.alloc(), b)?,
-                    place
-                ),
-                byte_at(digits, place),
-                "{a} {b} {place}"
-            );
+            let digit = bool_union(&left, &right, place);
+            assert!(rt; digit == byte_at(digits, place), "{a} {b} {place}");
         }
     }
     Ok(())
@@ -266,17 +249,12 @@ fn unions(rt: HostRuntime) -> Result<(), Fail> {
 
 #[test]
 fn intersections(rt: HostRuntime) -> Result<(), Fail> {
-    for (a, b, digits) in [("17", "5", "5"), ("", "7", ""), ("123", "x77", "23")] {
+    for (a, b, digits) in &[("17", "5", "5"), ("", "7", ""), ("123", "x77", "23")] {
+        let left = cells(&rt, rt.alloc(), a)?;
+        let right = cells(&rt, rt.alloc(), b)?;
         for place in 0..4 {
-            assert_eq!(rt;
-                bool_intersection(
-                    &cells(&rt, rt.alloc(), a)?,
-                    &cells(&rt, rt.alloc(), b)?,
-                    place
-                ),
-                byte_at(digits, place),
-                "{a} {b} {place}"
-            );
+            let digit = bool_intersection(&left, &right, place);
+            assert!(rt; digit == byte_at(digits, place), "{a} {b} {place}");
         }
     }
     Ok(())
@@ -284,13 +262,11 @@ fn intersections(rt: HostRuntime) -> Result<(), Fail> {
 
 #[test]
 fn complements(rt: HostRuntime) -> Result<(), Fail> {
-    for (a, digits) in [("05", "72"), ("x09", ""), ("a01234567", "76543210")] {
+    for (a, digits) in &[("05", "72"), ("x09", ""), ("a01234567", "76543210")] {
+        let bits = cells(&rt, rt.alloc(), a)?;
         for place in 0..9 {
-            assert_eq!(rt;
-                bool_complement(&cells(&rt, rt.alloc(), a)?, place),
-                byte_at(digits, place),
-                "{a} {place}"
-            );
+            let digit = bool_complement(&bits, place);
+            assert!(rt; digit == byte_at(digits, place), "{a} {place}");
         }
     }
     Ok(())
@@ -298,7 +274,7 @@ fn complements(rt: HostRuntime) -> Result<(), Fail> {
 
 #[test]
 fn shifts(rt: HostRuntime) -> Result<(), Fail> {
-    let rows = [
+    let rows = &[
         ("1", "42", "04"),
         ("-1", "42", "21"),
         ("3", "", ""),
@@ -309,16 +285,11 @@ fn shifts(rt: HostRuntime) -> Result<(), Fail> {
         ("-3", "1234", "0123"),
     ];
     for (d, a, digits) in rows {
+        let distance = cells(&rt, rt.alloc(), d)?;
+        let bits = cells(&rt, rt.alloc(), a)?;
         for place in 0..5 {
-            assert_eq!(rt;
-                bool_shift(
-                    &cells(&rt, rt.alloc(), d)?,
-                    &cells(&rt, rt.alloc(), a)?,
-                    place
-                ),
-                byte_at(digits, place),
-                "{d} {a} {place}"
-            );
+            let digit = bool_shift(&distance, &bits, place);
+            assert!(rt; digit == byte_at(digits, place), "{d} {a} {place}");
         }
     }
     Ok(())
@@ -326,7 +297,7 @@ fn shifts(rt: HostRuntime) -> Result<(), Fail> {
 
 #[test]
 fn rotations(rt: HostRuntime) -> Result<(), Fail> {
-    let rows = [
+    let rows = &[
         ("1", "42", "05"),
         ("-1", "a42", "21"),
         ("7", "42", "05"),
@@ -337,16 +308,11 @@ fn rotations(rt: HostRuntime) -> Result<(), Fail> {
         ("-3", "1234", "4123"),
     ];
     for (d, a, digits) in rows {
+        let distance = cells(&rt, rt.alloc(), d)?;
+        let bits = cells(&rt, rt.alloc(), a)?;
         for place in 0..5 {
-            assert_eq!(rt;
-                bool_rotation(
-                    &cells(&rt, rt.alloc(), d)?,
-                    &cells(&rt, rt.alloc(), a)?,
-                    place
-                ),
-                byte_at(digits, place),
-                "{d} {a} {place}"
-            );
+            let digit = bool_rotation(&distance, &bits, place);
+            assert!(rt; digit == byte_at(digits, place), "{d} {a} {place}");
         }
     }
     Ok(())
@@ -386,11 +352,11 @@ fn moved_by_a_hundred_digits(rt: HostRuntime) -> Result<(), Fail> {
     }
     let distance = cells(&rt, rt.alloc(), &far)?;
     let bits = cells(&rt, rt.alloc(), "a421")?;
-    for (place, digit) in [b'0', b'0', b'0'].into_iter().enumerate() {
-        assert_eq!(rt; bool_shift(&distance, &bits, place as u32), Some(digit));
-    }
-    for (place, digit) in [b'0', b'4', b'3'].into_iter().enumerate() {
-        assert_eq!(rt; bool_rotation(&distance, &bits, place as u32), Some(digit));
+    for place in 0..3 {
+        let shifted = bool_shift(&distance, &bits, place);
+        assert!(rt; shifted == byte_at("000", place), "{place}");
+        let rotated = bool_rotation(&distance, &bits, place);
+        assert!(rt; rotated == byte_at("043", place), "{place}");
     }
     Ok(())
 }

@@ -344,7 +344,7 @@ fn sources_that_fail(rt: HostRuntime) {
         let got = faulty(HELLO.as_bytes(), fails, AMPLE);
         came_to(&rt, &got, "", Fate::InputFailed, 8, (8 + place).max(11));
     }
-    let rows = [
+    let rows = &[
         (HELLO, 12, AMPLE, "hello", Fate::InputFailed, 28, 19),
         (HELLO, 13, AMPLE, "hello", Fate::InputEnded, 29, 19),
         ("#(p", 3, AMPLE, "", Fate::InputFailed, 8, 11),
@@ -354,11 +354,11 @@ fn sources_that_fail(rt: HostRuntime) {
     ];
     for (script, place, cells, output, fate, steps, peak) in rows {
         let fails = Faults {
-            source: Some(place),
+            source: Some(*place),
             ..NO_FAULTS
         };
-        let got = faulty(script.as_bytes(), fails, cells);
-        came_to(&rt, &got, output, fate, steps, peak);
+        let got = faulty(script.as_bytes(), fails, *cells);
+        came_to(&rt, &got, output, *fate, *steps, *peak);
     }
 }
 
@@ -373,7 +373,7 @@ fn sinks_that_fail(rt: HostRuntime) {
 
 #[test]
 fn flushes_that_fail(rt: HostRuntime) {
-    let rows = [
+    let rows = &[
         (HELLO, 5, None, "hello", Fate::InputEnded),
         (HELLO, 5, Some(0), "hello", Fate::InputEnded),
         (HELLO, 5, Some(1), "hello", Fate::OutputFailed),
@@ -391,12 +391,12 @@ fn flushes_that_fail(rt: HostRuntime) {
     for (script, taken, flush, output, fate) in rows {
         let faults = Faults {
             source: None,
-            taken,
-            flush,
+            taken: *taken,
+            flush: *flush,
         };
         let got = faulty(script.as_bytes(), faults, AMPLE);
         assert!(rt; got.output() == output.as_bytes(), "{script}");
-        assert_eq!(rt; got.report.fate, fate, "{script}");
+        assert_eq!(rt; got.report.fate, *fate, "{script}");
     }
     let flush = Faults {
         flush: Some(1),
@@ -419,10 +419,12 @@ fn calls(rt: &impl Abort, script: &str, puts: u32, flushes: u32, asked: u32) {
     let mut source = FakeSource::new(script.as_bytes(), 0, false);
     let mut sink = FakeSink::new(0, 0);
     let report = Machine::over(&mut block, MANY).run(&mut source, &mut sink);
-    assert_eq!(rt; report.fate, Fate::InputEnded, "{script}");
-    assert_eq!(rt; (sink.puts, sink.flushes), (puts, flushes), "{script}");
-    assert_eq!(rt; source.calls, asked, "{script}");
-    assert_eq!(rt; (source.failures(), sink.failures()), (0, 0), "{script}");
+    let counted = (sink.puts, sink.flushes, source.calls) == (puts, flushes, asked);
+    let is_well = source.failures() == 0 && sink.failures() == 0;
+    assert!(rt;
+        report.fate == Fate::InputEnded && is_well && counted,
+        "{script}"
+    );
 }
 
 #[test]
@@ -493,35 +495,38 @@ fn stays_over(
 }
 
 #[test]
-fn ended_runs_stay_ended(rt: HostRuntime) {
+fn runs_whose_input_failed_stay_ended(rt: HostRuntime) {
     let text = HELLO.as_bytes();
     for n in 0..=text.len() {
         let source = FakeSource::new(&text[..n], 0, true);
-        stays_over(
-            &rt,
-            source,
-            FakeSink::new(0, 0),
-            AMPLE,
-            MANY,
-            Fate::InputFailed,
-        );
+        let sink = FakeSink::new(0, 0);
+        stays_over(&rt, source, sink, AMPLE, MANY, Fate::InputFailed);
     }
-    for (bad_put, bad_flush) in [(1, 0), (2, 0), (3, 0), (4, 0), (5, 0), (0, 1)] {
+}
+
+#[test]
+fn runs_whose_output_failed_stay_ended(rt: HostRuntime) {
+    for (bad_put, bad_flush) in &[(1, 0), (2, 0), (3, 0), (4, 0), (5, 0), (0, 1)] {
         let source = FakeSource::new(HELLO.as_bytes(), 0, false);
-        let sink = FakeSink::new(bad_put, bad_flush);
+        let sink = FakeSink::new(*bad_put, *bad_flush);
         stays_over(&rt, source, sink, AMPLE, MANY, Fate::OutputFailed);
     }
-    let rows = [
-        (HELLO, AMPLE, MANY, Fate::InputEnded),
-        ("#(hl)'", AMPLE, MANY, Fate::Halted),
-        (HELLO, 18, MANY, Fate::Workspace),
-        (HELLO, 0, MANY, Fate::Workspace),
-        (HELLO, AMPLE, 20, Fate::Steps),
-        (HELLO, 0, 0, Fate::Steps),
-    ];
-    for (script, cells, steps, fate) in rows {
+}
+
+const ENDED: [(&str, usize, u64, Fate); 6] = [
+    (HELLO, AMPLE, MANY, Fate::InputEnded),
+    ("#(hl)'", AMPLE, MANY, Fate::Halted),
+    (HELLO, 18, MANY, Fate::Workspace),
+    (HELLO, 0, MANY, Fate::Workspace),
+    (HELLO, AMPLE, 20, Fate::Steps),
+    (HELLO, 0, 0, Fate::Steps),
+];
+
+#[test]
+fn ended_runs_stay_ended(rt: HostRuntime) {
+    for (script, cells, steps, fate) in &ENDED {
         let source = FakeSource::new(script.as_bytes(), 0, false);
-        stays_over(&rt, source, FakeSink::new(0, 0), cells, steps, fate);
+        stays_over(&rt, source, FakeSink::new(0, 0), *cells, *steps, *fate);
     }
 }
 
@@ -550,38 +555,42 @@ fn piped(rt: &impl Abort, taken: &mut Vec<u8>, bad_read: u32, bad_write: u32) ->
     report
 }
 
+fn reported(fate: Fate, steps: u64, peak: u32) -> Report {
+    Report { fate, steps, peak }
+}
+
 #[test]
-fn readers_and_writers_that_fail(rt: HostRuntime) -> Result<(), Fail> {
-    let rows = [
+fn readers_at_their_ends(rt: HostRuntime) -> Result<(), Fail> {
+    let rows = &[
         (0, Fate::InputEnded, 29, 19),
         (13, Fate::InputFailed, 28, 19),
     ];
     for (bad_read, fate, steps, peak) in rows {
         let mut taken = Vec::new(rt.alloc());
-        let report = piped(&rt, &mut taken, bad_read, 0);
-        assert_eq!(rt; report, Report { fate, steps, peak });
+        let report = piped(&rt, &mut taken, *bad_read, 0);
+        assert!(rt; report == reported(*fate, *steps, *peak));
         assert!(rt; taken.as_slice() == b"hello".as_slice());
     }
+    Ok(())
+}
+
+#[test]
+fn readers_that_fail(rt: HostRuntime) -> Result<(), Fail> {
     for k in 1..=12u32 {
         let mut taken = Vec::new(rt.alloc());
         let report = piped(&rt, &mut taken, k, 0);
-        let want = Report {
-            fate: Fate::InputFailed,
-            steps: 8,
-            peak: (7 + k).max(11),
-        };
-        assert_eq!(rt; report, want, "{k}");
-        assert!(rt; taken.is_empty());
+        let want = reported(Fate::InputFailed, 8, (7 + k).max(11));
+        assert!(rt; report == want && taken.is_empty(), "{k}");
     }
+    Ok(())
+}
+
+#[test]
+fn writers_that_fail(rt: HostRuntime) -> Result<(), Fail> {
     for k in 1..=5u32 {
         let mut taken = Vec::new(rt.alloc());
         let report = piped(&rt, &mut taken, 0, k);
-        let want = Report {
-            fate: Fate::OutputFailed,
-            steps: 18,
-            peak: 19,
-        };
-        assert_eq!(rt; report, want, "{k}");
+        assert!(rt; report == reported(Fate::OutputFailed, 18, 19), "{k}");
         assert!(rt; taken.as_slice() == &b"hello"[..(k as usize - 1).min(5)]);
     }
     Ok(())

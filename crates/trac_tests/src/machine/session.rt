@@ -5,8 +5,8 @@ ghost use Rattle.trac_core.specs.Machine.{Reports};
 
 use std::process::Abort;
 use trac_core::{
-    Awaits, Cell, Fate, Item, Machine, Report, Sink, SliceSink, SliceSource, Source, display_len,
-    show_form,
+    Awaits, Cell, Fate, Item, Machine, Report, Sink, SliceSink, SliceSource, Source, StoredForm,
+    display_len, show_form,
 };
 
 const DEFINES: &[u8] = b"#(ds,F,a-b)#(ss,F,-)#(cm,;)'";
@@ -114,6 +114,24 @@ fn nothing_is_read_past_the_allowance(rt: HostRuntime) {
     assert_eq!(rt; machine.awaits(), Awaits::Nothing);
 }
 
+/// The form of the null name, of one character.
+fn is_null_form(form: &StoredForm) -> bool {
+    form.name().is_empty()
+        && (form.body_len(), form.pointer()) == (1, 0)
+        && matches!(form.item(0), Some(Item::Byte(b'x')))
+        && form.item(1).is_none()
+}
+
+/// The form AB, which has two gaps of the first kind and one of the second.
+fn is_segmented_form(form: &StoredForm) -> bool {
+    matches!(form.name(), [Cell::Byte(b'A'), Cell::Byte(b'B')])
+        && (form.body_len(), form.pointer()) == (4, 1)
+        && matches!(form.item(0), Some(Item::Byte(b'p')))
+        && matches!(form.item(1), Some(Item::Gap(1)))
+        && matches!(form.item(2), Some(Item::Gap(2)))
+        && matches!(form.item(3), Some(Item::Gap(1)))
+}
+
 #[test]
 fn forms_are_listed(rt: HostRuntime) {
     let mut block = [Cell::Byte(0); 60];
@@ -125,19 +143,11 @@ fn forms_are_listed(rt: HostRuntime) {
     let Some(null) = forms.next() else {
         panic!(rt; "no form");
     };
-    assert!(rt; null.name().is_empty());
-    assert_eq!(rt; (null.body_len(), null.pointer()), (1, 0));
-    assert!(rt; matches!(null.item(0), Some(Item::Byte(b'x'))));
-    assert!(rt; null.item(1).is_none());
+    assert!(rt; is_null_form(&null));
     let Some(form) = forms.next() else {
         panic!(rt; "one form");
     };
-    assert!(rt; matches!(form.name(), [Cell::Byte(b'A'), Cell::Byte(b'B')]));
-    assert_eq!(rt; (form.body_len(), form.pointer()), (4, 1));
-    assert!(rt; matches!(form.item(0), Some(Item::Byte(b'p'))));
-    assert!(rt; matches!(form.item(1), Some(Item::Gap(1))));
-    assert!(rt; matches!(form.item(2), Some(Item::Gap(2))));
-    assert!(rt; matches!(form.item(3), Some(Item::Gap(1))));
+    assert!(rt; is_segmented_form(&form));
     assert!(rt; forms.next().is_none());
 }
 

@@ -2,21 +2,18 @@
 use std::process::Abort;
 use trac_core::{Cell, Fate, Machine, ScanningRule, Sink, SliceSink, SliceSource, Source};
 
-const RULES: [ScanningRule; 9] = [
-    ScanningRule::Idling,
-    ScanningRule::ActiveCall,
-    ScanningRule::Character,
-    ScanningRule::Character,
-    ScanningRule::Argument,
-    ScanningRule::ActiveCall,
-    ScanningRule::Character,
-    ScanningRule::Character,
-    ScanningRule::EndOfCall,
+/// Of each step of a run over no input its rule, the size before it and its need.
+const STEPS: [(ScanningRule, u32, u32); 9] = [
+    (ScanningRule::Idling, 0, 11),
+    (ScanningRule::ActiveCall, 11, 11),
+    (ScanningRule::Character, 10, 10),
+    (ScanningRule::Character, 10, 10),
+    (ScanningRule::Argument, 10, 10),
+    (ScanningRule::ActiveCall, 10, 10),
+    (ScanningRule::Character, 9, 9),
+    (ScanningRule::Character, 9, 9),
+    (ScanningRule::EndOfCall, 9, 8),
 ];
-
-const NEEDS: [u32; 9] = [11, 11, 10, 10, 10, 10, 9, 9, 8];
-
-const SIZES: [u32; 9] = [0, 11, 10, 10, 10, 10, 9, 9, 9];
 
 #[test]
 fn a_run_over_no_input(rt: HostRuntime) {
@@ -25,13 +22,14 @@ fn a_run_over_no_input(rt: HostRuntime) {
     let mut sink = SliceSink::new(&mut [], None);
     let mut machine = Machine::over(&mut block, 100);
     assert_eq!(rt; machine.room(), 20);
-    for k in 0..9 {
-        assert_eq!(rt; machine.next_rule(), RULES[k]);
-        assert_eq!(rt; machine.size(), SIZES[k]);
+    let mut left = STEPS.len();
+    for (rule, size, need) in &STEPS {
+        let is_before = machine.next_rule() == *rule && machine.size() == *size;
         assert!(rt; source.failures() == 0 && sink.failures() == 0);
-        let fate = machine.step(&mut source, &mut sink);
-        assert_eq!(rt; fate.is_some(), k == 8);
-        assert_eq!(rt; machine.take_peak(), NEEDS[k]);
+        left = left.saturating_sub(1);
+        let is_last = machine.step(&mut source, &mut sink).is_some();
+        let is_behind = is_last == (left == 0) && machine.take_peak() == *need;
+        assert!(rt; is_before && is_behind, "{left}");
     }
     assert_eq!(rt; machine.peak(), 0);
     assert!(rt; source.failures() == 0 && sink.failures() == 0);
