@@ -13,7 +13,7 @@ ghost use Rattle.trac_core.specs.Attempts.{LeavesSource, LeavesSink};
 ghost use Rattle.trac_core.specs.StepsInRow.{AsksFor, IsPlainFrom};
 ghost use Rattle.trac_functions.specs.Calls.{KeepsRoom};
 
-use crate::delivery::{is_scanned_again, settle};
+use crate::delivery::{is_active_call, settle};
 use crate::display::print_form;
 use crate::input_output::{change_meta, print_string, read_character, read_string};
 use crate::scan::{Attempt, Front, InnermostCall, load_idling};
@@ -133,7 +133,7 @@ fn answer<I: Source, O: Sink>(
         from: call.place + 1,
         end: work.neutral_len(),
         plain: call.plain,
-        scanned: is_scanned_again(work, call.place),
+        scanned: is_active_call(work, call.place),
     };
     let Some(function) = arguments.function(work) else {
         return Made::Defined(0);

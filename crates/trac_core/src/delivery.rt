@@ -1,5 +1,6 @@
 //! What a function's answer comes to: the count of what the call needed, and where its value goes.
 ghost use Rattle.std.specs.Prelude.{◌≡◌, ◌<◌, ◌≤◌, length, drop, All};
+ghost use Rattle.trac_space.specs.Calls.{IsLastCall};
 ghost use Rattle.trac_space.specs.Texts.{IsByte};
 ghost use Rattle.trac_forms.specs.Contents.{IsSound};
 ghost use Rattle.trac_functions.specs.Flat.{mode_of, mode_at, is_active_mode};
@@ -62,9 +63,19 @@ fn deliver(work: &mut Work, place: u32, from: u32)
     }
 }
 
+/// Whether the value of the innermost call, whose mark stands at the place, goes before the active
+/// string.
+#[inline]
+pub(crate) fn is_active_call(work: &Work, place: u32) -> bool
+    requires { IsLastCall work.now.neutral place }
+    ensures { result ≡ is_active_mode (mode_at work.now.neutral place) }
+{
+    matches!(work.call_mode(place), Mode::Active)
+}
+
 /// Whether the value of the call whose mark stands at the place goes before the active string.
 #[inline]
-pub(crate) fn is_scanned_again(work: &Work, place: u32) -> bool
+fn is_scanned_again(work: &Work, place: u32) -> bool
     ensures { result ≡ is_active_mode (mode_at work.now.neutral place) }
 {
     match work.neutral_at(place) {

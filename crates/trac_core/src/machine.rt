@@ -270,7 +270,7 @@ fn run_to_end<I: Source, O: Sink>(
     // The cells of the first step since a call: those that perform none need no more than it does.
     let mut need = work.used();
     let mut plain = work.neutral_len();
-    let mut long = false;
+    let mut long = 0;
     while left > 0 {
         match pass(work, left, &mut plain, &mut long) {
             Ok(done) => {
@@ -286,7 +286,7 @@ fn run_to_end<I: Source, O: Sink>(
                 peak = peak.max(last.need);
                 need = work.used();
                 plain = work.neutral_len();
-                long = false;
+                long = 0;
             }
         }
     }

@@ -80,7 +80,7 @@ pub(crate) fn scan_once(work: &mut Work) -> Option<Front>
     ensures keeps { KeepsRoom work.old work.new }
 {
     let mut plain = work.neutral_len();
-    let mut long = false;
+    let mut long = 0;
     match pass(work, 1, &mut plain, &mut long) {
         Ok(_) => None,
         Err(front) => Some(front),
@@ -90,14 +90,14 @@ pub(crate) fn scan_once(work: &mut Work) -> Option<Front>
 /// The table of the rules of scanning (Mooers 1966). Makes the steps of the rule that fits the
 /// beginning of the active string, at most so many: all of a run of ordinary characters, in a call
 /// with the commas between them, or of layout characters, at once, and one of another rule that
-/// performs no call. From the plain place on no comma mark stands in the neutral string, and long
-/// says whether the last run was long.
+/// performs no call. From the plain place on no comma mark stands in the neutral string, and so many
+/// long runs followed one another before.
 #[inline]
 pub(crate) fn pass(
     work: &mut Work,
     most: u64,
     plain: &mut u32,
-    long: &mut bool,
+    long: &mut u32,
 ) -> Result<u64, Front>
     requires some { 0 < most }
     requires plain { IsPlainFrom plain.old work.old.neutral }
@@ -111,8 +111,8 @@ pub(crate) fn pass(
         Some(b'\t' | b'\n' | b'\r') => return Ok(delete_layout(work, most)),
         Some(b'(') => protect(work),
         Some(b')') => return end_call(work, *plain),
-        Some(b',') => return Ok(begin_argument(work, most, plain, *long)),
-        Some(b'#') => return Ok(number_sign(work, most, plain, *long)),
+        Some(b',') => return Ok(begin_argument(work, most, plain, *long > 1)),
+        Some(b'#') => return Ok(number_sign(work, most, plain, *long > 1)),
         Some(_) => return Ok(add_characters(work, most, plain, long)),
     }
     Ok(1)
@@ -139,10 +139,11 @@ fn end_call(work: &mut Work, plain: u32) -> Result<u64, Front>
 }
 
 /// The steps by which the ordinary characters at the front of the active string are added, at most
-/// so many, all at once, and in a call the commas between them too. A run that is long, or follows
-/// a long one, is looked at before it is moved. Gives how many steps they were.
+/// so many, all at once, and in a call the commas between them too. A run that follows two long ones,
+/// or stands in no call, is looked at before it is moved; one with commas is not long. Gives how
+/// many steps they were.
 #[inline]
-fn add_characters(work: &mut Work, most: u64, plain: &mut u32, long: &mut bool) -> u64
+fn add_characters(work: &mut Work, most: u64, plain: &mut u32, long: &mut u32) -> u64
     requires some { 0 < most }
     requires first { (c : ℕ) ×
         ((slice_get (text_of_cells work.old.active) 0 ≡ Some c) × IsOrdinary c) }
@@ -152,12 +153,17 @@ fn add_characters(work: &mut Work, most: u64, plain: &mut u32, long: &mut bool) 
     ensures plain { IsPlainFrom plain.new work.new.neutral }
     ensures keeps { KeepsRoom work.old work.new }
 {
-    let count = if *long || work.last_call().is_none() {
+    let before = *plain;
+    let count = if *long > 1 || work.last_call().is_none() {
         add_long_run(work, most)
     } else {
         add_run(work, most, plain)
     };
-    *long = count >= FEW;
+    *long = if count >= FEW && *plain == before {
+        long.saturating_add(1)
+    } else {
+        0
+    };
     count
 }
 
@@ -310,6 +316,7 @@ pub(crate) fn load_idling(work: &mut Work) -> Attempt
 
 /// The text between a left parenthesis and its match is added unscanned; where there is no match
 /// the active string becomes empty (this processor's own choice).
+#[inline(never)]
 fn protect(work: &mut Work)
     requires sound { IsSound work.old }
     requires first { slice_get (text_of_cells work.old.active) 0 ≡ Some 40 }

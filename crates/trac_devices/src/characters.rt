@@ -1,9 +1,9 @@
 //! Characters of cells, as bytes.
-ghost use Rattle.std.specs.Prelude.{◌≡◌, ◌≤◌, ◌<◌, ◌+◌, ℕ, length};
+ghost use Rattle.std.specs.Prelude.{◌≡◌, ◌≤◌, ◌<◌, ◌+◌, ℕ, All, length, take, drop};
 ghost use Rattle.trac_devices.specs.Characters.{AreWritten};
-ghost use Rattle.trac_space.specs.Texts.{text_of_cells};
+ghost use Rattle.trac_space.specs.Texts.{text_of_cells, IsByte};
 
-use trac_space::{Cell, character_of};
+use trac_space::{Cell, are_characters, byte_in, character_of};
 
 /// Makes the bytes the characters of so many cells, 0 for a cell that isn't a character. A sink
 /// with a buffer takes characters so.
@@ -18,7 +18,8 @@ pub fn write_characters(text: &[Cell], bytes: &mut [u8])
     }
 }
 
-// The same, of as many whole blocks of eight as there are, and gives how many bytes these are.
+// The same, of as many whole blocks of eight characters as begin the text, and gives how many bytes
+// these are.
 #[inline]
 fn write_blocks(text: &[Cell], bytes: &mut [u8]) -> usize
     requires { length text.now ≡ length bytes.old }
@@ -26,18 +27,33 @@ fn write_blocks(text: &[Cell], bytes: &mut [u8]) -> usize
     ensures written { AreWritten result text.now bytes.new }
 {
     let mut i = 0;
-    while text.len() - i >= 8 {
-        write_character(text, bytes, i);
-        write_character(text, bytes, i + 1);
-        write_character(text, bytes, i + 2);
-        write_character(text, bytes, i + 3);
-        write_character(text, bytes, i + 4);
-        write_character(text, bytes, i + 5);
-        write_character(text, bytes, i + 6);
-        write_character(text, bytes, i + 7);
+    while text.len() - i >= 8 && are_characters(text, i) {
+        write_byte(text, bytes, i, 0);
+        write_byte(text, bytes, i, 1);
+        write_byte(text, bytes, i, 2);
+        write_byte(text, bytes, i, 3);
+        write_byte(text, bytes, i, 4);
+        write_byte(text, bytes, i, 5);
+        write_byte(text, bytes, i, 6);
+        write_byte(text, bytes, i, 7);
         i += 8;
     }
     i
+}
+
+// Makes one byte the character at its place, which is one of a block of eight; those before it are
+// written then, if they were.
+#[inline]
+fn write_byte(text: &[Cell], bytes: &mut [u8], block: usize, k: usize)
+    requires within { block + 8 ≤ length text.now }
+    requires few { k < 8 }
+    requires characters { All IsByte (take 8 (drop block text.now)) }
+    requires same { length text.now ≡ length bytes.old }
+    ensures written { (next : ℕ) → next ≡ block + k + 1 → AreWritten (block + k) text.now bytes.old →
+        AreWritten next text.now bytes.new }
+    ensures same { length bytes.new ≡ length bytes.old }
+{
+    bytes[block + k] = byte_in(&text[block + k]);
 }
 
 // Makes one byte the character at its place; those before it are written then, if they were.

@@ -44,8 +44,8 @@ copied-last was now after start to k m n front last all apart within is moved =
     rw (moved, is) (same_lists _ _ (search (rules, places)) (λ i d less. grind (arith, places)))
 
 -- the first k cells are there
-pub copied-first : {X : Type 0} (was after : List X) (start to k : ℕ) → start + k ≤ to → to + k ≤ length was → after ≡ copy_within was start (start + k) to → after ≡ paste was to (drop start was) k
-copied-first was after start to k apart within moved =
+pub copied-first : {X : Type 0} (was after : List X) (start to k : ℕ) → start + k ≤ length was → to + k ≤ length was → after ≡ copy_within was start (start + k) to → after ≡ paste was to (drop start was) k
+copied-first was after start to k whole within moved =
     rw moved (same_lists _ _ (search (rules, places)) (λ i d less. grind (arith, places)))
 
 -- to a place before: k cells are there, and n more follow
@@ -56,4 +56,14 @@ carried-on was now after start to k n before within is moved =
 -- to a place before: k cells are there, and the last m follow, of which some may be there
 pub carried-last : {X : Type 0} (was now after : List X) (start to k m n : ℕ) → k ≤ n → m ≤ n → n ≤ k + m → to + m ≤ start → start + n ≤ length was → now ≡ paste was to (drop start was) k → after ≡ copy_within now (start + (n - m)) (start + (n - m) + m) (to + (n - m)) → after ≡ copy_within was start (start + n) to
 carried-last was now after start to k m n front last all apart within is moved =
+    rw (moved, is) (same_lists _ _ (search (rules, places)) (λ i d less. grind (arith, places)))
+
+-- to a place behind: the cells from one place on are there, and n before them follow
+pub copied-up : {X : Type 0} (was now after : List X) (start to all left n : ℕ) → start ≤ to → to + all ≤ length was → left ≤ all → n ≤ left → now ≡ paste was (to + left) (drop (start + left) was) (all - left) → after ≡ copy_within now (start + (left - n)) (start + left) (to + (left - n)) → after ≡ paste was (to + (left - n)) (drop (start + (left - n)) was) (all - (left - n))
+copied-up was now after start to all left n behind room within few is moved =
+    rw (moved, is) (same_lists _ _ (search (rules, places)) (λ i d less. grind (arith, places)))
+
+-- to a place behind: the cells from one place on are there, and the first m follow, of which some may be there
+pub lifted-last : {X : Type 0} (was now after : List X) (start to left m n : ℕ) → left ≤ m → m ≤ n → start + m ≤ to → to + n ≤ length was → now ≡ paste was (to + left) (drop (start + left) was) (n - left) → after ≡ copy_within now start (start + m) to → after ≡ copy_within was start (start + n) to
+lifted-last was now after start to left m n some few apart within is moved =
     rw (moved, is) (same_lists _ _ (search (rules, places)) (λ i d less. grind (arith, places)))

@@ -1,13 +1,15 @@
 -- Characters that are put once more at a place behind, one after the other.
-use Rattle.std.proofs.Common.{◌≡◌, ℕ, ◌+◌, ◌<◌, ◌≤◌, true, false, All, List, ◌++◌, length, take, drop, map, get_or, slice_range, refl, sym, ◌-◌, ap, ◌∙◌, arith, rules}
+use Rattle.std.proofs.Common.{◌≡◌, ◌↔◌, ℕ, ◌+◌, ◌<◌, ◌≤◌, true, false, IsTrue, nat_eq, All, List, [], ◌∷◌, ◌++◌, length, take, drop, map, get_or, slice_range, sum_by, refl, sym, ◌-◌, ap, ◌∙◌, subst, ⊎_elim, arith, rules}
 use Rattle.std.specs.List.{copy_within}
 use Rattle.std.proofs.lemmas.List.{places, same_lists, take-append-drop, length-drop, length-take-le, get_or-take, get_or-map, get_or-drop, take_more, take-map, drop-map, drop-drop}
 use Rattle.std.proofs.Math.Seq.{take-add}
-use Rattle.std.proofs.lemmas.List.Elements.{All-append, All-push, All-map}
+use Rattle.std.proofs.lemmas.Bool.{cases_lt}
+use Rattle.std.proofs.lemmas.List.Elements.{All-append, All-push, All-map, All-cons, All-head, All-tail}
+use Rattle.std.proofs.lemmas.List.Sums.{sum_by-cons}
 use Rattle.trac_space.specs.declared.cell.Cell.{Cell}
 use Rattle.trac_space.specs.declared.cell.Cell.TheVariants.{Byte, Call, Comma, Gap, Head}
 use Rattle.trac_space.specs.Cells.{seen, IsNoCall, NoCall}
-use Rattle.trac_space.specs.Texts.{IsByte, is_byte_cell, byte_cell_at}
+use Rattle.trac_space.specs.Texts.{IsByte, is_byte_cell, byte_cell_at, kind_number}
 use lib.Seq.{paste}
 
 -- the cells before that place are as they were
@@ -81,3 +83,52 @@ front-kept was now more k to n before within inside front =
     same_lists _ _ (search (rules, places)) (λ i d less.
     let at : get_or (take (to + n) now) i d ≡ get_or (take to was ++ more) i d = ap (λ cells. get_or cells i d) front in
     grind (arith, at, places))
+
+-- whether a cell is a character, by the number of its kind
+byte-kind : (cell : Cell) → kind_number cell ≡ 0 → IsByte cell
+byte-kind (Byte b) none = search rules
+byte-kind (Call mode number) none = absurd (omega (arith, none))
+byte-kind Comma none = absurd (omega (arith, none))
+byte-kind (Gap ordinal) none = absurd (omega (arith, none))
+byte-kind (Head n) none = absurd (omega (arith, none))
+
+kind-byte : (cell : Cell) → IsByte cell → kind_number cell ≡ 0
+kind-byte (Byte b) byte = refl
+kind-byte (Call mode number) byte = absurd byte
+kind-byte Comma byte = absurd byte
+kind-byte (Gap ordinal) byte = absurd byte
+kind-byte (Head n) byte = absurd byte
+
+-- cells whose kinds come to nothing are characters
+pub bytes-kinds : (cells : List Cell) → sum_by kind_number cells ≡ 0 → All IsByte cells
+bytes-kinds [] none = λ k d within. absurd (omega arith)
+bytes-kinds (cell ∷ cells) none =
+    let parts = sum_by-cons kind_number cell cells in
+    All-cons IsByte cell cells (byte-kind cell (omega (arith, none, parts))) (bytes-kinds cells (omega (arith, none, parts)))
+
+pub kinds-bytes : (cells : List Cell) → All IsByte cells → sum_by kind_number cells ≡ 0
+kinds-bytes [] all = refl
+kinds-bytes (cell ∷ cells) all =
+    omega (arith, sum_by-cons kind_number cell cells, kind-byte cell (All-head IsByte cell cells all), kinds-bytes cells (All-tail IsByte cell cells all))
+
+pub none-is : (n : ℕ) → IsTrue (nat_eq n 0) ↔ n ≡ 0
+none-is n = grind arith
+
+-- what holds of the first k cells and of the last k holds of all, where these are no more than 2 k
+pub both-ends : (P : Cell → Type 0) (cells : List Cell) (at k n : ℕ) → k ≤ n → n ≤ k + k → at + n ≤ length cells → All P (take k (drop at cells)) → All P (take k (drop (at + (n - k)) cells)) → All P (take n (drop at cells))
+both-ends P cells at k n half twice within first last = λ i d less.
+    let size = length-take-le n (drop at cells) (omega (arith, length-drop at cells)) in
+    let here = get_or-take n (drop at cells) i d (omega arith) in
+    ⊎_elim
+    (λ below.
+    let there = get_or-take k (drop at cells) i d below in
+    let long = length-take-le k (drop at cells) (omega (arith, length-drop at cells)) in
+    subst P (there ∙ sym here) (first i d (omega arith)))
+    (λ past.
+    let j = i - (n - k) in
+    let rest = drop (at + (n - k)) cells in
+    let place : at + (n - k) + j ≡ at + i = omega arith in
+    let there = get_or-take k rest j d (omega arith) ∙ get_or-drop (at + (n - k)) cells j d ∙ ap (λ m. get_or cells m d) place ∙ sym (get_or-drop at cells i d) in
+    let long = length-take-le k rest (omega (arith, length-drop (at + (n - k)) cells)) in
+    subst P (there ∙ sym here) (last j d (omega arith)))
+    (cases_lt i k)

@@ -32,6 +32,14 @@ is_byte_cell (Head _) = false
 abbrev pub IsByte : Cell → Type 0
 IsByte cell = T (is_byte_cell cell)
 
+-- the number of the kind that a cell is, 0 of a character
+abbrev pub kind_number : Cell → ℕ
+kind_number (Byte _) = 0
+kind_number (Call _ _) = 1
+kind_number Comma = 2
+kind_number (Gap _) = 3
+kind_number (Head _) = 4
+
 -- whether a character stands at the place
 abbrev pub byte_cell_at : List Cell → ℕ → Bool
 byte_cell_at cells i = is_byte_cell (slice_index_or cells i Comma)

@@ -1,6 +1,6 @@
 //! Moves of cells within a block.
 ghost use Rattle.std.specs.Prelude.{◌≡◌, ◌+◌, ◌-◌, ◌≤◌, ◌<◌, ◌⊎◌, ◌++◌};
-ghost use Rattle.std.specs.Prelude.{All, drop, false, ℕ};
+ghost use Rattle.std.specs.Prelude.{All, IsTrue, drop, false, ℕ};
 ghost use Rattle.std.specs.Prelude.{length, take, ◌==◌, if◌then◌else◌, slice_index_or};
 ghost use Rattle.std.specs.List.{copy_within};
 ghost use Rattle.trac_space.specs.declared.cell.Cell.TheVariants.{Byte};
@@ -8,7 +8,7 @@ ghost use Rattle.trac_space.specs.Cells.{NoComma};
 ghost use Rattle.trac_space.specs.Runs.{IsInRun, number_in, turned, with_cells_at};
 ghost use Rattle.trac_space.specs.Texts.{IsByte, byte_cell_at};
 
-use crate::cell::{Cell, byte_in, is_character};
+use crate::cell::{Cell, are_four, are_two, byte_in, is_character};
 
 // How many cells a long move takes at once.
 const PART: usize = 256;
@@ -270,6 +270,51 @@ pub(crate) fn copy_characters(
     count + copy_characters_each(cells, start + count, to + count, most - count)
 }
 
+// Puts so many characters once more at a place behind, and gives whether all of them are characters.
+// Where they aren't, cells from that place on may be written over, at most as many.
+#[inline(always)]
+pub(crate) fn copy_all_characters(
+    cells: &mut [Cell],
+    start: usize,
+    to: usize,
+    distance: usize,
+    n: usize,
+) -> bool
+    requires far { to ≡ start + distance }
+    requires behind { start + n ≤ to }
+    requires room { to + n ≤ length cells.old }
+    ensures bytes { IsTrue result → All IsByte (take n (drop start cells.old)) }
+    ensures len { length cells.new ≡ length cells.old }
+    ensures after { IsTrue result → cells.new ≡ copy_within cells.old start (start + n) to }
+    ensures front { take to cells.new ≡ take to cells.old }
+    ensures behind { drop (to + n) cells.new ≡ drop (to + n) cells.old }
+{
+    if n >= BLOCK {
+        return copy_characters(cells, start, to, distance, n) == n;
+    }
+    if !are_few_characters(cells, start, n) {
+        return false;
+    }
+    copy_behind(cells, start, distance, n);
+    true
+}
+
+// Whether so many cells from a place on are all characters, of which there are no more than eight.
+#[inline(always)]
+fn are_few_characters(cells: &[Cell], at: usize, n: usize) -> bool
+    requires few { n ≤ 8 }
+    requires within { at + n ≤ length cells.now }
+    ensures { IsTrue result → All IsByte (take n (drop at cells.now)) }
+{
+    if n >= 4 {
+        are_four(cells, at) && are_four(cells, at + (n - 4))
+    } else if n >= 2 {
+        are_two(cells, at) && are_two(cells, at + (n - 2))
+    } else {
+        n == 0 || is_character(&cells[at])
+    }
+}
+
 // How many characters stand from a place on, at most so many.
 #[inline(always)]
 pub(crate) fn characters_from(cells: &[Cell], start: usize, most: usize) -> usize
@@ -366,6 +411,90 @@ pub(crate) fn copy_back(cells: &mut [Cell], start: usize, end: usize, to: usize)
     } else {
         copy_cells(cells, start, end, to);
     }
+}
+
+// As `copy_within`, for moves to a place behind. A few blocks go by code that stands where it is used.
+#[inline(always)]
+pub(crate) fn copy_on(cells: &mut [Cell], start: usize, end: usize, to: usize)
+    requires order { start ≤ end }
+    requires behind { start ≤ to }
+    requires room { to + (end - start) ≤ length cells.old }
+    ensures len { length cells.new ≡ length cells.old }
+    ensures after { cells.new ≡ copy_within cells.old start end to }
+{
+    let n = end - start;
+    if n >= BLOCK && n <= MANY && to - start >= BLOCK {
+        copy_blocks_up(cells, start, n, to - start);
+    } else {
+        copy_cells(cells, start, end, to);
+    }
+}
+
+// As `copy_within`, to a place that is a block behind the cells or more, by blocks, the last first.
+// The first may end in the one behind it: what it moves isn't written over yet.
+#[inline(always)]
+fn copy_blocks_up(cells: &mut [Cell], start: usize, n: usize, distance: usize)
+    requires some { 8 ≤ n }
+    requires behind { 8 ≤ distance }
+    requires room { start + distance + n ≤ length cells.old }
+    ensures len { length cells.new ≡ length cells.old }
+    ensures after { (to : ℕ) → to ≡ start + distance →
+        cells.new ≡ copy_within cells.old start (start + n) to }
+{
+    let mut left = n;
+    while left > BLOCK {
+        left -= BLOCK;
+        copy_block(cells, start + left, distance);
+    }
+    copy_block(cells, start, distance);
+}
+
+// As `copy_within`, to a place so far before that the places are apart, for moves of few cells.
+#[inline(always)]
+#[tactic(auto, using(crate::proofs::Moves::move_one))]
+pub(crate) fn copy_before(cells: &mut [Cell], start: usize, n: usize, to: usize)
+    requires apart { to + n ≤ start }
+    requires within { start + n ≤ length cells.old }
+    ensures len { length cells.new ≡ length cells.old }
+    ensures after { cells.new ≡ copy_within cells.old start (start + n) to }
+{
+    if n > FEW {
+        copy_long(cells, start, start + n, to);
+    } else if n >= BLOCK {
+        copy_blocks_before(cells, start, n, to);
+    } else if n >= 4 {
+        copy_halves_before(cells, start, n, to, 4);
+    } else if n >= 2 {
+        copy_halves_before(cells, start, n, to, 2);
+    } else if n == 1 {
+        cells[to] = cells[start];
+    }
+}
+
+// The same, of as many as a half has or twice as many at most.
+#[inline(always)]
+fn copy_halves_before(cells: &mut [Cell], start: usize, n: usize, to: usize, half: usize)
+    requires some { half ≤ n }
+    requires few { n ≤ half + half }
+    requires apart { to + n ≤ start }
+    requires within { start + n ≤ length cells.old }
+    ensures len { length cells.new ≡ length cells.old }
+    ensures after { cells.new ≡ copy_within cells.old start (start + n) to }
+{
+    copy_some_before(cells, start, to, half);
+    copy_some_before(cells, start + (n - half), to + (n - half), half);
+}
+
+// Makes so many cells the same as others that stand behind them, and apart.
+#[inline(always)]
+fn copy_some_before(cells: &mut [Cell], start: usize, to: usize, n: usize)
+    requires apart { to + n ≤ start }
+    requires within { start + n ≤ length cells.old }
+    ensures len { length cells.new ≡ length cells.old }
+    ensures after { cells.new ≡ copy_within cells.old start (start + n) to }
+{
+    let (front, back) = cells.split_at_mut(start);
+    front[to..to + n].copy_from_slice(&back[..n]);
 }
 
 // As `copy_within`, to a place so far behind that the places are apart. A move of eight cells or
@@ -466,22 +595,10 @@ fn copy_blocks_before(cells: &mut [Cell], start: usize, n: usize, to: usize)
 {
     let mut done = 0;
     while n - done > BLOCK {
-        copy_block_before(cells, start + done, to + done);
+        copy_some_before(cells, start + done, to + done, BLOCK);
         done += BLOCK;
     }
-    copy_block_before(cells, start + (n - BLOCK), to + (n - BLOCK));
-}
-
-// Makes a block of cells the same as another that stands behind it, and apart.
-#[inline(always)]
-fn copy_block_before(cells: &mut [Cell], start: usize, to: usize)
-    requires apart { to + 8 ≤ start }
-    requires within { start + 8 ≤ length cells.old }
-    ensures len { length cells.new ≡ length cells.old }
-    ensures after { cells.new ≡ copy_within cells.old start (start + 8) to }
-{
-    let (front, back) = cells.split_at_mut(start);
-    front[to..to + BLOCK].copy_from_slice(&back[..BLOCK]);
+    copy_some_before(cells, start + (n - BLOCK), to + (n - BLOCK), BLOCK);
 }
 
 // The same as `copy_characters`, one by one, and no other cell is written over.

@@ -1,12 +1,14 @@
 -- What stands between comma marks, part by part, and a list of where the parts begin.
-use Rattle.std.proofs.Common.{◌≡◌, ℕ, zero, suc, ◌+◌, ◌-◌, ◌<◌, ◌≤◌, Bool, true, false, List, [], ◌∷◌, ◌++◌, length, take, drop, map, slice_range, get_or, refl, sym, ap, ◌∙◌, arith, cond, nat_le, ⊎_elim, append_assoc}
+use Rattle.std.proofs.Common.{◌≡◌, ℕ, zero, suc, ◌+◌, ◌-◌, ◌<◌, ◌≤◌, Bool, true, false, List, [], ◌∷◌, ◌++◌, All, length, take, drop, map, slice_range, get_or, refl, sym, ap, ◌∙◌, arith, cond, nat_le, ⊎_elim, append_assoc}
 use Rattle.std.proofs.lemmas.Bool.{cases_lt}
-use Rattle.std.proofs.lemmas.List.{drop_more, length-append, drop-take, drop-drop, get_or_append_left}
+use Rattle.std.proofs.lemmas.List.{drop_more, length-append, length-drop, length-take-le, drop-take, drop-drop, take-append-drop, get_or_append_left}
+use Rattle.std.proofs.lemmas.List.Elements.{All-head, All-tail}
 use Rattle.std.proofs.Math.Seq.{get_or-append_seam}
 use Rattle.std.proofs.lemmas.List.Edits.{length-between}
 use Rattle.trac_space.specs.declared.cell.Cell.{Cell}
 use Rattle.trac_space.specs.declared.cell.Cell.TheVariants.{Byte, Call, Comma, Gap, Head}
 use Rattle.trac_space.specs.Cells.{seen, is_comma}
+use Rattle.trac_space.specs.Texts.{IsByte}
 use Rattle.trac_space.specs.Lists.{Lists, used, HasWay}
 use Rattle.trac_store.specs.Arguments.{before_comma, parts_at, parts_between, numbered_part, IsHeadAt, IsListed}
 use Rattle.trac_store.specs.Stored.{head_at}
@@ -39,16 +41,36 @@ module _ (cells : List Cell) where
       let here = ap before_comma (drop_more cells i d less) ∙ ap (λ b. cond b 0 (suc (before_comma (drop (i + 1) cells)))) (no-comma (get_or cells i d) other) in
       omega (arith, is, here)
 
-  -- four such cells are
-  pub before-four : (i : ℕ) (d : Cell) → i + 4 ≤ length cells → (get_or cells i d ≡ Comma → ⊥) → (get_or cells (i + 1) d ≡ Comma → ⊥) → (get_or cells (i + 2) d ≡ Comma → ⊥) → (get_or cells (i + 3) d ≡ Comma → ⊥) → before_comma cells ≡ i + before_comma (drop i cells) → before_comma cells ≡ i + 4 + before_comma (drop (i + 4) cells)
-  before-four i d within first second third fourth is =
-      let two : i + 1 + 1 ≡ i + 2 = omega arith in
-      let three : i + 2 + 1 ≡ i + 3 = omega arith in
-      let four : i + 3 + 1 ≡ i + 4 = omega arith in
-      let a = before-one i d (omega (arith, within)) first is in
-      let b = before-one (i + 1) d (omega (arith, within)) second a in
-      let c = before-one (i + 2) d (omega (arith, within)) third (rw (← two) b) in
-      rw (← four) (before-one (i + 3) d (omega (arith, within)) fourth (rw (← three) c))
+  -- the first four are
+  pub first-four : (d : Cell) → 4 ≤ length cells → (get_or cells 0 d ≡ Comma → ⊥) → (get_or cells 1 d ≡ Comma → ⊥) → (get_or cells 2 d ≡ Comma → ⊥) → (get_or cells 3 d ≡ Comma → ⊥) → before_comma cells ≡ 4 + before_comma (drop 4 cells)
+  first-four d within first second third fourth =
+      let a = before-one 0 d (omega (arith, within)) first (omega arith) in
+      let b = before-one 1 d (omega (arith, within)) second a in
+      let c = before-one 2 d (omega (arith, within)) third b in
+      before-one 3 d (omega (arith, within)) fourth c
+
+byte-no-comma : (cell : Cell) → IsByte cell → is_comma cell ≡ false
+byte-no-comma (Byte b) byte = refl
+byte-no-comma (Call mode link) byte = refl
+byte-no-comma Comma byte = absurd byte
+byte-no-comma (Gap ordinal) byte = refl
+byte-no-comma (Head n) byte = refl
+
+-- characters are passed
+before-bytes : (cells rest : List Cell) → All IsByte cells → before_comma (cells ++ rest) ≡ length cells + before_comma rest
+before-bytes [] rest bytes = omega arith
+before-bytes (cell ∷ cells) rest bytes =
+    let here = ap (λ b. cond b 0 (suc (before_comma (cells ++ rest)))) (byte-no-comma cell (All-head IsByte cell cells bytes)) in
+    omega (arith, here, before-bytes cells rest (All-tail IsByte cell cells bytes))
+
+-- eight characters are
+pub before-eight : (cells : List Cell) (i : ℕ) → i + 8 ≤ length cells → All IsByte (take 8 (drop i cells)) → before_comma cells ≡ i + before_comma (drop i cells) → before_comma cells ≡ i + 8 + before_comma (drop (i + 8) cells)
+before-eight cells i within bytes is =
+    let rest = drop i cells in
+    let split = ap before_comma (sym (take-append-drop 8 rest)) ∙ before-bytes (take 8 rest) (drop 8 rest) bytes in
+    let long = length-take-le 8 rest (omega (arith, length-drop i cells)) in
+    let behind = ap before_comma (drop-drop 8 i cells) in
+    omega (arith, is, split, long, behind)
 
 is_comma-seen : (cell : Cell) → is_comma (seen cell) ≡ is_comma cell
 is_comma-seen (Byte b) = refl

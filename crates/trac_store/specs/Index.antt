@@ -12,7 +12,7 @@ use Rattle.trac_store.specs.FlatForms.{flat_forms}
 -- the characters of a name, mixed to a number of 64 bits
 abbrev pub mixed : Text → ℕ
 mixed [] = 0
-mixed (c ∷ name) = (mixed name + (c + 1)) % 2 ^ 64 * 11400714819323198485 % 2 ^ 64
+mixed (c ∷ name) = (mixed name + c) % 2 ^ 64 * 11400714819323198485 % 2 ^ 64
 
 -- its upper half: where the search for a name begins
 abbrev pub hash : Text → ℕ

@@ -3,7 +3,7 @@ ghost use Rattle.std.specs.Prelude.{◌≡◌, ◌+◌, ◌-◌, ◌<◌, ◌≤
 ghost use Rattle.trac_space.specs.Lists.{HasWay};
 ghost use Rattle.trac_store.specs.Arguments.{before_comma, parts_between, numbered_part, IsListed};
 
-use trac_space::{Cell, Space};
+use trac_space::{Cell, Space, are_characters};
 
 /// Where the argument of a number, from 1, begins and ends among what stands between the comma marks
 /// of neutral from place `from` up to `end`; a null part where there is none.
@@ -70,22 +70,35 @@ pub fn before_comma(cells: &[Cell]) -> u32
     requires { length cells.now ≤ 16777216 }
     ensures { result ≡ before_comma cells.now }
 {
-    let mut i = 0;
-    // Four in a turn: the turn costs more than a look.
-    while cells.len() - i >= 4 {
-        if let Cell::Comma = cells[i] {
-            return i as u32;
-        }
-        if let Cell::Comma = cells[i + 1] {
-            return i as u32 + 1;
-        }
-        if let Cell::Comma = cells[i + 2] {
-            return i as u32 + 2;
-        }
-        if let Cell::Comma = cells[i + 3] {
-            return i as u32 + 3;
-        }
-        i += 4;
+    if cells.len() < 4 {
+        return before_near_comma(cells);
+    }
+    if let Cell::Comma = cells[0] {
+        return 0;
+    }
+    if let Cell::Comma = cells[1] {
+        return 1;
+    }
+    if let Cell::Comma = cells[2] {
+        return 2;
+    }
+    if let Cell::Comma = cells[3] {
+        return 3;
+    }
+    before_far_comma(cells)
+}
+
+// The same, where none stands among the first four: eight in a turn.
+#[inline(never)]
+fn before_far_comma(cells: &[Cell]) -> u32
+    requires few { length cells.now ≤ 16777216 }
+    requires within { 4 ≤ length cells.now }
+    requires none { before_comma cells.now ≡ 4 + before_comma (drop 4 cells.now) }
+    ensures { result ≡ before_comma cells.now }
+{
+    let mut i = 4;
+    while cells.len() - i >= 8 && are_characters(cells, i) {
+        i += 8;
     }
     i as u32 + before_near_comma(&cells[i..])
 }

@@ -79,33 +79,6 @@ pub fn remove_found(
     }
 }
 
-// Puts the cells of neutral from place `a` up to `b` once more at its end.
-fn put_part(space: &mut Space, a: u32, b: u32)
-    requires part { IsTextPart space.old.neutral a b }
-    requires room { lists.HasWay (b - a) space.old }
-    ensures { space.new ≡ record space.old {
-      neutral = space.old.neutral ++ slice_range space.old.neutral a b;
-    } }
-{
-    space.put_from_neutral(a, b);
-}
-
-// Puts the cells of a new form at the end of neutral.
-fn put_form(space: &mut Space, name: (u32, u32), text: (u32, u32))
-    requires name_part { IsTextPart space.old.neutral name.0 name.1 }
-    requires text_part { IsTextPart space.old.neutral text.0 text.1 }
-    requires room { let need = 3 + (name.1 - name.0) + (text.1 - text.0) in
-        lists.HasWay need space.old }
-    ensures { let form = new_form space.old.neutral name.0 name.1 text.0 text.1 in
-        space.new ≡ record space.old { neutral = space.old.neutral ++ flat_form form } }
-{
-    space.put_neutral(Cell::Head(name.1 - name.0));
-    space.put_neutral(Cell::Head(text.1 - text.0));
-    space.put_neutral(Cell::Head(0));
-    put_part(space, name.0, name.1);
-    put_part(space, text.0, text.1);
-}
-
 /// Puts the cells of a new form, of which there are `need`, at the end of the store.
 pub fn store_form(space: &mut Space, need: u32, name: (u32, u32), text: (u32, u32))
     requires name_part { IsTextPart space.old.neutral name.0 name.1 }
@@ -120,7 +93,25 @@ pub fn store_form(space: &mut Space, need: u32, name: (u32, u32), text: (u32, u3
         } }
 {
     space.make_way(need);
-    let from = space.neutral_len();
-    put_form(space, name, text);
-    space.neutral_to_store(from);
+    let start = space.store_len();
+    space.open_store(need);
+    prove!(space.used() <= space.room());
+    write_form(space, start, name, text);
+}
+
+// Writes the cells of a new form over the last ones of the store, from a place on.
+fn write_form(space: &mut Space, start: u32, name: (u32, u32), text: (u32, u32))
+    requires name_part { IsTextPart space.old.neutral name.0 name.1 }
+    requires text_part { IsTextPart space.old.neutral text.0 text.1 }
+    requires bounded { length space.old.store ≤ 16777216 }
+    requires last { length space.old.store ≡
+        start + (3 + (name.1 - name.0) + (text.1 - text.0)) }
+    ensures { let form = new_form space.old.neutral name.0 name.1 text.0 text.1 in
+        space.new ≡ record space.old { store = take start space.old.store ++ flat_form form } }
+{
+    space.write_store(start, Cell::Head(name.1 - name.0));
+    space.write_store(start + 1, Cell::Head(text.1 - text.0));
+    space.write_store(start + 2, Cell::Head(0));
+    space.write_part(start + 3, name.0, name.1);
+    space.write_part(start + 3 + (name.1 - name.0), text.0, text.1);
 }

@@ -4,7 +4,7 @@
 //! that. The third quarter says where each form begins, the last one which slot it has.
 ghost use Rattle.std.specs.Prelude.{◌≡◌, ◌≢◌, [], ◌<◌, ◌≤◌, ◌^◌, ◌+◌, ◌-◌, ◌*◌};
 ghost use Rattle.std.specs.Prelude.{ℕ, length, map, not, take, slice_range, remove, All};
-ghost use Rattle.std.specs.Prelude.{MatchOption, IfSome, Decides};
+ghost use Rattle.std.specs.Prelude.{MatchOption, IfSome, IsTrue, Decides};
 ghost use Rattle.std.specs.Bool.{OnTrue, OnFalse};
 ghost use Rattle.trac_language.specs.Text.{Text};
 ghost use Rattle.trac_language.specs.Store.{NoneNamed};
@@ -36,7 +36,7 @@ fn hash(name: &[Cell]) -> usize
     while left > 0 {
         left -= 1;
         number = number
-            .wrapping_add(byte_in(&name[left]) as u64 + 1)
+            .wrapping_add(u64::from(byte_in(&name[left])))
             .wrapping_mul(MIXER);
     }
     (number / 0x1_0000_0000) as usize
@@ -231,8 +231,8 @@ pub fn index_last(space: &mut Space, k: u32, start: u32)
     }
 }
 
-// Makes a table of all forms for four times as many, in place of the one that there is, or lets that
-// go where more than half of the free cells would be needed.
+// Makes a greater table of all forms in place of the one that there is, or lets that go where it doesn't
+// fit.
 #[inline(never)]
 fn grow_index(space: &mut Space, count: u32)
     requires whole { flat_forms (forms_in space.old.store) ≡ space.old.store }
@@ -241,10 +241,7 @@ fn grow_index(space: &mut Space, count: u32)
     ensures same { space.new ≡ record space.old { spare = space.new.spare } }
     ensures index { IsIndexed space.new.spare (forms_in space.old.store) }
 {
-    let cells = 4 * places_for(2 * count);
-    if cells <= space.free() / 2 {
-        index_all(space, count, cells);
-    } else {
+    if !index_fitting(space, count) {
         space.drop_spare();
     }
 }
@@ -397,25 +394,42 @@ pub(crate) fn unindex_from(space: &mut Space, k: u32, count: u32)
 
 // How many places a table has for so many forms and at least one more.
 fn places_for(count: u32) -> u32
-    requires { count ≤ 33554432 }
+    requires { count ≤ 67108864 }
     ensures { result ≤ 2 * count + 16 }
 {
     (count + 1).next_power_of_two().max(16)
 }
 
-// Makes the table of all forms anew, where at most half of the free cells are enough for it.
-pub(crate) fn index_fitting(space: &mut Space, count: u32)
+// How many cells a table of so many forms has: it has places for four times as many, where so many
+// cells are enough for it, so that it isn't soon made anew.
+fn cells_for(count: u32, most: u32) -> u32
+    requires { count ≤ 16777216 }
+{
+    let many = 4 * places_for(4 * count);
+    if many <= most {
+        many
+    } else {
+        4 * places_for(count)
+    }
+}
+
+// Makes the table of all forms anew, where at most half of the free cells are enough for it. Gives
+// whether they are.
+pub(crate) fn index_fitting(space: &mut Space, count: u32) -> bool
     requires whole { flat_forms (forms_in space.old.store) ≡ space.old.store }
     requires bounded { length space.old.store ≤ 16777216 }
     requires count_is { count ≡ length (forms_in space.old.store) }
-    requires index { IsIndexed space.old.spare (forms_in space.old.store) }
     ensures same { space.new ≡ record space.old { spare = space.new.spare } }
-    ensures index { IsIndexed space.new.spare (forms_in space.old.store) }
+    ensures index { IsTrue result → IsIndexed space.new.spare (forms_in space.old.store) }
+    ensures left { OnFalse result (space.new ≡ space.old) }
 {
-    let cells = 4 * places_for(count);
-    if cells <= space.free() / 2 {
-        index_all(space, count, cells);
+    let most = space.free() / 2;
+    let cells = cells_for(count, most);
+    if cells > most {
+        return false;
     }
+    index_all(space, count, cells);
+    true
 }
 
 // How many looks at a form, or at a slot, making a table costs for each form.

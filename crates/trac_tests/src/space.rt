@@ -1,7 +1,7 @@
 //! The three lists of a block.
 use std::process::Abort;
 use std::test::Fail;
-use trac_space::{Cell, Mode, Space, make_block};
+use trac_space::{Cell, Mode, Space, are_characters, make_block};
 
 fn is_byte(cell: Option<Cell>, byte: u8) -> bool {
     match cell {
@@ -109,6 +109,38 @@ fn moves_with_no_free_cell(rt: HostRuntime) {
     moves_to_the_store(&rt, &mut block);
     moves_to_the_active_string(&rt, &mut block);
     assert!(rt; are_bytes(&block, b"ABC"));
+}
+
+#[test]
+fn the_store_is_opened(rt: HostRuntime) {
+    let mut block = [Cell::Gap(7); 16];
+    let mut space = Space::over(&mut block);
+    assert!(rt; space.push_bytes(b"ABCDEFGHI"));
+    space.open_store(2);
+    space.write_store(0, Cell::Byte(b'X'));
+    space.write_part(1, 8, 9);
+    assert!(rt; space.store_len() == 2);
+    assert!(rt; are_bytes(space.store_part(0, 2), b"XI"));
+    assert!(rt; are_bytes(space.neutral_part(0, 9), b"ABCDEFGHI"));
+}
+
+#[test]
+fn the_mode_of_a_call(rt: HostRuntime) {
+    let mut block = [Cell::Gap(7); 4];
+    let mut space = Space::over(&mut block);
+    space.put_neutral(Cell::Call(Mode::Active, 9));
+    assert!(rt; matches!(space.call_mode(0), Mode::Active));
+    space.put_neutral(Cell::Call(Mode::Neutral, 9));
+    assert!(rt; matches!(space.call_mode(1), Mode::Neutral));
+}
+
+#[test]
+fn eight_characters(rt: HostRuntime) {
+    let mut cells = [Cell::Byte(0); 9];
+    assert!(rt; are_characters(&cells, 1));
+    cells[0] = Cell::Comma;
+    assert!(rt; are_characters(&cells, 1));
+    assert!(rt; !are_characters(&cells, 0));
 }
 
 #[test]

@@ -1,5 +1,5 @@
 -- The digits at the end of a text, read from the last to the first.
-use Rattle.std.proofs.Common.{◌≡◌, ℕ, ◌+◌, ◌-◌, ◌*◌, ◌^◌, ◌<◌, ◌≤◌, List, [], ◌∷◌, length, drop, get_or, ap, ◌∙◌, arith}
+use Rattle.std.proofs.Common.{◌≡◌, ℕ, ◌+◌, ◌-◌, ◌*◌, ◌^◌, ◌<◌, ◌≤◌, List, [], ◌∷◌, ◌++◌, length, drop, get_or, refl, ap, ◌∙◌, arith}
 use Rattle.std.specs.Char.{digit_value}
 use Rattle.std.specs.Str.Parse.{digits_value, digits_value_after}
 use Rattle.std.proofs.Math.Nat.{pow-le-pow_right, add-mul, mul_right_comm, mul_assoc, mul-le-mul_right}
@@ -23,6 +23,14 @@ after_is n (c ∷ cs) =
     let same : length cs + 1 ≡ length (c ∷ cs) = omega arith in
     let sum : n * (P * 10) + d * P + digits_value 10 cs ≡ n * 10 ^ (length cs + 1) + digits_value 10 (c ∷ cs) = omega (arith, goal_right, power) in
     goal_left ∙ sum ∙ ap (λ k. n * 10 ^ k + digits_value 10 (c ∷ cs)) same
+
+-- digits behind others
+after-append : (n : ℕ) (xs ys : List ℕ) → digits_value_after 10 n (xs ++ ys) ≡ digits_value_after 10 (digits_value_after 10 n xs) ys
+after-append n [] ys = refl
+after-append n (x ∷ xs) ys = after-append (n * 10 + digit_value x) xs ys
+
+pub value-append : (xs ys : List ℕ) → digits_value 10 (xs ++ ys) ≡ digits_value 10 xs * 10 ^ length ys + digits_value 10 ys
+value-append xs ys = after-append 0 xs ys ∙ after_is (digits_value 10 xs) ys
 
 front_digit : (c : ℕ) (cs : List ℕ) → digits_value 10 (c ∷ cs) ≡ digit_value c * 10 ^ length cs + digits_value 10 cs
 front_digit c cs = let e = after_is (0 * 10 + digit_value c) cs in omega (arith, e)

@@ -139,7 +139,9 @@ fn shifted_bit(digits: &[Cell], by: Count, place: usize) -> bool
     }
 }
 
-/// The digit at a place of a shift of the bits of digits.
+/// The digit at a place of a shift of the bits of digits. Called, so that what it asks of the place is
+/// not worked out before the digits of other functions.
+#[inline(never)]
 pub fn shifted_digit(digits: &[Cell], by: Count, k: u32) -> Option<u8>
     requires { IsOctal digits.now }
     ensures { let distance = signed by.negative by.size in
@@ -173,6 +175,7 @@ fn rotated_bit(digits: &[Cell], by: u32, place: usize) -> bool
 
 /// The digit at a place of a rotation of the bits of digits,
 /// of which there are more than by how many they move.
+#[inline(never)]
 pub fn rotated_digit(digits: &[Cell], by: u32, k: u32) -> Option<u8>
     requires octal { IsOctal digits.now }
     requires by { by < 3 * length digits.now }

@@ -39,14 +39,16 @@ fn digits_start(cells: &[Cell]) -> usize
     start
 }
 
-/// Ten times a number and a digit, None where that, or the
-/// number, is outside the range of arithmetic.
-fn with_digit(value: Option<i128>, digit: u8) -> Option<i128>
-    requires { digit < 10 }
+/// A number with further digits behind its own: these are a part, and a power of ten to their number.
+/// None where that, or the number, is outside the range of arithmetic.
+fn with_part(value: Option<i128>, part: (u64, u64)) -> Option<i128>
+    requires { part.0 < part.1 }
     ensures { (n : ℕ) → value ≡ if_in_range (Some (pos n)) →
-        result ≡ if_in_range (Some (pos (n * 10 + digit))) }
+        result ≡ if_in_range (Some (pos (n * part.1 + part.0))) }
 {
-    value?.checked_mul(10)?.checked_add(i128::from(digit))
+    value?
+        .checked_mul(i128::from(part.1))?
+        .checked_add(i128::from(part.0))
 }
 
 /// A text before its longest suffix of decimal digits, and these.
@@ -87,26 +89,35 @@ fn short_number(cells: &[Cell]) -> Option<(usize, u64)>
 /// How many digits 64 bits hold, whatever these are.
 const SHORT: usize = 19;
 
-/// The number that the first digits are, of which 64 bits hold any.
-fn first_value(digits: &[Cell]) -> u64
-    requires { IsDecimal digits.now }
-    ensures { result ≡ digits_value 10 (take 19 (text_of_cells digits.now)) }
+/// The number that digits are, of which 64 bits hold any, and ten to the power of how many they are.
+fn part_value(digits: &[Cell]) -> (u64, u64)
+    requires decimal { IsDecimal digits.now }
+    requires few { length digits.now ≤ 19 }
+    ensures value { result.0 ≡ decimal_value digits.now }
+    ensures power { result.1 ≡ 10 ^ length digits.now }
+    ensures below { result.0 < result.1 }
 {
     let mut value = 0;
-    for i in 0..digits.len().min(SHORT) {
-        value = value * 10 + u64::from(character_of(&digits[i]) - b'0');
+    let mut power = 1;
+    for i in 0..digits.len() {
+        value = value * 10 + u64::from(byte_in(&digits[i]) - b'0');
+        power *= 10;
     }
-    value
+    (value, power)
 }
 
-/// The number that digits are, of any length, None where it is outside the range of arithmetic.
+/// The number that digits are, of any length, None where it is outside the range of arithmetic. They
+/// are read by parts that 64 bits hold.
 fn long_value(digits: &[Cell]) -> Option<i128>
     requires { IsDecimal digits.now }
     ensures { result ≡ if_in_range (Some (pos (decimal_value digits.now))) }
 {
-    let mut value = Some(i128::from(first_value(digits)));
-    for i in digits.len().min(SHORT)..digits.len() {
-        value = with_digit(value, character_of(&digits[i]) - b'0');
+    let mut value = Some(0);
+    let mut done = 0;
+    while done < digits.len() {
+        let end = done + (digits.len() - done).min(SHORT);
+        value = with_part(value, part_value(&digits[done..end]));
+        done = end;
     }
     value
 }

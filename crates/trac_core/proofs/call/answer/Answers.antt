@@ -25,7 +25,7 @@ returns-in_default-function g c =
     let none = no-failure-made f _ _ w c.value_of.new.work c.value_of.result makes in
     record {
       answers = λ told_source told_sink. answers-made w c.value_of.new.work place f (texts w c.function.new.self) c.function.new.self.scanned names c.requires.innermost plain rest
-          (c.in-Some.ensures.scanned ∙ c.is_scanned_again.ensures) c.value_of.result makes c.args.meta.now _ _;
+          (c.in-Some.ensures.scanned ∙ c.is_active_call.ensures) c.value_of.result makes c.args.meta.now _ _;
       stands = stands-made f _ _ w c.value_of.new.work c.value_of.result makes;
       source = (λ told. told, omega (arith, none.0), λ unread. refl);
       sink = (λ told. told, omega (arith, none.1.0), λ unprinted. refl, refl, λ other. inl refl);

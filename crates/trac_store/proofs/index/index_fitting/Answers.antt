@@ -3,10 +3,6 @@ use Rattle.trac_store.specs.Stored.{forms_in}
 use Rattle.trac_store.proofs.FlatLemmas.{count-le}
 use Rattle.trac_store.proofs.index.index_fitting.Goals as goal
 
-pub places_for-cells-requires : goal.places_for-cells-requires
-places_for-cells-requires c =
+pub cells_for-cells-requires : goal.cells_for-cells-requires
+cells_for-cells-requires c =
     omega (arith, count-le (forms_in c.args.space.now.store), ap length c.requires.whole, c.requires.count_is, c.requires.bounded)
-
-pub overflow_mul-cells : goal.overflow_mul-cells
-overflow_mul-cells c =
-    omega (arith, count-le (forms_in c.args.space.now.store), ap length c.requires.whole, c.requires.count_is, c.requires.bounded, c.places_for-cells.ensures)

@@ -1,9 +1,15 @@
-use Rattle.std.proofs.Common.{◌≡◌, Some, pos, take}
+use Rattle.std.proofs.Common.{◌≡◌, ◌-◌, ◌≤◌, Some, pos, length, take}
 use Rattle.std.specs.Str.Parse.{digits_value}
 use Rattle.trac_language.specs.Number.{if_in_range}
 use Rattle.trac_space.specs.Texts.{text_of_cells}
 use Rattle.trac_values.proofs.number.long_value.Given as goal
 
 -- the value of the digits so far
-abbrev pub invariant-loop-i : goal.invariant-loop-i
-invariant-loop-i l = l.value ≡ if_in_range (Some (pos (digits_value 10 (take l.i (text_of_cells l.digits)))))
+abbrev pub invariant-loop-done : goal.invariant-loop-done
+invariant-loop-done l = record {
+  within : l.done ≤ length l.digits;
+  value : l.value ≡ if_in_range (Some (pos (digits_value 10 (take l.done (text_of_cells l.digits)))));
+}
+
+abbrev pub decreases-loop-done : goal.decreases-loop-done
+decreases-loop-done l = length l.digits - l.done

@@ -1,10 +1,9 @@
 use Rattle.std.proofs.Common.{◌+◌, ◌++◌, List, ◌∙◌, [], ◌≡◌, ◌∷◌, take, sym, subst, length, refl, ap, arith}
 use Rattle.std.proofs.lemmas.Bool.{false≢true}
-use Rattle.std.proofs.lemmas.List.{length_push, take_at, take_all}
+use Rattle.std.proofs.lemmas.List.{length_push, take_at}
 use Rattle.std.proofs.lemmas.List.Sums.{sum_by_push}
 use Rattle.trac_language.specs.Form.{Form}
 use Rattle.trac_language.specs.Store.{without, form_cells}
-use Rattle.trac_space.specs.declared.cell.Cell.{Cell}
 use Rattle.trac_space.specs.Lists as lists
 use Rattle.trac_space.specs.Lists.{Lists}
 use Rattle.trac_store.specs.Parts.{part_text, new_form}

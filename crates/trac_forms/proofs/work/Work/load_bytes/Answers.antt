@@ -1,4 +1,4 @@
-use Rattle.std.proofs.Common.{◌+◌, ◌≤◌, ◌++◌, ◌∙◌, length, ap, arith, refl}
+use Rattle.std.proofs.Common.{◌+◌, ◌≤◌, length, arith, refl}
 use Rattle.std.proofs.lemmas.List.{length-map}
 use Rattle.std.proofs.lemmas.List.Elements.{All-map}
 use Rattle.trac_space.specs.declared.cell.Cell.TheVariants.{Byte}

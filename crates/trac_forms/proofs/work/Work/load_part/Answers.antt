@@ -1,4 +1,4 @@
-use Rattle.std.proofs.Common.{◌+◌, ◌-◌, ◌≤◌, length, slice_range, refl, inl, arith}
+use Rattle.std.proofs.Common.{◌+◌, ◌≤◌, length, slice_range, refl, inl, arith}
 use Rattle.std.proofs.lemmas.List.Edits.{length-between}
 use Rattle.trac_space.specs.Lists as lists
 use Rattle.trac_forms.specs.Stored.{IsStored}

@@ -1,4 +1,4 @@
-use Rattle.std.proofs.Common.{◌≡◌, ◌-◌, ◌∙◌, length, drop, replicate, ap, arith, refl}
+use Rattle.std.proofs.Common.{◌≡◌, ◌-◌, ◌∙◌, length, take, drop, replicate, ap, arith, refl}
 use Rattle.std.proofs.lemmas.List.{length-take, length-drop, length-replicate}
 use Rattle.trac_space.specs.declared.cell.Cell.TheVariants.{Byte}
 use Rattle.trac_space.proofs.BlockChanges.{parts_of, sizes, shown, laid, parts-put_last}
@@ -11,10 +11,10 @@ returns c =
     let h = c.self.invariant in
     let size = sizes s h c.self.view_is in
     let k = length s.cells.now - s.end in
-    let new : c.fill.new.self ≡ replicate k (Byte 0) =
-    c.fill.ensures.after (λ _ e. e) ∙ ap (λ n. replicate n (Byte 0)) (omega (arith, length-take k (drop s.end s.cells.now), length-drop s.end s.cells.now)) in
-    let moved = parts-put_last s h c.fill.new.self _ (omega (arith, ap length new, length-replicate k (Byte 0))) refl in
-    let other = seen-other_spare (parts_of s) s.active c.fill.new.self (omega arith) in
+    let new : c.blank.new.cells ≡ replicate k (Byte 0) =
+    c.blank.ensures ∙ ap (λ n. replicate n (Byte 0)) (omega (arith, length-take k (drop s.end s.cells.now), length-drop s.end s.cells.now)) in
+    let moved = parts-put_last s h c.blank.new.cells _ (omega (arith, ap length new, length-replicate k (Byte 0))) refl in
+    let other = seen-other_spare (parts_of s) s.active c.blank.new.cells (omega arith) in
     rw (← c.self.view_is, rw (← c.self.view_is) at size.spare) (shown _ moved ∙ other ∙ rw (new, seen-blank k) refl)
 
 -- neutral is as it was
@@ -23,5 +23,5 @@ invariant_of-self c =
     let s = c.self.inside in
     let h = c.self.invariant in
     let size = sizes s h c.self.view_is in
-    let moved = parts-put_last s h c.fill.new.self _ (omega (arith, c.fill.ensures.len, length-take (length s.cells.now - s.end) (drop s.end s.cells.now), length-drop s.end s.cells.now)) refl in
+    let moved = parts-put_last s h c.blank.new.cells _ (omega (arith, ap length c.blank.ensures, length-replicate (length (take (length s.cells.now - s.end) (drop s.end s.cells.now))) (Byte 0), length-take (length s.cells.now - s.end) (drop s.end s.cells.now), length-drop s.end s.cells.now)) refl in
     laid s _ h moved refl (omega arith) (omega arith) h.calls h.linked

@@ -1,4 +1,4 @@
-use Rattle.std.proofs.Common.{◌+◌, ◌++◌, ◌∙◌, length, map, take, ap, arith, refl}
+use Rattle.std.proofs.Common.{◌++◌, ◌∙◌, length, map, take, ap, arith, refl}
 use Rattle.std.proofs.lemmas.List.{length-map}
 use Rattle.trac_space.specs.declared.cell.Cell.TheVariants.{Byte}
 use Rattle.trac_space.specs.Cells.{seen}

@@ -1,4 +1,4 @@
-use Rattle.std.proofs.Common.{◌∙◌, arith, refl}
+use Rattle.std.proofs.Common.{◌≡◌, ◌+◌, ◌-◌, ◌∙◌, arith, refl}
 use Rattle.trac_space.proofs.BlockChanges.{sizes, shown, maps, laid, parts-over}
 use Rattle.trac_space.proofs.space.Space.write_part.Goals as goal
 
@@ -7,7 +7,8 @@ returns c =
     let s = c.self.inside in
     let h = c.self.invariant in
     let size = sizes s h c.self.view_is in
-    let moved = parts-over s h c.args.at c.args.a c.args.b _ c.requires.order (omega arith) (omega arith) c.copy_few.ensures.after in
+    let end : s.store + c.args.a + (c.args.b - c.args.a) ≡ s.store + c.args.b = omega arith in
+    let moved = parts-over s h c.args.at c.args.a c.args.b _ c.requires.order (omega arith) (omega arith) (rw end at c.copy_before.ensures.after) in
     rw (← c.self.view_is) (shown _ moved ∙ simp maps)
 
 -- neutral is as it was
@@ -16,5 +17,6 @@ invariant_of-self c =
     let s = c.self.inside in
     let h = c.self.invariant in
     let size = sizes s h c.self.view_is in
-    let moved = parts-over s h c.args.at c.args.a c.args.b _ c.requires.order (omega arith) (omega arith) c.copy_few.ensures.after in
+    let end : s.store + c.args.a + (c.args.b - c.args.a) ≡ s.store + c.args.b = omega arith in
+    let moved = parts-over s h c.args.at c.args.a c.args.b _ c.requires.order (omega arith) (omega arith) (rw end at c.copy_before.ensures.after) in
     laid s _ h moved refl (omega arith) (omega arith) h.calls h.linked

@@ -1,11 +1,12 @@
 use Rattle.std.proofs.Common.{◌≡◌, ◌<◌, ◌^◌, take}
 use Rattle.std.specs.Str.Parse.{digits_value}
 use Rattle.trac_space.specs.Texts.{text_of_cells}
-use Rattle.trac_values.proofs.number.first_value.Given as goal
+use Rattle.trac_values.proofs.number.part_value.Given as goal
 
 -- the value of the digits so far
 abbrev pub invariant-loop-i : goal.invariant-loop-i
 invariant-loop-i l = record {
   value : l.value ≡ digits_value 10 (take l.i (text_of_cells l.digits));
   below : l.value < 10 ^ l.i;
+  power : l.power ≡ 10 ^ l.i;
 }

@@ -1,6 +1,6 @@
 use Rattle.std.proofs.Common.{◌≡◌, ◌≤◌, ◌+◌, ◌-◌, drop, length}
 use Rattle.trac_store.specs.Arguments.{before_comma}
-use Rattle.trac_store.proofs.arguments.before_comma.Given as goal
+use Rattle.trac_store.proofs.arguments.before_far_comma.Given as goal
 
 -- no comma mark stands among the cells so far
 abbrev pub invariant-loop-i : goal.invariant-loop-i

@@ -1,0 +1,31 @@
+use Rattle.std.proofs.Common.{◌≡◌, ℕ, ◌+◌, ◌-◌, ◌≤◌, List, length, take, replicate, arith, rules}
+use Rattle.std.proofs.Math.Seq.{take-length}
+use Rattle.std.proofs.lemmas.List.{places, same_lists}
+use Rattle.std.proofs.lemmas.Grind.{elements}
+use borrow.Rule.Slice.PartMut.{put_mid}
+use Rattle.trac_space.specs.declared.cell.Cell.{Cell}
+use Rattle.trac_space.specs.declared.cell.Cell.TheVariants.{Byte}
+use Rattle.trac_space.proofs.block.blank_by.Goals as goal
+
+-- blank cells over those behind blank cells
+more-blank : (was part new : List Cell) (done n : ℕ) → done + n ≤ length was → n ≤ length part → take done was ≡ replicate done (Byte 0) → part ≡ replicate (length part) (Byte 0) → new ≡ take (done + n - done) part → take (done + n) (put_mid done (done + n - done) was new) ≡ replicate (done + n) (Byte 0)
+more-blank was part new done n within few before blank is =
+    rw is (same_lists _ _ (search (rules, places)) (λ i d less. grind (arith, elements)))
+
+still-long : (was part new : List Cell) (done n : ℕ) → done + n ≤ length was → n ≤ length part → new ≡ take (done + n - done) part → done + n ≤ length (put_mid done (done + n - done) was new)
+still-long was part new done n within few is = rw is (search (rules, places))
+
+pub loop-done-preserved : goal.loop-done-preserved
+loop-done-preserved c =
+    let was = c.loop-done.cells in
+    let part = c.args.part.now in
+    let n = c.min.result in
+    let within : c.loop-done.done + n ≤ length was = omega (arith, c.min.ensures, c.loop-done-test.true) in
+    let few : n ≤ length part = omega (arith, c.min.ensures) in
+    record {
+      within = still-long was part c.copy_from_slice.new.self c.loop-done.done n within few c.copy_from_slice.ensures.after;
+      blank = more-blank was part c.copy_from_slice.new.self c.loop-done.done n within few c.loop-done.invariant.blank c.requires.blank c.copy_from_slice.ensures.after;
+    }
+
+pub returns : goal.returns
+returns c = rw (← take-length c.loop-done.cells) (grind (arith, c.loop-done.invariant.blank))

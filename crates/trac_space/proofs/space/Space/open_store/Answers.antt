@@ -1,0 +1,27 @@
+use Rattle.std.proofs.Common.{◌≡◌, ℕ, ◌+◌, ◌≤◌, List, length, ◌∙◌, take, drop, map, arith, rules, refl}
+use Rattle.std.proofs.lemmas.List.{length-map, places}
+use Rattle.trac_space.specs.Cells.{seen}
+use Rattle.trac_space.proofs.BlockChanges.{sizes, shown, maps, laid, parts-open}
+use Rattle.trac_space.proofs.space.Space.open_store.Goals as goal
+
+-- cells of a block, as many as were asked for
+of_front : {X Y : Type 0} (f : X → Y) (at n : ℕ) (cells : List X) → at + n ≤ length cells → length (map f (take n (drop at cells))) ≡ n
+of_front f at n cells within = search (rules, places, length-map)
+
+pub returns : goal.returns
+returns c =
+    let s = c.self.inside in
+    let h = c.self.invariant in
+    let size = sizes s h c.self.view_is in
+    let moved = parts-open s h c.args.n c.copy_on.new.cells (omega (arith, c.requires)) c.copy_on.ensures.after in
+    let cells = c.copy_on.new.cells in
+    (map seen (take c.args.n (drop s.store cells)), of_front seen s.store c.args.n cells (omega (arith, c.copy_on.ensures.len, h.fits, h.behind, c.requires)), rw (← c.self.view_is) (shown _ moved ∙ simp maps))
+
+-- neutral is as it was
+pub invariant_of-self : goal.invariant_of-self
+invariant_of-self c =
+    let s = c.self.inside in
+    let h = c.self.invariant in
+    let size = sizes s h c.self.view_is in
+    let moved = parts-open s h c.args.n c.copy_on.new.cells (omega (arith, c.requires)) c.copy_on.ensures.after in
+    laid s _ h moved refl (omega arith) (omega arith) h.calls h.linked

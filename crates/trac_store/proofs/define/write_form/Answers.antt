@@ -1,0 +1,25 @@
+use Rattle.std.proofs.Common.{◌≡◌, ℕ, ◌+◌, ◌-◌, List, ◌∷◌, ◌++◌, length, take, drop, set, slice_range, ap, arith, rules}
+use Rattle.std.proofs.lemmas.List.{places, same_lists}
+use Rattle.std.proofs.lemmas.List.Edits.{length-between}
+use Rattle.trac_space.specs.declared.cell.Cell.{Cell}
+use Rattle.trac_space.specs.declared.cell.Cell.TheVariants.{Head}
+use Rattle.trac_space.proofs.BlockChanges.{reads}
+use Rattle.trac_store.proofs.FlatLemmas.{flat_form_of}
+use Rattle.trac_store.proofs.define.write_form.Goals as goal
+
+-- three cells and two parts stand where they were written
+written : (was : List Cell) (start n m : ℕ) (x y z : Cell) (name text : List Cell) → length name ≡ n → length text ≡ m → length was ≡ start + (3 + n + m) → let heads = set (set (set was start x) (start + 1) y) (start + 2) z in let named = take (start + 3) heads ++ name ++ drop (start + 3 + n) heads in take (start + 3 + n) named ++ text ++ drop (start + 3 + n + m) named ≡ take start was ++ x ∷ y ∷ z ∷ (name ++ text)
+written was start n m x y z name text named texted last =
+    same_lists _ _ (search (rules, places)) (λ k d less. grind (arith, reads))
+
+pub returns : goal.returns
+returns c =
+    let s = c.args.space.now in
+    let name = c.args.name in
+    let text = c.args.text in
+    let named = length-between s.neutral name.0 name.1 c.requires.name_part.within in
+    let texted = length-between s.neutral text.0 text.1 c.requires.text_part.within in
+    let is = written s.store c.args.start (name.1 - name.0) (text.1 - text.0) (Head (name.1 - name.0)) (Head (text.1 - text.0)) (Head 0) (slice_range s.neutral name.0 name.1) (slice_range s.neutral text.0 text.1) named texted c.requires.last in
+    rw (c.write_part-2.ensures, c.write_part.ensures, c.write_store-3.ensures, c.write_store-2.ensures, c.write_store.ensures)
+    (rw (flat_form_of s.neutral name.0 name.1 text.0 text.1 c.requires.name_part c.requires.text_part)
+    (ap (λ cells. record s { store = cells }) is))
