@@ -1,7 +1,6 @@
 -- Characters that are put once more at a place behind, one after the other.
 use Rattle.std.proofs.Common.{◌≡◌, ◌↔◌, ℕ, ◌+◌, ◌<◌, ◌≤◌, true, false, IsTrue, nat_eq, All, List, [], ◌∷◌, ◌++◌, length, take, drop, map, get_or, slice_range, sum_by, refl, sym, ◌-◌, ap, ◌∙◌, subst, ⊎_elim, arith, rules}
-use Rattle.std.specs.List.{copy_within}
-use Rattle.std.proofs.lemmas.List.{places, same_lists, take-append-drop, length-drop, length-take-le, get_or-take, get_or-map, get_or-drop, take_more, take-map, drop-map, drop-drop}
+use Rattle.std.proofs.lemmas.List.{places, same_lists, length-drop, length-take-le, get_or-take, get_or-map, get_or-drop, take_more, take-map, drop-map, drop-drop}
 use Rattle.std.proofs.Math.Seq.{take-add}
 use Rattle.std.proofs.lemmas.Bool.{cases_lt}
 use Rattle.std.proofs.lemmas.List.Elements.{All-append, All-push, All-map, All-cons, All-head, All-tail}
@@ -71,19 +70,6 @@ module _ (cells : List Cell) (store a n : ℕ) (within : a + n ≤ store) where
 pub part-on : {X : Type 0} (xs : List X) (a n m : ℕ) → slice_range xs a (a + (n + m)) ≡ slice_range xs a (a + n) ++ slice_range xs (a + n) (a + n + m)
 part-on xs a n m = same_lists _ _ (search (rules, places)) (λ i d less. grind (arith, places))
 
--- characters that are all put behind are a copy of them
-pub all-copied : (was now : List Cell) (start n to : ℕ) → start + n ≤ to → to + n ≤ length was → length now ≡ length was → take (to + n) now ≡ take to was ++ take n (drop start was) → drop (to + n) now ≡ drop (to + n) was → now ≡ copy_within was start (start + n) to
-all-copied was now start n to apart room len front rest =
-    let whole : now ≡ (take to was ++ take n (drop start was)) ++ drop (to + n) was = rw (← front, ← rest) (sym (take-append-drop (to + n) now)) in
-    whole ∙ same_lists _ _ (search (rules, places)) (λ i d less. grind (arith, places))
-
--- what stands before the place stays
-pub front-kept : (was now more : List Cell) (k to n : ℕ) → k ≤ to → to ≤ length was → to ≤ length now → take (to + n) now ≡ take to was ++ more → take k now ≡ take k was
-front-kept was now more k to n before within inside front =
-    same_lists _ _ (search (rules, places)) (λ i d less.
-    let at : get_or (take (to + n) now) i d ≡ get_or (take to was ++ more) i d = ap (λ cells. get_or cells i d) front in
-    grind (arith, at, places))
-
 -- whether a cell is a character, by the number of its kind
 byte-kind : (cell : Cell) → kind_number cell ≡ 0 → IsByte cell
 byte-kind (Byte b) none = search rules
@@ -114,9 +100,9 @@ kinds-bytes (cell ∷ cells) all =
 pub none-is : (n : ℕ) → IsTrue (nat_eq n 0) ↔ n ≡ 0
 none-is n = grind arith
 
--- what holds of the first k cells and of the last k holds of all, where these are no more than 2 k
-pub both-ends : (P : Cell → Type 0) (cells : List Cell) (at k n : ℕ) → k ≤ n → n ≤ k + k → at + n ≤ length cells → All P (take k (drop at cells)) → All P (take k (drop (at + (n - k)) cells)) → All P (take n (drop at cells))
-both-ends P cells at k n half twice within first last = λ i d less.
+-- what holds of the first k cells and of the last m holds of all, where these are no more than both
+pub both-ends : (P : Cell → Type 0) (cells : List Cell) (at k m n : ℕ) → k ≤ n → m ≤ n → n ≤ k + m → at + n ≤ length cells → All P (take k (drop at cells)) → All P (take m (drop (at + (n - m)) cells)) → All P (take n (drop at cells))
+both-ends P cells at k m n front back twice within first last = λ i d less.
     let size = length-take-le n (drop at cells) (omega (arith, length-drop at cells)) in
     let here = get_or-take n (drop at cells) i d (omega arith) in
     ⊎_elim
@@ -125,10 +111,10 @@ both-ends P cells at k n half twice within first last = λ i d less.
     let long = length-take-le k (drop at cells) (omega (arith, length-drop at cells)) in
     subst P (there ∙ sym here) (first i d (omega arith)))
     (λ past.
-    let j = i - (n - k) in
-    let rest = drop (at + (n - k)) cells in
-    let place : at + (n - k) + j ≡ at + i = omega arith in
-    let there = get_or-take k rest j d (omega arith) ∙ get_or-drop (at + (n - k)) cells j d ∙ ap (λ m. get_or cells m d) place ∙ sym (get_or-drop at cells i d) in
-    let long = length-take-le k rest (omega (arith, length-drop (at + (n - k)) cells)) in
+    let j = i - (n - m) in
+    let rest = drop (at + (n - m)) cells in
+    let place : at + (n - m) + j ≡ at + i = omega arith in
+    let there = get_or-take m rest j d (omega arith) ∙ get_or-drop (at + (n - m)) cells j d ∙ ap (λ l. get_or cells l d) place ∙ sym (get_or-drop at cells i d) in
+    let long = length-take-le m rest (omega (arith, length-drop (at + (n - m)) cells)) in
     subst P (there ∙ sym here) (last j d (omega arith)))
     (cases_lt i k)

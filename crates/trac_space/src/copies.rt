@@ -8,7 +8,7 @@ ghost use Rattle.trac_space.specs.Cells.{NoComma};
 ghost use Rattle.trac_space.specs.Runs.{IsInRun, number_in, turned, with_cells_at};
 ghost use Rattle.trac_space.specs.Texts.{IsByte, byte_cell_at};
 
-use crate::cell::{Cell, are_four, are_two, byte_in, is_character};
+use crate::cell::{Cell, are_characters, are_four, are_two, byte_in, is_character};
 
 // How many cells a long move takes at once.
 const PART: usize = 256;
@@ -270,36 +270,27 @@ pub(crate) fn copy_characters(
     count + copy_characters_each(cells, start + count, to + count, most - count)
 }
 
-// Puts so many characters once more at a place behind, and gives whether all of them are characters.
-// Where they aren't, cells from that place on may be written over, at most as many.
+// Whether so many cells from a place on are all characters: by eights, of which the last may begin in
+// the one before it.
 #[inline(always)]
-pub(crate) fn copy_all_characters(
-    cells: &mut [Cell],
-    start: usize,
-    to: usize,
-    distance: usize,
-    n: usize,
-) -> bool
-    requires far { to ≡ start + distance }
-    requires behind { start + n ≤ to }
-    requires room { to + n ≤ length cells.old }
-    ensures bytes { IsTrue result → All IsByte (take n (drop start cells.old)) }
-    ensures len { length cells.new ≡ length cells.old }
-    ensures after { IsTrue result → cells.new ≡ copy_within cells.old start (start + n) to }
-    ensures front { take to cells.new ≡ take to cells.old }
-    ensures behind { drop (to + n) cells.new ≡ drop (to + n) cells.old }
+pub(crate) fn are_all_characters(cells: &[Cell], at: usize, n: usize) -> bool
+    requires { at + n ≤ length cells.now }
+    ensures { IsTrue result → All IsByte (take n (drop at cells.now)) }
 {
-    if n >= BLOCK {
-        return copy_characters(cells, start, to, distance, n) == n;
+    if n < BLOCK {
+        return are_few_characters(cells, at, n);
     }
-    if !are_few_characters(cells, start, n) {
-        return false;
+    let mut done = 0;
+    while n - done > BLOCK {
+        if !are_characters(cells, at + done) {
+            return false;
+        }
+        done += BLOCK;
     }
-    copy_behind(cells, start, distance, n);
-    true
+    are_characters(cells, at + (n - BLOCK))
 }
 
-// Whether so many cells from a place on are all characters, of which there are no more than eight.
+// The same of no more than eight.
 #[inline(always)]
 fn are_few_characters(cells: &[Cell], at: usize, n: usize) -> bool
     requires few { n ≤ 8 }

@@ -1,0 +1,15 @@
+use Rattle.std.proofs.Common.{◌-◌, ◌<◌, All, drop, take}
+use Rattle.trac_space.specs.Texts.{IsByte}
+use Rattle.trac_space.proofs.copies.are_all_characters.Given as goal
+
+-- so many characters stand there
+abbrev pub invariant-loop-done : goal.invariant-loop-done
+invariant-loop-done l =
+    record {
+      within : l.done < l.n;
+      bytes : All IsByte (take l.done (drop l.at l.cells));
+    }
+
+-- the cells that are to be looked at
+abbrev pub decreases-loop-done : goal.decreases-loop-done
+decreases-loop-done l = l.n - l.done
