@@ -10,8 +10,8 @@ import unittest
 from trac import PROGRAM, instructions, run
 
 ROOM = ['--cells', '4000000', '--steps', '100000000']
-# The slots that an index of 500 forms has.
-SLOTS = 1024
+# The slots that an index of 500 forms has where it is made for four times as many.
+SLOTS = 4096
 
 
 def mixed(name):
