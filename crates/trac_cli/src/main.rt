@@ -54,12 +54,12 @@ fn ended(rt: &HostRuntime, settings: &Settings, report: &Report) -> u8
     ensures { result ≡ status_of report.now.fate }
 {
     if settings.report {
-        write_line(&mut rt.stderr(), &report_line(report));
+        write_line(&mut rt.stderr(), &report_line(report.steps, report.peak));
     }
-    if let Some(line) = fault_line(report, settings) {
+    if let Some(line) = fault_line(report.fate, report.steps, settings) {
         write_line(&mut rt.stderr(), &line);
     }
-    status(report)
+    status(report.fate)
 }
 
 #[cfg(test)]

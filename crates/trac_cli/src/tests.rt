@@ -300,16 +300,11 @@ fn lines_of_fates(rt: HostRuntime) -> Result<(), Fail> {
         (Fate::OutputFailed, "trac: output failed at step 9", 5),
     ];
     for (fate, text, code) in rows {
-        let report = Report {
-            fate,
-            steps: 8,
-            peak: 11,
-        };
-        match fault_line(&report, &settings) {
+        match fault_line(fate, 8, &settings) {
             Some(line) => assert!(rt; line.as_bytes() == text.as_bytes(), "at {text}"),
             None => assert!(rt; text.is_empty()),
         }
-        assert_eq!(rt; status(&report), code);
+        assert_eq!(rt; status(fate), code);
     }
     Ok(())
 }
@@ -317,20 +312,10 @@ fn lines_of_fates(rt: HostRuntime) -> Result<(), Fail> {
 #[test]
 fn lines_of_reports(rt: HostRuntime) -> Result<(), Fail> {
     let settings = Settings::new(65_536, 1, true).ok_or("settings")?;
-    let last = Report {
-        fate: Fate::InputFailed,
-        steps: u64::MAX,
-        peak: 0,
-    };
-    let line = fault_line(&last, &settings).ok_or("a line")?;
+    let line = fault_line(Fate::InputFailed, u64::MAX, &settings).ok_or("a line")?;
     assert!(rt; line.as_bytes() == b"trac: input failed at step 18446744073709551616".as_slice());
     assert!(rt; memory_line(&settings).as_bytes() == b"trac: no memory for 65536 cells".as_slice());
-    let short = Report {
-        fate: Fate::InputEnded,
-        steps: 29,
-        peak: 19,
-    };
-    assert!(rt; report_line(&short).as_bytes() == b"trac: 29 steps, peak 19 cells".as_slice());
+    assert!(rt; report_line(29, 19).as_bytes() == b"trac: 29 steps, peak 19 cells".as_slice());
     let text = format!(in rt.alloc(); "{NoMemory}")?;
     assert!(rt; text.as_str() == "no memory for the block");
     Ok(())
@@ -346,14 +331,14 @@ fn comes_to(
 ) -> Result<(), Fail> {
     let (counted, fault, code) = row;
     assert!(rt;
-        report_line(report).as_bytes() == counted.as_bytes(),
+        report_line(report.steps, report.peak).as_bytes() == counted.as_bytes(),
         "{counted}"
     );
-    match fault_line(report, settings) {
+    match fault_line(report.fate, report.steps, settings) {
         Some(line) => assert!(rt; line.as_bytes() == fault.as_bytes(), "{fault}"),
         None => assert!(rt; fault.is_empty(), "{fault}"),
     }
-    assert_eq!(rt; status(report), code);
+    assert_eq!(rt; status(report.fate), code);
     Ok(())
 }
 
