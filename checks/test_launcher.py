@@ -1,5 +1,5 @@
-"""The launcher, over a throw-away copy of the sources and an `rt` that only writes down that it was
-called."""
+"""The launcher, over a throw-away copy of the sources, and an `rt` and a way to build libraries that
+only write down that they were called."""
 import os
 import re
 import shutil
@@ -13,9 +13,10 @@ from trac import LAUNCHER, TOP, crates_of
 
 CRATES = crates_of('trac_cli')
 # Those that are proved beside the others.
-APART = ['trac_laws', 'trac_values', 'trac_devices', 'trac_words']
+APART = ['trac_laws', 'trac_values', 'trac_devices', 'trac_words', 'trac_lines']
 BUILT = os.path.join('crates', 'trac_cli', 'out', 'trac_cli')
 SOURCE = os.path.join('crates', 'trac_core', 'src', 'machine.rt')
+LIBRARIES = os.path.join('packaging', 'libraries.py')
 # What a run by a user gets who may write nothing.
 NOBODY = 65534
 AS_NOBODY = {'user': NOBODY, 'group': NOBODY} if os.getuid() == 0 else {}
@@ -39,8 +40,12 @@ done
 echo "$1 $PWD" >>'{calls}'
 sleep 0.1
 mkdir -p out/rlib
-[ "$1" = lib ] || printf '#!/bin/sh\necho "ran $*"; exit 3\n' >out/trac_cli
-[ "$1" = lib ] || chmod +x out/trac_cli
+[ "$1" != run ] || printf '#!/bin/sh\necho "ran $*"; exit 3\n' >out/trac_cli
+[ "$1" != run ] || chmod +x out/trac_cli
+"""
+# In place of what proves a library without what rt keeps for a later check of it.
+WITHOUT_KEPT = """import os, sys
+os.execvp('rt', ['rt', sys.argv[1], '--jobs', sys.argv[2]])
 """
 
 
@@ -69,6 +74,7 @@ class Launcher(unittest.TestCase):
                     shutil.copytree(os.path.join(TOP, place), os.path.join(self.top, place))
         shutil.copy(os.path.join(TOP, 'crates.txt'), self.top)
         shutil.copy(LAUNCHER, self.top)
+        self.write(LIBRARIES, WITHOUT_KEPT)
         self.answer(RT.format(calls=self.calls, seconds=0))
 
     def answer(self, text, tool='rt'):
@@ -106,6 +112,7 @@ class Launcher(unittest.TestCase):
 
     def write(self, name, text=''):
         place = os.path.join(self.top, name)
+        os.makedirs(os.path.dirname(place), exist_ok=True)
         with open(place, 'a', encoding='utf-8') as file:
             file.write(text)
         return place
@@ -140,9 +147,9 @@ class Launcher(unittest.TestCase):
         self.answer(ON_LIBRARIES.format(calls=self.calls))
         self.run_once(FIRST)
         called = self.called()
-        here = [f'lib {self.top}/crates/{crate}' for crate in CRATES if crate not in APART]
-        self.assertEqual([call for call in called if call.startswith('run') or call in here],
-                         here[:-1] + [here[-1].replace('lib', 'run')])
+        here = [f'build {self.top}/crates/{crate}' for crate in CRATES[:-1] if crate not in APART]
+        self.assertEqual([call for call in called if '/beside.' not in call],
+                         here + [f'run {self.top}/crates/trac_cli'])
         beside = [os.path.basename(call) for call in called if '/beside.' in call]
         self.assertEqual(sorted(beside), sorted(APART))
         self.assertEqual(len(called), len(CRATES))
@@ -151,6 +158,14 @@ class Launcher(unittest.TestCase):
         self.run_once(AGAIN)
         self.assertEqual(self.called()[len(CRATES):], [f'run {self.top}/crates/trac_cli'])
 
+    def test_libraries_that_rt_has_to_build_itself(self):
+        os.remove(os.path.join(self.top, LIBRARIES))
+        self.answer(ON_LIBRARIES.format(calls=self.calls))
+        self.run_once(FIRST)
+        self.assertEqual(sorted(self.called()), sorted(
+            [f'lib {self.top}/crates/{crate}' for crate in CRATES[:-1]]
+            + [f'run {self.top}/crates/trac_cli']))
+
     def test_a_first_build_with_none_beside_another(self):
         for tool, text in (('cp', '#!/bin/sh\nexit 1\n'), ('nproc', '#!/bin/sh\necho 1\n')):
             with self.subTest(tool):
@@ -158,7 +173,7 @@ class Launcher(unittest.TestCase):
                 self.answer(text, tool)
                 self.run_once(FIRST)
                 self.assertEqual(sorted(self.called()), sorted(
-                    [f'lib {self.top}/crates/{crate}' for crate in CRATES[:-1]]
+                    [f'build {self.top}/crates/{crate}' for crate in CRATES[:-1]]
                     + [f'run {self.top}/crates/trac_cli']))
                 os.remove(os.path.join(self.tools, tool))
                 os.remove(self.calls)
@@ -171,6 +186,18 @@ class Launcher(unittest.TestCase):
         self.run_once(FIRST)
         self.assertEqual(len(self.called()), len(CRATES))
         self.assertEqual(self.left_beside(), [])
+
+    def test_libraries_of_no_use(self):
+        # rt refuses a library whose statements stand on another build of one below it
+        self.run_once(FIRST)
+        os.remove(os.path.join(self.top, BUILT))
+        stale = os.path.join(self.top, 'crates', 'trac_core', 'out', 'rlib')
+        os.makedirs(stale)
+        self.answer(f"#!/bin/sh\nif [ -d '{stale}' ]; then\n"
+                    'echo "rattle: error[unusable-built-library]: the rlib of"\nexit 1\nfi\n'
+                    + RT.format(calls=self.calls, seconds=0))
+        self.run_once(AGAIN)
+        self.assertFalse(os.path.exists(stale))
 
     def test_an_interrupt_ends_a_first_build(self):
         # the machine, and the words that are proved beside it

@@ -2,7 +2,8 @@
 takes a fraction of the time and of the room; what is built over it reads its statements alone.
 
 libraries.py build JOBS: proves the library in whose folder it is called, by as many jobs, and builds it.
-Each that it stands on has to be built.
+The status is rattle's: 1 where it isn't proved, 3 where that can't be told. It is 69 where one that it
+stands on is not built, or the kit is none that this knows.
 
 libraries.py take SINCE: has rt take the libraries that `rt ci` proved and built after the file SINCE was
 written. `rt ci` leaves them without the stamp by which rt knows what a library was made from. Where not
@@ -13,6 +14,7 @@ import os
 import subprocess
 import sys
 
+UNAVAILABLE = 69
 TOP = os.path.dirname(os.path.dirname(os.path.abspath(__file__)))
 
 
@@ -28,17 +30,13 @@ def parts_of_rt():
 
 
 def build(rt, jobs):
-    """The status of the proof, or 1 where one of the libraries below is yet to be built."""
     here = os.getcwd()
     library = rt.Crate(here, rt.root_above(here), {})
-    held = rt.lock([*library.below(), library])
+    library.held = rt.lock([*library.below(), library])
     if not all(below.is_built() for below in library.below()):
-        return 1
+        return UNAVAILABLE
     rt.libraries_keep = lambda: False
-    status = library.build_rlib(['--jobs', jobs, '--statements'], anew=False)
-    for folder in held:
-        os.close(folder)
-    return status
+    return library.build_rlib(['--jobs', jobs, '--statements'], anew=False)
 
 
 def take(rt, since):
@@ -58,5 +56,14 @@ def take(rt, since):
     return 0
 
 
+def main(verb, word):
+    try:
+        return {'build': build, 'take': take}[verb](parts_of_rt(), word)
+    # whatever another kit's module answers
+    except Exception as error:
+        print(f'libraries.py: {error}', file=sys.stderr)
+        return UNAVAILABLE
+
+
 if __name__ == '__main__':
-    sys.exit({'build': build, 'take': take}[sys.argv[1]](parts_of_rt(), sys.argv[2]))
+    sys.exit(main(*sys.argv[1:]))

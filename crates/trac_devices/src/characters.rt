@@ -49,8 +49,8 @@ fn write_byte(text: &[Cell], bytes: &mut [u8], block: usize, k: usize)
     requires few { k < 8 }
     requires characters { All IsByte (take 8 (drop block text.now)) }
     requires same { length text.now ≡ length bytes.old }
-    ensures written { (next : ℕ) → next ≡ block + k + 1 → AreWritten (block + k) text.now bytes.old →
-        AreWritten next text.now bytes.new }
+    ensures written { (next : ℕ) → next ≡ block + k + 1 →
+        AreWritten (block + k) text.now bytes.old → AreWritten next text.now bytes.new }
     ensures same { length bytes.new ≡ length bytes.old }
 {
     bytes[block + k] = byte_in(&text[block + k]);

@@ -58,7 +58,8 @@ SeenCall false m call = call ≡ None
 -- the call that the next step performs is looked for where that is asked for or reads
 abbrev pub SeesCall : MachineState → Bool → Option OpenCall → Type 0
 SeesCall m asked call =
-    SeenCall (ends_call (row_of (rule m.memory.active)) && (asked || reads (awaited (next_function m)))) m call
+    SeenCall (ends_call (row_of (rule m.memory.active))
+    && (asked || reads (awaited (next_function m)))) m call
 
 -- how many of the cells of an active string stand before those that were left of one that had so many
 -- cells before its first was taken away

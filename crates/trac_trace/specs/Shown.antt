@@ -54,7 +54,8 @@ fits width len = (width == 0) || nat_le len width
 -- the byte at a place goes on a character of UTF-8
 abbrev pub goes_on : List ℕ → ℕ → Bool
 goes_on bytes place =
-    nat_lt place (length bytes) && nat_le 128 (get_or bytes place 0) && nat_lt (get_or bytes place 0) 192
+    nat_lt place (length bytes)
+    && nat_le 128 (get_or bytes place 0) && nat_lt (get_or bytes place 0) 192
 
 -- the place before or behind, where that is so
 abbrev pub step_back : List ℕ → ℕ → ℕ

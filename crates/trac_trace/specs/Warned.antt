@@ -8,4 +8,5 @@ use Rattle.trac_trace.specs.Told.{place_text}
 -- the line of a warning
 abbrev pub warning_text : Warning → List ℕ
 warning_text w =
-    place_text w.place ++ codes ": " ++ sentence_of w.suspicion ++ shown_text w.text.items ++ codes "\n"
+    place_text w.place ++ codes ": "
+    ++ sentence_of w.suspicion ++ shown_text w.text.items ++ codes "\n"
