@@ -25,7 +25,7 @@ FIRST = ('trac: building the program, and proving it: '
 AGAIN = 'trac: building the program again, and proving what changed ..\n'
 RT = """#!/bin/sh
 echo "$1 ${{PWD##*/}}" >>'{calls}'
-[ "$1" = run ] || exit 0
+[ "$1" = run ] || {{ mkdir -p out/rlib && : >out/rlib/stamp; exit 0; }} 2>/dev/null
 sleep {seconds}
 mkdir -p out
 printf '#!/bin/sh\\necho "ran $*"; exit 3\\n' >out/trac_cli.$$
@@ -40,12 +40,14 @@ done
 echo "$1 $PWD" >>'{calls}'
 sleep 0.1
 mkdir -p out/rlib
+echo >out/rlib/stamp
 [ "$1" != run ] || printf '#!/bin/sh\necho "ran $*"; exit 3\n' >out/trac_cli
 [ "$1" != run ] || chmod +x out/trac_cli
 """
 # In place of what proves a library without what rt keeps for a later check of it.
 WITHOUT_KEPT = """import os, sys
-os.execvp('rt', ['rt', sys.argv[1], '--jobs', sys.argv[2]])
+if not os.path.exists(os.path.join('out', 'rlib', 'stamp')):
+    os.execvp('rt', ['rt', sys.argv[1], '--jobs', sys.argv[2]])
 """
 
 
@@ -158,6 +160,20 @@ class Launcher(unittest.TestCase):
         self.run_once(AGAIN)
         self.assertEqual(self.called()[len(CRATES):], [f'run {self.top}/crates/trac_cli'])
 
+    def test_a_first_build_that_was_broken_off(self):
+        self.answer(ON_LIBRARIES.format(calls=self.calls))
+        self.run_once(FIRST)
+        os.remove(os.path.join(self.top, BUILT))
+        os.remove(self.calls)
+        # the last of those below, and one that another run was about to prove
+        shutil.rmtree(os.path.join(self.top, 'crates', 'trac_core', 'out'))
+        os.remove(os.path.join(self.top, 'crates', 'trac_words', 'out', 'rlib', 'stamp'))
+        self.run_once(AGAIN)
+        self.assertEqual(self.called(), [f'build {self.top}/crates/trac_words',
+                                         f'build {self.top}/crates/trac_core',
+                                         f'run {self.top}/crates/trac_cli'])
+        self.assertEqual(self.left_beside(), [])
+
     def test_libraries_that_rt_has_to_build_itself(self):
         os.remove(os.path.join(self.top, LIBRARIES))
         self.answer(ON_LIBRARIES.format(calls=self.calls))
@@ -191,17 +207,17 @@ class Launcher(unittest.TestCase):
         # rt refuses a library whose statements stand on another build of one below it
         self.run_once(FIRST)
         os.remove(os.path.join(self.top, BUILT))
-        stale = os.path.join(self.top, 'crates', 'trac_core', 'out', 'rlib')
-        os.makedirs(stale)
-        self.answer(f"#!/bin/sh\nif [ -d '{stale}' ]; then\n"
+        os.remove(self.calls)
+        self.answer(f"#!/bin/sh\nif ! [ -e '{self.calls}' ] && [ $1 = run ]; then\n"
                     'echo "rattle: error[unusable-built-library]: the rlib of"\nexit 1\nfi\n'
                     + RT.format(calls=self.calls, seconds=0))
         self.run_once(AGAIN)
-        self.assertFalse(os.path.exists(stale))
+        self.assertEqual(sorted(self.called()), sorted(
+            ['run trac_cli', *(f'build {crate}' for crate in CRATES[:-1])]))
 
     def test_an_interrupt_ends_a_first_build(self):
-        # the machine, and the words that are proved beside it
-        self.answer('#!/bin/sh\ncase $PWD in */trac_core | */trac_words)\n'
+        # the functions, and the words that are proved beside them
+        self.answer('#!/bin/sh\ncase $PWD in */trac_functions | */trac_words)\n'
                     f'echo $$ >>\'{self.calls}\'\nexec sleep 50 ;;\nesac\n')
         # the shell that runs the checks may ignore interrupts
         started = self.start(start_new_session=True, preexec_fn=lambda: signal.signal(

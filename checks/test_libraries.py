@@ -41,8 +41,14 @@ pub fn fourfold(n: u32) -> u32
 
 class Libraries(unittest.TestCase):
     def setUp(self):
-        self.top = tempfile.mkdtemp()
-        self.addCleanup(shutil.rmtree, self.top)
+        self.folder = tempfile.mkdtemp()
+        self.addCleanup(shutil.rmtree, self.folder)
+        self.check_out('top')
+
+    def check_out(self, name):
+        """Makes another checkout, and that which commands are called in."""
+        self.top = os.path.join(self.folder, name)
+        os.mkdir(self.top)
         with open(os.path.join(self.top, 'crates.txt'), 'w', encoding='utf-8') as lines:
             lines.writelines(f'{crate}: {below}\n' for crate, below in CRATES.items())
         for crate in CRATES:
@@ -50,9 +56,10 @@ class Libraries(unittest.TestCase):
             self.write(crate, SOURCES[crate])
 
     def write(self, crate, text):
+        """Writes a crate's source, which no other run of these checks has."""
         source = os.path.join(self.top, 'crates', crate, 'src', 'lib.rt')
         with open(source, 'w', encoding='utf-8') as file:
-            file.write(text)
+            file.write(f'{text}\n// {self.folder}\n')
 
     def call(self, crate, *words):
         """The status of a command in a crate's folder, and what it says."""
@@ -80,6 +87,20 @@ class Libraries(unittest.TestCase):
         self.assertEqual(status, 0, said)
         self.assertIn('statements low: modules loaded=', said)
         self.assertEqual(self.made('low'), ['rlib'])
+
+    def test_another_checkout_takes_them(self):
+        for crate in CRATES:
+            self.assertEqual(self.build(crate)[0], 0)
+        self.check_out('other')
+        for crate in CRATES:
+            self.assertEqual(self.build(crate), (0, ''))
+            self.assertEqual(self.made(crate), ['rlib'])
+
+    def test_what_is_kept_serves(self):
+        self.assertEqual(self.call('low', 'rt', 'check', '--jobs', '1')[0], 0)
+        self.assertEqual(self.build('low'), (69, ''))
+        self.assertEqual(self.call('low', 'rt', 'lib', '--jobs', '1')[0], 0)
+        self.assertEqual(self.build('low'), (0, ''))
 
     def test_one_below_that_is_built_anew(self):
         for crate in CRATES:
