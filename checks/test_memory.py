@@ -20,21 +20,6 @@ OTHER_WAYS = {'mmap', 'mmap64', 'mremap', 'brk', 'sbrk', 'valloc', 'pvalloc', 'r
               'strdup', 'syscall'}
 
 
-class Serve(unittest.TestCase):
-    def test_refused_blocks(self):
-        done = subprocess.run(['rt', 'try', '--test', '--fail-alloc', '1'],
-                              cwd=os.path.join(TOP, 'crates', 'trac_cli'),
-                              capture_output=True, text=True, timeout=600)
-        lines = [line.strip() for line in done.stdout.splitlines()]
-        # what the tests answer where make_block did, and serve,
-        # once it was seen that nothing was read and nothing written
-        for name, answer in [('a_block_of_19_cells', 'no memory for 19 cells'),
-                             ('a_run_in_a_block_of_its_own', 'no memory for the block')]:
-            failed = f'test tests::{name} ... FAILED'
-            self.assertIn(failed, lines, done.stderr)
-            self.assertIn(answer, lines[lines.index(failed) + 1])
-
-
 class Refused(unittest.TestCase):
     @classmethod
     def setUpClass(cls):

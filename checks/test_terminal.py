@@ -2,6 +2,7 @@
 import os
 import pty
 import select
+import signal
 import subprocess
 import tempfile
 import time
@@ -27,6 +28,8 @@ class Typist:
         self.shown = ''
         self.child, self.place = pty.fork()
         if self.child == 0:
+            # the shell that runs the checks may ignore interrupts
+            signal.signal(signal.SIGINT, signal.SIG_DFL)
             os.execv(TERMINAL, [TERMINAL, *words])
 
     def wait(self, text):
@@ -48,13 +51,13 @@ class Typist:
     def status(self):
         """Waits for the end, and gives the status."""
         try:
-            while os.read(self.place, 4096):
+            while select.select([self.place], [], [], 20)[0] and os.read(self.place, 4096):
                 pass
         except OSError:
             pass
-        status = os.waitpid(self.child, 0)[1]
+        # hangs up, if it hasn't ended
         os.close(self.place)
-        return status
+        return os.waitpid(self.child, 0)[1]
 
 
 class AtATerminal(unittest.TestCase):

@@ -1,7 +1,9 @@
 """Traces: the tables of steps of two scripts that were worked by hand, row by row, and what becomes
 of odd bytes and of faults."""
+import os
 import re
 import subprocess
+import tempfile
 import unittest
 
 from rows import rows as known
@@ -100,10 +102,46 @@ class Lines(unittest.TestCase):
             self.assertIn(last, lines)
         self.assertEqual(trace(b"#(hl)'")[0][-1], 'halted: 13 steps, peak 13 cells')
 
+    def test_the_lines_of_a_fault(self):
+        self.assertEqual(trace(b"#(hl)'", '--cells', '20', '--steps', '5'), ([
+            '  step  rule           size  need  neutral string|active string',
+            '     1  idling            0    11  |#(ps,#(rs))',
+            '     2  active call      11    11  <#>|ps,#(rs))',
+            '     3  character        10    10  <#>p|s,#(rs))',
+            '     4  character        10    10  <#>ps|,#(rs))',
+            '     5  argument         10    10  <#>ps<,>|#(rs))',
+            'allowance used up: 5 steps, peak 11 cells',
+            'at step 6, in the string that begins at line 1, column 1',
+            'open call: #(ps<,>',
+            'cells: forms 0, neutral string 4, active string 6, free 10'], 3))
+
+    def test_the_last_step(self):
+        self.assertEqual(trace(b'', '--cells', '20', '--steps', '50', '--last', '1'), ([
+            '  step  rule           size  need  neutral string|active string',
+            '     9  end of call       9     8  <#>ps<,><#>rs|)',
+            'input ended: 9 steps, peak 11 cells'], 0))
+
+    def test_words_that_are_taken(self):
+        looping = b"#(ds,L,(#(cl,L)))#(cl,L)'"
+        self.assertIn('allowance used up: 1000 steps, peak 36 cells', trace(looping)[0])
+        for words in ['--steps=1000000000000', '--cells=16777216', '--from 3 --to=9 --last 7']:
+            self.assertEqual(trace(b'', *words.split())[1], 0)
+
     def test_words_that_are_refused(self):
-        for words in [['--cells', '0'], ['--steps', '0'], ['--cells', '16777217'], ['extra']]:
-            lines, status = trace(b'', *words)
-            self.assertEqual((lines, status), ([], 2))
+        for words in ['--cells 0', '--steps 0', '--cells 16777217', '--steps 1000000000001',
+                      '--from 0', '--last 1000001', 'extra']:
+            with self.subTest(words=words):
+                self.assertEqual(trace(b'', *words.split()), ([], 2))
+
+    def test_devices_that_fail(self):
+        folder = os.open(tempfile.gettempdir(), os.O_RDONLY)
+        done = subprocess.run([TRACER], stdin=folder, capture_output=True)
+        os.close(folder)
+        self.assertIn(b'\ninput failed: 8 steps, peak 11 cells\n', done.stdout)
+        self.assertEqual(done.returncode, 4)
+        with open('/dev/full', 'wb') as full:
+            done = subprocess.run([TRACER], input=b'', stdout=full, stderr=subprocess.PIPE)
+        self.assertEqual(done.returncode, 5)
 
 
 SCRIPT = (b"#(ds,A,(xTy))'#(ss,A,T)##(cl,A,\xc3\xa4)#(cs,A,Z)#(zz)#(cl,b)#(,remark)##(dv,1,0,Z)"
@@ -176,6 +214,20 @@ class Views(unittest.TestCase):
         self.assertIn('#(ps<, .. 6789) prints 0123 .. 6789', [line[10:] for line in lines])
         lines, _ = trace(b"#(ps,0123456789)'", '--calls', '--width', '0')
         self.assertIn('#(ps<,>0123456789) prints 0123456789', [line[10:] for line in lines])
+
+    def test_bytes_that_are_escaped_and_cut(self):
+        # characters are shown whole, and bytes that are none, or don't show, as escapes
+        for text, width, wanted in [
+                (b'abcdef', 6, 'abcdef'), (b'abcdef', 5, 'abc .. ef'),
+                ('\u00e4\u00e4\u00e4'.encode(), 3, '\u00e4 .. '),
+                ('\u00e4\u00e4\u00e4'.encode(), 5, '\u00e4 .. \u00e4'),
+                ('\u00e4\n\u20ac\U0001f600'.encode(), 0, '\u00e4\\n\u20ac\U0001f600'),
+                (b'\xc3\xc2\x85\x80\xed\xa0\x80', 0,
+                 '\\xc3\\xc2\\x85\\x80\\xed\\xa0\\x80')]:
+            with self.subTest(text=text, width=width):
+                lines, _ = trace(b'#(ps,(' + text + b"))'", '--calls', '--width', str(width))
+                shown = [line.split(' prints ')[1] for line in lines if ' prints ' in line]
+                self.assertEqual(shown, [wanted])
 
     def test_what_is_told_of_a_fault(self):
         script = b"#(ds,A,abc)'\n #(ds,long,abcdef)'\n\n\t\t#(ps,(x)#(ad,1,"

@@ -61,6 +61,3 @@ fn ended(rt: &HostRuntime, settings: &Settings, report: &Report) -> u8
     }
     status(report.fate)
 }
-
-#[cfg(test)]
-mod tests;

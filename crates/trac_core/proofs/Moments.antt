@@ -5,7 +5,7 @@ use Rattle.trac_laws.proofs.ReachedWhileReading.{ReachedAnywhere, anywhere_start
 
 -- up to a moment a machine has taken given of its input, and its run is that of the definition from where it stood; while
 -- the source hasn't ended, it is so too however the input goes on
-pub record Along (start : MachineState) (bytes before : Text) (m : Moment) : Type 0 where
+pub record OnCourse (start : MachineState) (bytes before : Text) (m : Moment) : Type 0 where
   pub given : Text
   pub count : ℕ
   pub peak : ℕ
@@ -15,8 +15,8 @@ pub record Along (start : MachineState) (bytes before : Text) (m : Moment) : Typ
   pub whole : Reached start.room (state_with start.memory (ending bytes) before) count peak (state_of m)
   pub cut : m.source.ended ≡ false → ReachedAnywhere start.room start.memory before given count peak m.machine.memory m.written
 
-pub along-none : (start : MachineState) (source : Stream) (before : Text) → Along start source.bytes before (moment start source before)
-along-none start source before =
+pub course-none : (start : MachineState) (source : Stream) (before : Text) → OnCourse start source.bytes before (moment start source before)
+course-none start source before =
     record {
       given = [];
       count = 0;
@@ -32,8 +32,8 @@ not_ended-before : (old new : Bool) → (old ≡ true → new ≡ true) → new 
 not_ended-before true new keeps e = absurd (let k = keeps refl in cc)
 not_ended-before false new keeps e = refl
 
-pub along-more : (start : MachineState) (bytes before taken : Text) (old new : Moment) → old.machine.room ≡ start.room → old.source.bytes ≡ taken ++ new.source.bytes → Along start bytes before old → GoesOn old new → Along start bytes before new
-along-more start bytes before taken old new room_is took a goes_on =
+pub course-more : (start : MachineState) (bytes before taken : Text) (old new : Moment) → old.machine.room ≡ start.room → old.source.bytes ≡ taken ++ new.source.bytes → OnCourse start bytes before old → GoesOn old new → OnCourse start bytes before new
+course-more start bytes before taken old new room_is took a goes_on =
     let given = a.given in
     let n = a.count in
     let room = start.room in
@@ -77,19 +77,19 @@ peak_after-same : (n cells same peak : ℕ) → same ≤ cells → peak_after n 
 peak_after-same zero cells same peak e = refl
 peak_after-same (suc n) cells same peak e = omega arith
 
-pub along-passes : (n : ℕ) (start : MachineState) (bytes before : Text) (m : MachineState) (target : Memory) (source : Stream) (written : Text) → m.room ≡ start.room → size m.memory ≤ m.room → m.steps + n ≤ m.allowance → PassesTimes n m.memory target → Along start bytes before (moment m source written) → Along start bytes before (moment (passed n target m) source written)
-along-passes zero start bytes before m target source written room_is fits allowed same along =
+pub course-passes : (n : ℕ) (start : MachineState) (bytes before : Text) (m : MachineState) (target : Memory) (source : Stream) (written : Text) → m.room ≡ start.room → size m.memory ≤ m.room → m.steps + n ≤ m.allowance → PassesTimes n m.memory target → OnCourse start bytes before (moment m source written) → OnCourse start bytes before (moment (passed n target m) source written)
+course-passes zero start bytes before m target source written room_is fits allowed same course =
     let steps : m.steps ≡ m.steps + 0 = omega arith in
-    subst (λ n. Along start bytes before (moment (record m { memory = target; steps = n }) source written)) steps
-    (subst (λ memory. Along start bytes before (moment (record m { memory = memory }) source written)) same along)
-along-passes (suc n) start bytes before m target source written room_is fits allowed passes along =
+    subst (λ n. OnCourse start bytes before (moment (record m { memory = target; steps = n }) source written)) steps
+    (subst (λ memory. OnCourse start bytes before (moment (record m { memory = memory }) source written)) same course)
+course-passes (suc n) start bytes before m target source written room_is fits allowed passes course =
     let middle = passes.0 in
     let pass = passes.1.0 in
     let next = one_passed middle m in
     let smaller = pass.no_larger in
-    let here = along-more start bytes before [] (moment m source written) (moment next source written) room_is refl along (goes_on-passes m middle source written (omega arith) fits pass) in
-    let later = along-passes n start bytes before next target source written room_is (omega arith) (omega arith) passes.1.1 here in
+    let here = course-more start bytes before [] (moment m source written) (moment next source written) room_is refl course (goes_on-passes m middle source written (omega arith) fits pass) in
+    let later = course-passes n start bytes before next target source written room_is (omega arith) (omega arith) passes.1.1 here in
     let steps : m.steps + 1 + n ≡ m.steps + suc n = omega arith in
     let peak = peak_after-same n (size m.memory) (size middle) m.peak smaller in
-    subst (λ p. Along start bytes before (moment (record m { memory = target; steps = m.steps + suc n; peak = p }) source written)) peak
-    (subst (λ k. Along start bytes before (moment (record m { memory = target; steps = k; peak = peak_after n (size middle) (max m.peak (size m.memory)) }) source written)) steps later)
+    subst (λ p. OnCourse start bytes before (moment (record m { memory = target; steps = m.steps + suc n; peak = p }) source written)) peak
+    (subst (λ k. OnCourse start bytes before (moment (record m { memory = target; steps = k; peak = peak_after n (size middle) (max m.peak (size m.memory)) }) source written)) steps later)

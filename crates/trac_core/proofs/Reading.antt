@@ -161,14 +161,6 @@ module _ (w : Contents) (place meta : ℕ) (call : IsCall w place (Some ReadChar
   character-failed source source' written same open_still =
       tried-failed w w place (Some ReadCharacter) meta source source' written [] (used w) call.names refl (omega arith) (omega arith) (sym same) open_still
 
--- a byte that was read stands as a value
-pub character-stands : (w mid : Contents) (byte : ℕ) → IsSound mid → mid ≡ record w { neutral = w.neutral ++ Byte byte ∷ [] } → IsValueFrom (used w) (length w.neutral) mid
-character-stands w mid byte sound pushed =
-    let long = length-append w.neutral (Byte byte ∷ []) in
-    let room = ap (λ (w : Contents). w.room) pushed in
-    let cells : used mid ≡ used w + 1 = ap used pushed ∙ omega arith in
-    text-stands w mid w.forms (byte ∷ []) pushed (omega arith)
-
 pub not-less : (a b : ℕ) → (a < b → false ≡ true) → b ≤ a
 not-less a b h = ⊎_elim (λ lt. absurd (let e = h lt in cc)) (λ le. le) (cases_lt a b)
 

@@ -4,7 +4,7 @@ use Rattle.trac_language.specs.Run.{counted}
 use Rattle.trac_laws.proofs.Reached.{reached_over, reached_full, reached_spent, reached_unwritten}
 use Rattle.trac_laws.proofs.ReachedWhileReading.{anywhere_failed}
 use Rattle.trac_core.proofs.Outputs.{later_run, run-from}
-use Rattle.trac_core.proofs.Moments.{Along}
+use Rattle.trac_core.proofs.Moments.{OnCourse}
 
 -- what a machine reports that stands so
 abbrev pub report_of : Fate → MachineState → Report
@@ -29,60 +29,60 @@ is-report done top r c report output left steps peak e after steps_is peak_is =
       written = after ∙ sym (ap (λ (r : Run). r.output) e);
     }
 
-module _ (start : MachineState) (bytes before : Text) (old new : Moment) (room_is : old.machine.room ≡ start.room) (allowance_is : old.machine.allowance ≡ start.allowance) (along : Along start bytes before old) where
+module _ (start : MachineState) (bytes before : Text) (old new : Moment) (room_is : old.machine.room ≡ start.room) (allowance_is : old.machine.allowance ≡ start.allowance) (course : OnCourse start bytes before old) where
   pub at-allowance : StopsAtAllowance old new → RanThrough (later_runs start) (course_to start bytes before new) (report_of Steps new.machine)
   at-allowance stop =
       let from = state_with start.memory (ending bytes) before in
-      let n = along.count in
+      let n = course.count in
       let total : start.allowance - start.steps ≡ n = omega (arith, stop.used_up, allowance_is) in
-      let whole = sym (run-from start.room (start.allowance - start.steps) start.memory (ending bytes) before) ∙ ap (λ k. run start.room k from) total ∙ reached_spent start.room from n along.peak (state_of old) along.whole in
+      let whole = sym (run-from start.room (start.allowance - start.steps) start.memory (ending bytes) before) ∙ ap (λ k. run start.room k from) total ∙ reached_spent start.room from n course.peak (state_of old) course.whole in
       record {
-        is_report = is-report start.steps start.peak _ (course_to start bytes before new) (report_of Steps new.machine) old.written old.source.bytes n along.peak whole stop.written (omega arith) (omega arith);
+        is_report = is-report start.steps start.peak _ (course_to start bytes before new) (report_of Steps new.machine) old.written old.source.bytes n course.peak whole stop.written (omega arith) (omega arith);
         left = ap (λ s. s.bytes) stop.source ∙ sym (ap (λ (r : Run). r.left) whole);
       }
 
   pub at-room : StopsAtRoom old new → IsReportOf (later_runs start (ending bytes) start.allowance) (course_to start bytes before new) (report_of Workspace new.machine)
   at-room stop =
       let from = state_with start.memory (ending bytes) before in
-      let n = along.count in
-      let whole = sym (run-from start.room (start.allowance - start.steps) start.memory (ending bytes) before) ∙ reached_full start.room from n along.peak (state_of old) along.whole (start.allowance - start.steps) (omega arith) (omega arith) in
-      is-report start.steps start.peak _ (course_to start bytes before new) (report_of Workspace new.machine) old.written old.source.bytes n along.peak whole stop.written (omega arith) (omega arith)
+      let n = course.count in
+      let whole = sym (run-from start.room (start.allowance - start.steps) start.memory (ending bytes) before) ∙ reached_full start.room from n course.peak (state_of old) course.whole (start.allowance - start.steps) (omega arith) (omega arith) in
+      is-report start.steps start.peak _ (course_to start bytes before new) (report_of Workspace new.machine) old.written old.source.bytes n course.peak whole stop.written (omega arith) (omega arith)
 
   pub at-end : (fate : Fate) → counted fate ≡ 1 → EndsRun fate old new → RanThrough (later_runs start) (course_to start bytes before new) (report_of fate new.machine)
   at-end fate counts_one stop =
       let from = state_with start.memory (ending bytes) before in
-      let n = along.count in
-      let whole = sym (run-from start.room (start.allowance - start.steps) start.memory (ending bytes) before) ∙ reached_over start.room from n along.peak (state_of old) along.whole (start.allowance - start.steps) fate (omega arith) (omega arith) stop.ends in
+      let n = course.count in
+      let whole = sym (run-from start.room (start.allowance - start.steps) start.memory (ending bytes) before) ∙ reached_over start.room from n course.peak (state_of old) course.whole (start.allowance - start.steps) fate (omega arith) (omega arith) stop.ends in
       record {
-        is_report = is-report start.steps start.peak _ (course_to start bytes before new) (report_of fate new.machine) old.written old.source.bytes (n + counted fate) (max along.peak (need (state_of old))) whole stop.written (omega arith) (omega arith);
+        is_report = is-report start.steps start.peak _ (course_to start bytes before new) (report_of fate new.machine) old.written old.source.bytes (n + counted fate) (max course.peak (need (state_of old))) whole stop.written (omega arith) (omega arith);
         left = stop.source ∙ sym (ap (λ (r : Run). r.left) whole);
       }
 
   pub at-input : (given : Text) → StopsAtInput old new given → (all : Text) × RanToFailure (later_runs start) (course_to start bytes before new) (report_of InputFailed new.machine) all
   at-input given stop =
-      let taken = along.given in
-      let n = along.count in
+      let taken = course.given in
+      let n = course.count in
       let whole = sym (run-from start.room (start.allowance - start.steps) start.memory (failing (taken ++ given)) before)
-      ∙ anywhere_failed start.room start.memory before taken n along.peak old.machine.memory old.written (along.cut stop.not_ended) given (start.allowance - start.steps) (omega arith) (omega arith) stop.ends in (
+      ∙ anywhere_failed start.room start.memory before taken n course.peak old.machine.memory old.written (course.cut stop.not_ended) given (start.allowance - start.steps) (omega arith) (omega arith) stop.ends in (
         taken ++ given,
         record {
-          consumed = along.consumed ∙ ap (λ t. taken ++ t) stop.consumed ∙ sym (append_assoc taken given new.source.bytes);
-          is_report = is-report start.steps start.peak _ (course_to start bytes before new) (report_of InputFailed new.machine) old.written given (n + 0) (max along.peak (need (failing_state_of old given))) whole stop.written (omega arith) (omega arith);
+          consumed = course.consumed ∙ ap (λ t. taken ++ t) stop.consumed ∙ sym (append_assoc taken given new.source.bytes);
+          is_report = is-report start.steps start.peak _ (course_to start bytes before new) (report_of InputFailed new.machine) old.written given (n + 0) (max course.peak (need (failing_state_of old given))) whole stop.written (omega arith) (omega arith);
         },
       )
 
   pub at-output : (next : State) (put rest : Text) → StopsAtOutput old new next put rest → BrokeOff (later_runs start) (course_to start bytes before new) (report_of OutputFailed new.machine) put rest
   at-output next put rest stop =
       let from = state_with start.memory (ending bytes) before in
-      let n = along.count in
+      let n = course.count in
       let same : new.machine.steps - start.steps ≡ n = omega arith in
       let more : new.machine.steps + 1 - start.steps ≡ n + 1 = omega arith in
-      let runs = reached_unwritten start.room from n along.peak (state_of old) next along.whole (omega arith) stop.goes in
+      let runs = reached_unwritten start.room from n course.peak (state_of old) next course.whole (omega arith) stop.goes in
       let before_is = ap (λ k. later_run before (run start.room k (state_with start.memory (ending bytes) []))) same ∙ sym (run-from start.room n start.memory (ending bytes) before) ∙ runs.0 in
       let after_is = ap (λ k. later_run before (run start.room k (state_with start.memory (ending bytes) []))) more ∙ sym (run-from start.room (n + 1) start.memory (ending bytes) before) ∙ runs.1 in
       let out_before = ap (λ (r : Run). r.output) before_is in
       let out_after = ap (λ (r : Run). r.output) after_is in
-      let peak_after : new.machine.peak ≡ max start.peak (max along.peak (need (state_of old))) = omega arith in
+      let peak_after : new.machine.peak ≡ max start.peak (max course.peak (need (state_of old))) = omega arith in
       record {
         allowed = omega arith;
         before_step = ap (λ (r : Run). r.fate) before_is;

@@ -2,7 +2,7 @@
 use Rattle.trac_core.proofs.Words.{◌≡◌, ℕ, ◌+◌, ◌-◌, ◌<◌, ◌≤◌, max, ◌⊎◌, inl, inr, ◌++◌, Some, None, refl, sym, ap, ◌∙◌, subst, arith, Fate, Steps, Text, size, Stream, Contents, used, IsSound, memory_of, Report, scene, Tried, MachineState, moment, counted, Resumes, Advances, peak_after, passed, running}
 use Rattle.trac_functions.proofs.FlatLemmas.{size-used}
 use Rattle.trac_core.specs.declared.machine.Counters.{Counters}
-use Rattle.trac_core.proofs.Moments.{Along, along-more, along-passes}
+use Rattle.trac_core.proofs.Moments.{OnCourse, course-more, course-passes}
 use Rattle.trac_core.proofs.Reported.{reported, report_of, course_to}
 use Rattle.trac_core.proofs.StepsInRow.{passes-smaller, peak-some}
 
@@ -31,40 +31,40 @@ need-counted done need peak top w new passes known is =
 
 module _ (start : MachineState) (bytes before : Text) (w new : Contents) (meta allowance left peak : ℕ) (room_is : w.room ≡ start.room) (few : left ≤ allowance) where
   -- steps that perform no call
-  pub along-run : (done need top : ℕ) (source : Stream) (written : Text) → new.room ≡ w.room → IsSound w → done ≤ left → 0 < done → Advances done w new → IsNeed need (used w) peak → top ≡ max peak need → Along start bytes before (moment (running w meta (with_left allowance left peak)) source written) → Along start bytes before (moment (running new meta (with_left allowance (left - done) top)) source written)
-  along-run done need top source written stays sound within some passes known is along =
+  pub course-run : (done need top : ℕ) (source : Stream) (written : Text) → new.room ≡ w.room → IsSound w → done ≤ left → 0 < done → Advances done w new → IsNeed need (used w) peak → top ≡ max peak need → OnCourse start bytes before (moment (running w meta (with_left allowance left peak)) source written) → OnCourse start bytes before (moment (running new meta (with_left allowance (left - done) top)) source written)
+  course-run done need top source written stays sound within some passes known is course =
       let m = running w meta (with_left allowance left peak) in
       let target = memory_of meta new in
-      let all = along-passes done start bytes before m target source written room_is (omega (arith, size-used meta w)) (omega arith) (passes meta) along in
+      let all = course-passes done start bytes before m target source written room_is (omega (arith, size-used meta w)) (omega arith) (passes meta) course in
       let steps : allowance - left + done ≡ allowance - (left - done) = omega arith in
       let peaks : peak_after done (size (memory_of meta w)) peak ≡ top = ap (λ k. peak_after done k peak) (size-used meta w) ∙ peak-some done (used w) need peak some known ∙ sym is in
       let same : passed done target m ≡ running new meta (with_left allowance (left - done) top) = λ i. record { memory = target; room = sym stays i; allowance = allowance; steps = steps i; peak = peaks i; fate = None } in
-      subst (λ m. Along start bytes before (moment m source written)) same all
+      subst (λ m. OnCourse start bytes before (moment m source written)) same all
 
   -- a step that performs a call, or loads the idling procedure
-  pub along-step : (after need top : ℕ) (taken : Text) (old_source new_source : Stream) (old_written new_written : Text) → new.room ≡ w.room → 0 < left → top ≡ max peak need → old_source.bytes ≡ taken ++ new_source.bytes → Tried (scene w meta old_source old_written) None need (scene new after new_source new_written) → Along start bytes before (moment (running w meta (with_left allowance left peak)) old_source old_written) → Along start bytes before (moment (running new after (with_left allowance (left - 1) top)) new_source new_written)
-  along-step after need top taken old_source new_source old_written new_written stays some is took tried along =
+  pub course-step : (after need top : ℕ) (taken : Text) (old_source new_source : Stream) (old_written new_written : Text) → new.room ≡ w.room → 0 < left → top ≡ max peak need → old_source.bytes ≡ taken ++ new_source.bytes → Tried (scene w meta old_source old_written) None need (scene new after new_source new_written) → OnCourse start bytes before (moment (running w meta (with_left allowance left peak)) old_source old_written) → OnCourse start bytes before (moment (running new after (with_left allowance (left - 1) top)) new_source new_written)
+  course-step after need top taken old_source new_source old_written new_written stays some is took tried course =
       let m = running w meta (with_left allowance left peak) in
       let target = memory_of after new in
       let allowed : allowance - left < allowance = omega arith in
-      let all = along-more start bytes before taken (moment m old_source old_written) (moment (counted m target need None) new_source new_written) room_is took along (tried m refl refl allowed) in
+      let all = course-more start bytes before taken (moment m old_source old_written) (moment (counted m target need None) new_source new_written) room_is took course (tried m refl refl allowed) in
       let steps : allowance - left + 1 ≡ allowance - (left - 1) = omega arith in
       let same : counted m target need None ≡ running new after (with_left allowance (left - 1) top) = λ i. record { memory = target; room = sym stays i; allowance = allowance; steps = steps i; peak = sym is i; fate = None } in
-      subst (λ m. Along start bytes before (moment m new_source new_written)) same all
+      subst (λ m. OnCourse start bytes before (moment m new_source new_written)) same all
 
   -- a step at which the run ends
-  pub ends-step : (after need : ℕ) (old_source new_source : Stream) (old_written new_written : Text) (fate : Fate) (report : Report) → allowance ≡ start.allowance → 0 < left → Tried (scene w meta old_source old_written) (Some fate) need (scene new after new_source new_written) → Along start bytes before (moment (running w meta (with_left allowance left peak)) old_source old_written) → report ≡ report_of fate (counted (running w meta (with_left allowance left peak)) (memory_of after new) need (Some fate)) → Resumes start report.fate (course_to start bytes before (moment start new_source new_written)) report
-  ends-step after need old_source new_source old_written new_written fate report allowance_is some tried along is =
+  pub ends-step : (after need : ℕ) (old_source new_source : Stream) (old_written new_written : Text) (fate : Fate) (report : Report) → allowance ≡ start.allowance → 0 < left → Tried (scene w meta old_source old_written) (Some fate) need (scene new after new_source new_written) → OnCourse start bytes before (moment (running w meta (with_left allowance left peak)) old_source old_written) → report ≡ report_of fate (counted (running w meta (with_left allowance left peak)) (memory_of after new) need (Some fate)) → Resumes start report.fate (course_to start bytes before (moment start new_source new_written)) report
+  ends-step after need old_source new_source old_written new_written fate report allowance_is some tried course is =
       let m = running w meta (with_left allowance left peak) in
       let allowed : allowance - left < allowance = omega arith in
-      let told = reported start bytes before (moment m old_source old_written) (moment (counted m (memory_of after new) need (Some fate)) new_source new_written) room_is allowance_is along fate (tried m refl refl allowed) in
+      let told = reported start bytes before (moment m old_source old_written) (moment (counted m (memory_of after new) need (Some fate)) new_source new_written) room_is allowance_is course fate (tried m refl refl allowed) in
       subst (λ (report : Report). Resumes start report.fate (course_to start bytes before (moment start new_source new_written)) report) (sym is) told
 
   -- the allowance is used up
-  pub ends-allowance : (source : Stream) (written : Text) → allowance ≡ start.allowance → left ≡ 0 → Along start bytes before (moment (running w meta (with_left allowance left peak)) source written) → Resumes start Steps (course_to start bytes before (moment start source written)) (record { fate = Steps; steps = allowance; peak = peak })
-  ends-allowance source written allowance_is none along =
+  pub ends-allowance : (source : Stream) (written : Text) → allowance ≡ start.allowance → left ≡ 0 → OnCourse start bytes before (moment (running w meta (with_left allowance left peak)) source written) → Resumes start Steps (course_to start bytes before (moment start source written)) (record { fate = Steps; steps = allowance; peak = peak })
+  ends-allowance source written allowance_is none course =
       let m = running w meta (with_left allowance left peak) in
       let all : allowance - left ≡ allowance = omega arith in
-      let told = reported start bytes before (moment m source written) (moment (counted m m.memory 0 (Some Steps)) source written) room_is allowance_is along Steps
+      let told = reported start bytes before (moment m source written) (moment (counted m m.memory 0 (Some Steps)) source written) room_is allowance_is course Steps
       (record { used_up = all; memory = refl; counts = record { steps = omega arith; peak = omega arith }; source = refl; written = refl }) in
       subst (λ n. Resumes start Steps (course_to start bytes before (moment start source written)) (record { fate = Steps; steps = n; peak = peak })) all told

@@ -97,13 +97,6 @@ module _ (neutral behind : List Cell) where
         octal = subst IsOctal (sym (part-append neutral behind part.0 part.1 are.order are.within)) are.octal;
       }
 
-  pub grown-for : (bits : BitResult) → AreFor neutral bits → AreFor (neutral ++ behind) bits
-  grown-for (Union a b) are = (grown-digits a are.0, grown-digits b are.1)
-  grown-for (Intersection a b) are = (grown-digits a are.0, grown-digits b are.1)
-  grown-for (Complement a) are = grown-digits a are
-  grown-for (Shift by a) are = grown-digits a are
-  grown-for (Rotation by a) are = (grown-digits a are.0, are.1)
-
   pub grown-made : (bits : BitResult) → AreFor neutral bits → bits_made (neutral ++ behind) bits ≡ bits_made neutral bits
   grown-made (Union a b) are = ap (λ l. union l (bits_at (neutral ++ behind) b)) (grown-at a are.0) ∙ ap (union (bits_at neutral a)) (grown-at b are.1)
   grown-made (Intersection a b) are = ap (λ l. intersection l (bits_at (neutral ++ behind) b)) (grown-at a are.0) ∙ ap (intersection (bits_at neutral a)) (grown-at b are.1)
@@ -126,18 +119,8 @@ made-within neutral (Rotation by a) are = omega (arith, rotation-digits neutral 
 -- ---- a result that is put behind a text
 
 module _ (old now : Contents) (text : Text) (bits : BitResult) (are : AreFor old.neutral bits) (e : now ≡ with_text old text) where
-  pub behind-parts : AreFor now.neutral bits
-  behind-parts = subst (λ (w : Contents). AreFor w.neutral bits) (sym e) (grown-for old.neutral (flat_text text) bits are)
-
   pub behind-made : octal (bits_made now.neutral bits) ≡ octal (bits_made old.neutral bits)
   behind-made = ap (λ (w : Contents). octal (bits_made w.neutral bits)) e ∙ ap octal (grown-made old.neutral (flat_text text) bits are)
-
-  pub behind-fits : used old + length text + length (octal (bits_made old.neutral bits)) ≤ old.room → used now + length (octal (bits_made now.neutral bits)) ≤ now.room
-  behind-fits fits =
-      let same = ap length behind-made in
-      let cells = ap (λ (w : Contents). used w) e ∙ used-with old text in
-      let room = ap (λ (w : Contents). w.room) e in
-      omega (arith, same, cells, room)
 
   pub behind-all : (new : Contents) → new ≡ with_text now (octal (bits_made now.neutral bits)) → new ≡ with_text old (text ++ octal (bits_made old.neutral bits))
   behind-all new put = put ∙ ap (λ t. with_text now t) behind-made ∙ ap (λ w. with_text w (octal (bits_made old.neutral bits))) e ∙ with-both old text (octal (bits_made old.neutral bits))

@@ -186,9 +186,6 @@ module _ (body : List Item) (to taken place : ℕ) (within : to ≤ length body)
       let there = so.there in
       omega arith
 
-  pub backward-within : place ≤ to
-  backward-within = let at = so.at in omega arith
-
   -- the item at a place, seen from behind
   seen-back : (k : ℕ) → k < place → get_or (reverse (take place body)) k (Byte 0) ≡ get_or body (place - 1 - k) (Byte 0)
   seen-back k lt =
@@ -223,12 +220,6 @@ module _ (body : List Item) (to taken place : ℕ) (within : to ≤ length body)
       let zero_left = ap length nothing in
       let zero_here = length-text_of-reverse (take place body) in
       let left = behind-left in
-      let all : min count (length (text_of (take to body))) ≡ taken = omega arith in
-      ap (λ n. place + length (first_characters n (reverse (take to body)))) all ∙ so.at
-
-  pub backward-all : (count : ℕ) → taken ≡ count → place + length (first_characters (min count (length (text_of (take to body)))) (reverse (take to body))) ≡ to
-  backward-all count e =
-      let there = so.there in
       let all : min count (length (text_of (take to body))) ≡ taken = omega arith in
       ap (λ n. place + length (first_characters n (reverse (take to body)))) all ∙ so.at
 
@@ -283,20 +274,6 @@ pub length-characters : (body : List Item) (a b : ℕ) → b ≤ length body →
 length-characters body a b within all = all-characters (slice_range body a b) all ∙ length-between body a b within
 
 -- ---- a run of characters
-
-pub first-or-some : (test : ℕ → Bool) (from to end place found : ℕ) → from ≤ to → IsFirst test from end place → found ≡ min place to → IsFirstOr test from to found
-first-or-some test from to end place found le first e =
-    let above = first.above in
-    record {
-      above = omega arith;
-      below = omega arith;
-      before = λ k ge lt. first.before k ge (omega arith);
-      passes = λ lt. let same : found ≡ place = omega arith in ap test same ∙ first.passes;
-    }
-
-pub first-or-none : (test : ℕ → Bool) (from to end : ℕ) → from ≤ to → to ≤ end → NonePasses test from end → IsFirstOr test from to to
-first-or-none test from to end le within none =
-    record { above = le; below = omega arith; before = λ k ge lt. none k ge (omega arith); passes = λ lt. absurd (omega arith) }
 
 -- the characters of a run
 pub run-characters : (body : List Item) (start end to : ℕ) → end ≤ length body → IsFirstOr (gap_at body) start to end → All (λ item. is_character item ≡ true) (slice_range body start end)

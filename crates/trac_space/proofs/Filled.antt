@@ -172,10 +172,6 @@ module _ (old neutral list : List Cell) (count from stop first last : ℕ) (befo
 pub filling-gap : (neutral list : List Cell) (count : ℕ) (cell : Cell) → is_byte_cell cell ≡ false → filling neutral list count cell ≡ listed_part neutral list count (ordinal_of cell)
 filling-gap neutral list count cell is = rw is refl
 
--- what fills a character
-pub filling-byte : (neutral list : List Cell) (count : ℕ) (cell : Cell) → is_byte_cell cell ≡ true → filling neutral list count cell ≡ cell ∷ []
-filling-byte neutral list count cell is = rw is refl
-
 listed-number : (neutral list : List Cell) (count number place : ℕ) → number ≡ suc place → nat_lt place count ≡ true → listed_part neutral list count number ≡ slice_range neutral (number_at list (count - place)) (number_at list (count - suc place) - 1)
 listed-number neutral list count number place is less = ap (listed_part neutral list count) is ∙ rw less refl
 
@@ -200,14 +196,6 @@ part-is cells base bound last count number place from next is less order within 
     let part : slice_range cells (base + from) (base + from + (next - 1 - from)) ≡ slice_range neutral from (next - 1) =
     part-of cells base bound from next order within (omega (arith, begins, ends, some)) (omega (arith, ends, inside, size, order)) in
     part ∙ ap (λ a. slice_range neutral a (next - 1)) begins ∙ ap (λ b. slice_range neutral (number_at list (count - place)) (b - 1)) ends ∙ sym (listed-number neutral list count number place is yes)
-
--- links don't count
-ordinal-seen : (cell : Cell) → ordinal_of (seen cell) ≡ ordinal_of cell
-ordinal-seen (Byte b) = refl
-ordinal-seen (Call mode k) = refl
-ordinal-seen Comma = refl
-ordinal-seen (Gap k) = refl
-ordinal-seen (Head n) = refl
 
 number-seen : (cell : Cell) → number_of (seen cell) ≡ number_of cell
 number-seen (Byte b) = refl

@@ -110,13 +110,6 @@ no_call-flat_form form =
     item_no_call (item.Byte b) = refl
     item_no_call (item.Gap k) = refl
 
--- a name is the text of a part just where their cells are the same
-pub same_text : (name : List ℕ) (string : List Cell) (a b : ℕ) → IsTextPart string a b → (map Byte name ≡ slice_range string a b → name ≡ part_text string a b) × (name ≡ part_text string a b → map Byte name ≡ slice_range string a b)
-same_text name string a b part = (
-  λ e. sym (character_of-Byte name) ∙ ap (map character_of) e,
-  λ e. ap (map Byte) e ∙ Byte-character_of (slice_range string a b) part.bytes,
-)
-
 -- cells put at the end of neutral and moved to the store
 pub moved : (s put after : Lists) (more : List Cell) (from : ℕ) → from ≡ length s.neutral → put ≡ record s { neutral = s.neutral ++ more } → after ≡ record put { store = put.store ++ drop from put.neutral; neutral = take from put.neutral } → after ≡ record s { store = s.store ++ more }
 moved s put after more from len is then =

@@ -16,10 +16,6 @@ use Rattle.trac_store.specs.Search.{is_gap, gap_at, character_at, text_at, NoneP
 use Rattle.trac_store.specs.Gaps.{is_gap_cell, gap_cell_at, text_cells_at, begins_cells}
 use Rattle.trac_store.proofs.Gaps.{begins-map_seen, bytes-seen}
 
--- no place before the next passes
-pub NonePasses-more : (test : ℕ → Bool) (from to : ℕ) → NonePasses test from to → test to ≡ false → NonePasses test from (to + 1)
-NonePasses-more test from to none here k above below = ⊎_elim (λ e. ap test e ∙ here) (λ differs. none k above (omega arith)) (cases_eq k to)
-
 -- another test that agrees gives the same places
 pub first-agrees : (r : Option ℕ) (p q : ℕ → Bool) (from n to : ℕ) → n ≡ to → ((k : ℕ) → k < to → p k ≡ q k) → MatchOption r (NonePasses p from n) (λ i. IsFirst p from n i) → MatchOption r (NonePasses q from to) (λ i. IsFirst q from to i)
 first-agrees None p q from n to len same h = λ k above below. sym (same k below) ∙ h k above (omega arith)

@@ -1,8 +1,10 @@
-//! Tests of the libraries, by their public names: the lists of a block, values, and the machine
-//! over rows that were worked by hand, in every room, with every allowance, and over devices that
-//! fail.
+//! Tests of the libraries, by their public names: the lists of a block, values, the buffers of devices,
+//! and the machine over rows that were worked by hand, in every room, with every allowance, and over
+//! devices that fail.
 #![tactic(auto)]
 
+#[cfg(test)]
+mod buffers;
 #[cfg(test)]
 mod machine;
 #[cfg(test)]

@@ -119,6 +119,3 @@ fn status(fate: Fate) -> u8
         Fate::OutputFailed => NO_MEMORY,
     }
 }
-
-#[cfg(test)]
-mod tests;

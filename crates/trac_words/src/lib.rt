@@ -10,6 +10,3 @@ mod words;
 pub use refusals::{refused, refused_words};
 pub use settings::{MOST_CELLS, MOST_STEPS, Settings};
 pub use words::{number, numbers_command, settings_from};
-
-#[cfg(test)]
-mod tests;

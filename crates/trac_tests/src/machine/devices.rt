@@ -1,6 +1,7 @@
 //! Runs over devices that fail, and over sources, sinks, readers and writers of the tests' own.
 ghost use Rattle.std.specs.Prelude.{◌≡◌, ◌+◌, ◌-◌, ◌<◌, [], false, ⊤};
 
+use crate::space::are_bytes;
 use super::{AMPLE, Faults, HELLO, MANY, NO_FAULTS, SHOWN, came_to, faulty};
 use std::io;
 use std::io::{ErrorKind, Read, Write};
@@ -254,19 +255,6 @@ impl Write for InterruptedWriter<'_> {
     fn flush(&mut self) -> io::Result<()> {
         self.system.call()
     }
-}
-
-fn are_bytes(cells: &[Cell], text: &[u8]) -> bool {
-    if cells.len() != text.len() {
-        return false;
-    }
-    for (cell, byte) in cells.iter().zip(text) {
-        match cell {
-            Cell::Byte(b) if b == byte => {}
-            _ => return false,
-        }
-    }
-    true
 }
 
 /// Takes what a source over memory holds, up to an apostrophe, into so many free cells.

@@ -1,6 +1,6 @@
 use Rattle.trac_core.proofs.Words.{◌≡◌, ◌-◌, Some, None, refl, sym, ap, ◌∙◌, subst, arith, inl, length-drop, Contents, memory_of, scene, Tried, moment, input_failures, output_failures, running}
-use Rattle.trac_core.proofs.Moments.{Along, along-none}
-use Rattle.trac_core.proofs.RunningOn.{with_left, need-fits, need-counted, along-run, along-step, ends-step, ends-allowance}
+use Rattle.trac_core.proofs.Moments.{OnCourse, course-none}
+use Rattle.trac_core.proofs.RunningOn.{with_left, need-fits, need-counted, course-run, course-step, ends-step, ends-allowance}
 use Rattle.trac_core.proofs.Sending.{sent-more}
 use Rattle.trac_core.proofs.machine.run_to_end.Goals as goal
 
@@ -20,13 +20,13 @@ loop-left-init g c =
       told_source = λ told. told;
       told_sink = λ told. told;
       sent = inl refl;
-      along = λ told_source told_sink.
+      course = λ told_source told_sink.
           let steps : c.args.at.steps ≡ c.args.at.allowance - (c.args.at.allowance - c.args.at.steps) = omega arith in
           let start = running c.args.work.now c.args.meta.now c.args.at in
           let source = g.I.Source.stream c.args.source.now in
           let written = g.O.Sink.written c.args.sink.now in
-          subst (λ n. Along start source.bytes written (moment (record start { steps = n }) source written)) steps
-          (along-none start source written);
+          subst (λ n. OnCourse start source.bytes written (moment (record start { steps = n }) source written)) steps
+          (course-none start source written);
     }
 
 pub loop-left-preserved-in-Ok : goal.loop-left-preserved-in-Ok
@@ -51,9 +51,9 @@ loop-left-preserved-in-Ok g c =
       told_source = i.told_source;
       told_sink = i.told_sink;
       sent = i.sent;
-      along = λ told_source told_sink.
-          along-run (running c.args.work.now c.args.meta.now c.args.at) (g.I.Source.stream c.args.source.now).bytes (g.O.Sink.written c.args.sink.now) old new c.loop-left.meta c.args.at.allowance c.loop-left.left c.loop-left.peak i.room (omega arith)
-          c.in-Ok.done c.loop-left.need c.max-peak.result (g.I.Source.stream c.loop-left.source) (g.O.Sink.written c.loop-left.sink) h.keeps.room i.sound within some.some some.passes i.need c.max-peak.ensures (i.along told_source told_sink);
+      course = λ told_source told_sink.
+          course-run (running c.args.work.now c.args.meta.now c.args.at) (g.I.Source.stream c.args.source.now).bytes (g.O.Sink.written c.args.sink.now) old new c.loop-left.meta c.args.at.allowance c.loop-left.left c.loop-left.peak i.room (omega arith)
+          c.in-Ok.done c.loop-left.need c.max-peak.result (g.I.Source.stream c.loop-left.source) (g.O.Sink.written c.loop-left.sink) h.keeps.room i.sound within some.some some.passes i.need c.max-peak.ensures (i.course told_source told_sink);
     }
 
 pub returns-in-Some : goal.returns-in-Some
@@ -73,11 +73,11 @@ returns-in-Some g c =
           let later = g.I.Source.stream c.carry_out-last.new.source in
           let printed = g.O.Sink.written c.carry_out-last.new.sink in
           let last = with_left c.args.at.allowance c.loop-left.left c.loop-left.peak in
-          let along = subst (λ (w : Contents). Along start bytes before (moment (running w c.loop-left.meta last) source written)) (sym c.in-Err.ensures.comes.0) (i.along told_source told_sink) in
+          let course = subst (λ (w : Contents). OnCourse start bytes before (moment (running w c.loop-left.meta last) source written)) (sym c.in-Err.ensures.comes.0) (i.course told_source told_sink) in
           let tried = subst (λ fate. Tried (scene c.pass.new.work c.loop-left.meta source written) fate c.carry_out-last.result.need (scene c.carry_out-last.new.work c.carry_out-last.new.meta later printed)) c.in-Some.is
           (h.tried (i.told_source told_source) (i.told_sink told_sink)) in
           ends-step start bytes before c.pass.new.work c.carry_out-last.new.work c.loop-left.meta c.args.at.allowance c.loop-left.left c.loop-left.peak room (omega arith)
-          c.carry_out-last.new.meta c.carry_out-last.result.need source _ written _ c.in-Some.fate c.ended.result refl c.loop-left-test.true tried along
+          c.carry_out-last.new.meta c.carry_out-last.result.need source _ written _ c.in-Some.fate c.ended.result refl c.loop-left-test.true tried course
           (ended.counts (running c.pass.new.work c.loop-left.meta last) (memory_of c.carry_out-last.new.meta c.carry_out-last.new.work) refl refl);
       input_failed = let fate = ap (input_failures None) fate in omega (arith, i.source_failures, h.source.1, fate);
       output_failed = let fate = ap (output_failures None) fate in omega (arith, i.sink_failures, h.sink.1, fate);
@@ -114,7 +114,7 @@ loop-left-preserved g c =
       told_source = λ told. h.source.0 (i.told_source told);
       told_sink = λ told. h.sink.0 (i.told_sink told);
       sent = sent-more g.O.Sink.tells g.O.Sink.flushed g.O.Sink.written c.args.sink.now c.loop-left.sink c.carry_out-last.new.sink i.told_sink i.sent (h.sink.4 (λ e. absurd cc));
-      along = λ told_source told_sink.
+      course = λ told_source told_sink.
           let start = running c.args.work.now c.args.meta.now c.args.at in
           let source = g.I.Source.stream c.loop-left.source in
           let written = g.O.Sink.written c.loop-left.sink in
@@ -122,16 +122,16 @@ loop-left-preserved g c =
           let printed = g.O.Sink.written c.carry_out-last.new.sink in
           let bytes = (g.I.Source.stream c.args.source.now).bytes in
           let before = g.O.Sink.written c.args.sink.now in
-          let along = subst (λ (w : Contents). Along start bytes before (moment (running w c.loop-left.meta (with_left c.args.at.allowance c.loop-left.left c.loop-left.peak)) source written)) (sym same) (i.along told_source told_sink) in
+          let course = subst (λ (w : Contents). OnCourse start bytes before (moment (running w c.loop-left.meta (with_left c.args.at.allowance c.loop-left.left c.loop-left.peak)) source written)) (sym same) (i.course told_source told_sink) in
           let tried = subst (λ fate. Tried (scene c.pass.new.work c.loop-left.meta source written) fate c.carry_out-last.result.need (scene c.carry_out-last.new.work c.carry_out-last.new.meta later printed)) none
           (h.tried (i.told_source told_source) (i.told_sink told_sink)) in
           let took = h.takes (i.told_source told_source) in
-          along-step start bytes before c.pass.new.work c.carry_out-last.new.work c.loop-left.meta c.args.at.allowance c.loop-left.left c.loop-left.peak (c.in-Err.ensures.keeps.room ∙ i.room) (omega arith)
-          c.carry_out-last.new.meta c.carry_out-last.result.need c.max-peak-in-Err.result took.0 source later written printed h.keeps.room c.loop-left-test.true peak_is took.1.consumed tried along;
+          course-step start bytes before c.pass.new.work c.carry_out-last.new.work c.loop-left.meta c.args.at.allowance c.loop-left.left c.loop-left.peak (c.in-Err.ensures.keeps.room ∙ i.room) (omega arith)
+          c.carry_out-last.new.meta c.carry_out-last.result.need c.max-peak-in-Err.result took.0 source later written printed h.keeps.room c.loop-left-test.true peak_is took.1.consumed tried course;
     }
 
 pub returns-clause-reports : goal.returns-clause-reports
 returns-clause-reports g c = λ told_source told_sink.
     let i = c.loop-left.invariant in
     ends-allowance (running c.args.work.now c.args.meta.now c.args.at) (g.I.Source.stream c.args.source.now).bytes (g.O.Sink.written c.args.sink.now) c.loop-left.work c.loop-left.work c.loop-left.meta c.args.at.allowance c.loop-left.left c.loop-left.peak i.room (omega arith)
-    (g.I.Source.stream c.loop-left.source) (g.O.Sink.written c.loop-left.sink) refl (omega arith) (i.along told_source told_sink)
+    (g.I.Source.stream c.loop-left.source) (g.O.Sink.written c.loop-left.sink) refl (omega arith) (i.course told_source told_sink)

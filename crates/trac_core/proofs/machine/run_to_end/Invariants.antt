@@ -1,5 +1,5 @@
 use Rattle.trac_core.proofs.Words.{◌≡◌, ◌≤◌, ◌-◌, ◌⊎◌, Sent, IsSound, used, moment, IsPlainFrom, running}
-use Rattle.trac_core.proofs.Moments.{Along}
+use Rattle.trac_core.proofs.Moments.{OnCourse}
 use Rattle.trac_core.proofs.machine.run_to_end.Given as goal
 
 -- no device has failed yet, the run so far is that of the definition, and the need is that of the next step or counted
@@ -18,8 +18,8 @@ invariant-loop-left g l =
       told_source : g.I.Source.tells l.fn.source → g.I.Source.tells l.source;
       told_sink : g.O.Sink.tells l.fn.sink → g.O.Sink.tells l.sink;
       sent : Sent g.O.Sink.tells g.O.Sink.flushed g.O.Sink.written l.fn.sink l.sink;
-      along : g.I.Source.tells l.fn.source → g.O.Sink.tells l.fn.sink →
-          Along (running l.fn.work l.fn.meta l.at) (g.I.Source.stream l.fn.source).bytes (g.O.Sink.written l.fn.sink)
+      course : g.I.Source.tells l.fn.source → g.O.Sink.tells l.fn.sink →
+          OnCourse (running l.fn.work l.fn.meta l.at) (g.I.Source.stream l.fn.source).bytes (g.O.Sink.written l.fn.sink)
           (moment
           (running l.work l.meta (record { allowance = l.at.allowance; steps = l.at.allowance - l.left; peak = l.peak }))
           (g.I.Source.stream l.source) (g.O.Sink.written l.sink));
