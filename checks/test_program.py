@@ -96,6 +96,12 @@ class Program(unittest.TestCase):
             script = '#(ds,G,%s)#(ss,G,%s)#(cl,G,%s)\'' % parts
             self.assertEqual(run(script.encode()), (''.join(texts).encode(), '', 0), n)
 
+    def test_numbers_of_a_thousand_digits(self):
+        less, more = '9' * 999 + '7', '9' * 999 + '8'
+        for a, b, answer in ((more, less, 'yes'), (less, more, 'no'), (more, more, 'no'),
+                             (less, '-' + more, 'yes'), ('-' + more, '-' + more, 'no')):
+            self.assertEqual(run(f"#(gr,{a},{b},yes,no)'"), (answer.encode(), '', 0))
+
     def test_the_launcher_passes_words_devices_and_status(self):
         done = subprocess.run([LAUNCHER, '--cells', '18', '--report'],
                               input=HELLO.encode(), capture_output=True)

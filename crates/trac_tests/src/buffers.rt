@@ -7,9 +7,7 @@ use std::io;
 use std::io::{Read, Write};
 use std::process::Abort;
 use std::test::Fail;
-use trac_core::{
-    BufferedReader, BufferedWriter, Cell, Input, Next, Output, Sink, Source, Work,
-};
+use trac_core::{BufferedReader, BufferedWriter, Cell, Input, Next, Output, Sink, Source, Work};
 
 // A reader of a text that gives at most `most` bytes at a read, and fails at the read number
 // `fails_at`.

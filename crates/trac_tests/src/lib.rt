@@ -1,5 +1,5 @@
-//! Tests of the libraries, by their public names: the lists of a block, values, the buffers of devices,
-//! and the machine over rows that were worked by hand, in every room, with every allowance, and over
+//! Tests of the libraries, by their public names: the lists of a block, the buffers of devices, and
+//! the machine over rows that were worked by hand, in every room, with every allowance, and over
 //! devices that fail.
 #![tactic(auto)]
 
@@ -9,5 +9,3 @@ mod buffers;
 mod machine;
 #[cfg(test)]
 mod space;
-#[cfg(test)]
-mod values;

@@ -1,8 +1,8 @@
 //! Runs over devices that fail, and over sources, sinks, readers and writers of the tests' own.
 ghost use Rattle.std.specs.Prelude.{◌≡◌, ◌+◌, ◌-◌, ◌<◌, [], false, ⊤};
 
-use crate::space::are_bytes;
 use super::{AMPLE, Faults, HELLO, MANY, NO_FAULTS, SHOWN, came_to, faulty};
+use crate::space::are_bytes;
 use std::io;
 use std::io::{ErrorKind, Read, Write};
 use std::process::Abort;
