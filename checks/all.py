@@ -1,6 +1,6 @@
-"""Runs each file of checks, as many beside one another as there are processors, the longest first.
-Those that stand on dist/, or have rt work in the folders of the crates, begin when ./release has
-ended, which goes beside the others."""
+"""Runs each file of checks and the smallest round of bench/, as many beside one another as there are
+processors, the longest first. Those that stand on dist/, or have rt work in the folders of the crates,
+begin when ./release has ended, which goes beside the others."""
 import glob
 import os
 import subprocess
@@ -11,23 +11,26 @@ from trac import RELEASED, TOP
 
 HERE = os.path.dirname(os.path.abspath(__file__))
 RELEASE = 'release'
-BEHIND_IT = ['test_c_library', 'test_embedding', 'test_release', 'test_memory', 'test_page',
+# What is no file of checks.
+COMMANDS = {RELEASE: [os.path.join(TOP, 'release')],
+            'bench': [sys.executable, os.path.join(TOP, 'bench', 'bench.py'), '--smoke']}
+BEHIND_IT = ['test_c_library', 'test_embedding', 'test_release', 'test_page',
              'test_package', 'test_install']
 # Of the others, those that take longest.
-LONG = ['test_borrowing', 'test_launcher', 'test_growth', 'test_trace', 'test_speed']
+LONG = ['test_libraries', 'test_launcher', 'test_borrowing', 'test_growth', 'test_speed',
+        'test_conformance', 'test_trace']
 
 
 def in_turn():
     """The names in the order in which they are begun, each as soon as it can be."""
     others = {path[:-3] for path in glob.glob('test_*.py', root_dir=HERE)}
-    return [RELEASE, *BEHIND_IT, *LONG, *sorted(others - {*BEHIND_IT, *LONG})]
+    return [*COMMANDS, *BEHIND_IT, *LONG, *sorted(others - {*BEHIND_IT, *LONG})]
 
 
 def run(name):
     """Whether it passes, and what it says."""
-    words, more = [sys.executable, '-m', 'unittest', name], {RELEASED: 'yes'}
-    if name == RELEASE:
-        words, more = [os.path.join(TOP, 'release')], {}
+    words = COMMANDS.get(name, [sys.executable, '-m', 'unittest', name])
+    more = {} if name == RELEASE else {RELEASED: 'yes'}
     done = subprocess.run(words, cwd=HERE, env={**os.environ, **more}, stdin=subprocess.DEVNULL,
                           stdout=subprocess.PIPE, stderr=subprocess.STDOUT, text=True)
     return done.returncode == 0, f'{name}\n{done.stdout}'
