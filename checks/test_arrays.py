@@ -319,8 +319,8 @@ def sources(crate):
 
 class Arrays(unittest.TestCase):
     def test_the_crates_of_the_engine(self):
-        self.assertEqual(ENGINE, ['trac_language', 'trac_laws', 'trac_space', 'trac_values',
-                                  'trac_store', 'trac_forms', 'trac_devices', 'trac_functions',
+        self.assertEqual(ENGINE, ['trac_language', 'trac_space', 'trac_values', 'trac_store',
+                                  'trac_forms', 'trac_devices', 'trac_functions', 'trac_laws',
                                   'trac_core'])
 
     def test_bodies_have_no_array_but_one_byte_of_a_device_and_the_buffers(self):
