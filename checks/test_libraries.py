@@ -92,8 +92,11 @@ class Libraries(unittest.TestCase):
         for crate in CRATES:
             self.assertEqual(self.build(crate)[0], 0)
         self.check_out('other')
+        # Not every kit hands them on: then they are proved again.
+        is_silent = subprocess.run(['python3', LIBRARIES, 'shares']).returncode == 0
         for crate in CRATES:
-            self.assertEqual(self.build(crate), (0, ''))
+            status, said = self.build(crate)
+            self.assertEqual((status, said == ''), (0, is_silent), said)
             self.assertEqual(self.made(crate), ['rlib'])
 
     def test_what_is_kept_serves(self):

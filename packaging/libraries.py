@@ -9,6 +9,7 @@ work that serves it better, or where the kit is none that this knows.
 libraries.py take SINCE: has rt take the libraries that `rt ci` proved and built after the file SINCE was
 written. `rt ci` leaves them without the stamp by which rt knows what a library was made from. Where not
 all are from that run, or a source was written since, it does nothing."""
+import contextlib
 import importlib.machinery
 import importlib.util
 import os
@@ -29,20 +30,26 @@ def kit():
     return module
 
 
+def shares(rt):
+    """Whether the kit hands libraries on from one checkout of the machine to another."""
+    return hasattr(rt, 'take_rlib')
+
+
 def build(rt, jobs):
     here, lib = os.getcwd(), rt.rtlib
     library = lib.Crate(here, lib.root_above(here), {})
     library.held = lib.lock([*library.below(), library])
     if not all(below.is_built() for below in library.below()):
         return UNAVAILABLE
-    with rt.in_turn(library):
+    with rt.in_turn(library) if shares(rt) else contextlib.nullcontext():
         stamp, status = library.stamp(), 0
-        if not library.is_built() and not rt.take_rlib(library):
-            if rt.work_for(library):
+        if not library.is_built() and not (shares(rt) and rt.take_rlib(library)):
+            if rt.work_for(library) if shares(rt) else library.has_kept():
                 return UNAVAILABLE
             lib.libraries_keep = lambda: False
             status = library.build_rlib(['--jobs', jobs, '--statements'], anew=False)
-        rt.offer(library, None if status else stamp)
+        if shares(rt):
+            rt.offer(library, None if status else stamp)
     return status
 
 
@@ -64,9 +71,12 @@ def take(rt, since):
     return 0
 
 
-def main(verb, word):
+def main(verb, *words):
     try:
-        return {'build': build, 'take': take}[verb](kit(), word)
+        rt = kit()
+        if verb == 'shares':
+            return 0 if shares(rt) else 1
+        return {'build': build, 'take': take}[verb](rt, *words)
     # whatever another kit's module answers
     except Exception as error:
         print(f'libraries.py: {error}', file=sys.stderr)
