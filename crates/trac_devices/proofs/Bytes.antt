@@ -1,15 +1,6 @@
 -- Known bytes in front of a reader and behind a writer.
-use Rattle.std.proofs.Common.{Bool, IsSome, unwrap_or, ◌≡◌, ◌∙◌, ◌+◌, ◌-◌, ◌≤◌, ◌<◌, ◌++◌, ◌∷◌, ap, ap₂, refl, ℕ, List, [], get_or, length, take, drop, Option, Some, None, sym, arith, append_assoc, length-take}
-use Rattle.std.specs.Prelude.{slice_range, Result, Ok, Err, OnErr}
-use lib.Seq.{take-add}
-use Rattle.std.proofs.lemmas.List.{drop-append-le, drop-drop, drop-take, take-append-drop}
-use Rattle.std.proofs.Math.ListN.{set}
-use Rattle.std.proofs.Math.Seq.{drop-cons}
-use Rattle.std.proofs.lemmas.Slice.{between_is, take-put_mid}
-use borrow.Rule.Slice.PartMut.{put_mid}
-use Rattle.std.specs.Io.KnownBytes.{Appends, Consumes, IsAtEnd, Keeps, append_known, prepend_known}
-use Rattle.trac_devices.specs.Readers.{BufferedInput, CountedReader}
-use Rattle.trac_devices.specs.Slices.{IfTells}
+use Rattle.trac_devices.proofs.Words.{Bool, IsSome, unwrap_or, ◌≡◌, ◌∙◌, ◌+◌, ◌-◌, ◌≤◌, ◌<◌, ◌++◌, ◌∷◌, ap, ap₂, refl, ℕ, List, [], get_or, length, take, drop, Option, Some, None, sym, arith, append_assoc, length-take, slice_range, Result, Ok, Err, OnErr, take-add, drop-append-le, drop-drop}
+use Rattle.trac_devices.proofs.Words.{drop-take, take-append-drop, set, drop-cons, between_is, take-put_mid, put_mid, Appends, Consumes, IsAtEnd, Keeps, append_known, prepend_known, BufferedInput, CountedReader, IfTells}
 
 -- a part is its front and the rest
 pub part_split : (xs : List ℕ) (a n b : ℕ) → a + n ≤ b → slice_range xs a b ≡ slice_range xs a (a + n) ++ slice_range xs (a + n) b

@@ -1,2 +1,3 @@
-pub mod PutCells
 pub mod Bytes
+pub mod PutCells
+mod Words

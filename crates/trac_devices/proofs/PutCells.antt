@@ -1,12 +1,5 @@
 -- Characters of cells that are put into a sink.
-use Rattle.std.proofs.Common.{◌≡◌, ℕ, List, ◌++◌, take, drop, sym, ap, ◌∙◌}
-use Rattle.std.specs.Prelude.{Result, Ok, Err, IsErr}
-use Rattle.std.proofs.lemmas.List.{take-append-drop}
-use Rattle.trac_language.specs.Text.{Text}
-use Rattle.trac_space.specs.declared.cell.Cell.{Cell}
-use Rattle.trac_space.specs.Texts.{text_of_cells}
-use Rattle.trac_space.proofs.Texts.{text_of_cells-append}
-use Rattle.trac_devices.specs.Devices.{Breaks, Prints}
+use Rattle.trac_devices.proofs.Words.{◌≡◌, ℕ, List, ◌++◌, take, drop, sym, ap, ◌∙◌, Result, Ok, Err, IsErr, take-append-drop, Text, Cell, text_of_cells, text_of_cells-append, Breaks, Prints}
 
 cells-split : (cells : List Cell) (k : ℕ) → text_of_cells cells ≡ text_of_cells (take k cells) ++ text_of_cells (drop k cells)
 cells-split cells k = ap text_of_cells (sym (take-append-drop k cells)) ∙ text_of_cells-append (take k cells) (drop k cells)

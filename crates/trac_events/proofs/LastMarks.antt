@@ -1,17 +1,6 @@
 -- The innermost call among cells, and among these and one more.
-use Rattle.std.proofs.Common.{◌≡◌, ◌∙◌, ◌<◌, ◌≤◌, ◌+◌, ◌-◌, ℕ, zero, suc, false, refl, sym, ap, List, [], ◌∷◌, ◌++◌, length, take, drop, get_or, Option, Some, None, arith}
-use Rattle.std.specs.Prelude.{MatchOption, count_by}
-use Rattle.std.proofs.lemmas.List.{take-append-le, drop-append-le, get_or_append_left, get_or-append-add, take_more, take_all, drop_all, length-take-le, length-drop, length_push}
-use Rattle.std.proofs.lemmas.List.Sums.{count_by_more_no, count_by_more_yes}
-use Rattle.std.proofs.lemmas.List.Elements.{All-append}
-use Rattle.trac_language.specs.declared.mode.Mode.{Mode}
-use Rattle.trac_space.specs.declared.cell.Cell.{Cell}
-use Rattle.trac_space.specs.declared.cell.Cell.TheVariants.{Byte, Call, Comma, Gap, Head}
-use Rattle.trac_space.specs.Cells.{NoCall, IsNoCall, is_call}
-use Rattle.trac_space.specs.Calls.{IsLastCall}
-use Rattle.trac_functions.specs.Flat.{mode_of}
-use Rattle.trac_events.specs.Calls.{IsInnermost}
-use Rattle.trac_events.specs.declared.call.OpenCall.{OpenCall}
+use Rattle.trac_events.proofs.Words.{◌≡◌, ◌∙◌, ◌<◌, ◌≤◌, ◌+◌, ◌-◌, ℕ, zero, suc, false, refl, sym, ap, List, [], ◌∷◌, ◌++◌, length, take, drop, get_or, Option, Some, None, arith, MatchOption, count_by, take-append-le, drop-append-le, get_or_append_left, get_or-append-add, take_more, take_all}
+use Rattle.trac_events.proofs.Words.{drop_all, length-take-le, length-drop, length_push, count_by_more_no, count_by_more_yes, All-append, Mode, Cell, Byte, Call, Comma, Gap, Head, NoCall, IsNoCall, is_call, IsLastCall, mode_of, IsInnermost, OpenCall}
 
 one : (x : Cell) → is_call x ≡ false → NoCall (x ∷ [])
 one x plain zero d less = plain

@@ -1,2 +1,3 @@
 pub mod LastMarks
 pub mod NextArgument
+mod Words

@@ -1,9 +1,5 @@
 -- The arguments behind the first one.
-use Rattle.std.proofs.Common.{◌≡◌, ℕ, suc, ◌+◌, ◌-◌, ◌<◌, List, drop, ap, arith}
-use Rattle.std.specs.List.{position_or_len}
-use Rattle.trac_space.specs.declared.cell.Cell.{Cell}
-use Rattle.trac_space.specs.Cells.{is_comma}
-use Rattle.trac_events.specs.Calls.{argument_of}
+use Rattle.trac_events.proofs.Words.{◌≡◌, ℕ, suc, ◌+◌, ◌-◌, ◌<◌, List, drop, ap, arith, position_or_len, Cell, is_comma, argument_of}
 
 -- argument `k - i` is one before it among the arguments behind the first
 pub next_argument : (cells : List Cell) (i k : ℕ) → i < k → argument_of (drop (position_or_len is_comma cells + 1) cells) (k - (i + 1)) ≡ argument_of cells (k - i)

@@ -1,24 +1,6 @@
 -- The first of the forms that cells stand for, and those behind it.
-use Rattle.std.proofs.Common.{◌≡◌, ◌≢◌, ℕ, ◌+◌, ◌-◌, ◌<◌, ◌≤◌, List, [], ◌∷◌, length, take, drop, map, get_or, slice_range, Some, refl, sym, ap, ◌∙◌, subst, arith}
-use Rattle.std.proofs.Math.Seq.{take-length}
-use Rattle.std.proofs.lemmas.List.{length-map, length-drop, drop_more}
-use Rattle.std.proofs.lemmas.List.Edits.{length-between}
-use Rattle.trac_language.specs.Form.{Form}
-use Rattle.trac_language.specs.Store.{IsStore}
-use Rattle.trac_space.specs.declared.cell.Cell.{Cell}
-use Rattle.trac_space.specs.declared.cell.Cell.TheVariants.{Byte, Call, Comma, Gap, Head}
-use Rattle.trac_space.specs.Cells.{seen}
-use Rattle.trac_space.specs.Texts.{text_of_cells}
-use Rattle.trac_store.specs.FlatForms.{flat_forms}
-use Rattle.trac_store.specs.Forms.{form_at}
-use Rattle.trac_store.specs.Stored.{item_of, forms_in, start_of, head_number, head_at}
-use Rattle.trac_forms.specs.Listed.{form_of, IsListed, IsForm}
-use Rattle.trac_store.proofs.FlatLemmas.{character_of-Byte, item_of-cell, forms_in-flat}
-use Rattle.trac_store.proofs.Finding.{part-seen}
-use Rattle.trac_store.proofs.Gaps.{bytes-seen}
-use Rattle.trac_store.proofs.HeadCells.{number-at}
-use Rattle.trac_store.proofs.Places.{stands}
-use Rattle.trac_store.proofs.Stores.{pointer-within}
+use Rattle.trac_forms.proofs.Words.{◌≡◌, ◌≢◌, ℕ, ◌+◌, ◌-◌, ◌<◌, ◌≤◌, List, [], ◌∷◌, length, take, drop, map, get_or, slice_range, Some, refl, sym, ap, ◌∙◌, subst, arith, take-length, length-map, length-drop, drop_more, length-between, Form, IsStore, Cell, Byte, Call, Comma, Gap, Head, seen}
+use Rattle.trac_forms.proofs.Words.{text_of_cells, flat_forms, form_at, item_of, forms_in, start_of, head_number, head_at, form_of, IsListed, IsForm, character_of-Byte, item_of-cell, forms_in-flat, part-seen, bytes-seen, number-at, stands, pointer-within}
 
 item_of-seen : (cells : List Cell) → map item_of (map seen cells) ≡ map item_of cells
 item_of-seen [] = refl

@@ -1,20 +1,6 @@
 -- What removing forms by their names leaves of a `Work`.
-use Rattle.std.proofs.Common.{◌≡◌, ℕ, ◌≤◌, List, length, take, sym, ap, refl, ◌∙◌, subst, arith}
-use Rattle.std.specs.Prelude.{not}
-use Rattle.std.proofs.lemmas.List.{length-map, take_all}
-use Rattle.trac_language.specs.Text.{Text}
-use Rattle.trac_language.specs.Form.{Form}
-use Rattle.trac_space.specs.Lists.{Lists}
-use Rattle.trac_store.specs.FlatForms.{flat_forms}
-use Rattle.trac_store.specs.Forms.{form_at}
-use Rattle.trac_store.specs.Index.{IsIndexed}
-use Rattle.trac_store.specs.Stored.{forms_in, start_of}
-use Rattle.trac_store.specs.Removal.{is_among, without_all, marked_if, with_marks, unmarked, IsFormed, IsMarkedFrom}
-use Rattle.trac_store.proofs.FlatLemmas.{forms_in-flat}
-use Rattle.trac_store.proofs.Places.{stands}
-use Rattle.trac_store.proofs.Stores.{pointer-within}
-use Rattle.trac_store.proofs.Removals.{own-names, no-mark, unmarked-marks, IsStore-filter, cells-filter, length-marks}
-use Rattle.trac_forms.specs.Stored.{shown, IsStored}
+use Rattle.trac_forms.proofs.Words.{◌≡◌, ℕ, ◌≤◌, List, length, take, sym, ap, refl, ◌∙◌, subst, arith, not, length-map, take_all, Text, Form, Lists, flat_forms, form_at, IsIndexed, forms_in, start_of, is_among, without_all, marked_if, with_marks, unmarked, IsFormed, IsMarkedFrom, forms_in-flat}
+use Rattle.trac_forms.proofs.Words.{stands, pointer-within, own-names, no-mark, unmarked-marks, IsStore-filter, cells-filter, length-marks, shown, IsStored}
 use Rattle.trac_forms.proofs.Strings.{used-stored, restored, shown-restored}
 
 -- forms of a `Work` have no mark

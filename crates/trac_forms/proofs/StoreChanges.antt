@@ -1,32 +1,10 @@
 -- What `define` and `segment` leave in a store, from what they put there.
-use Rattle.std.proofs.Common.{◌≡◌, ℕ, ◌+◌, ◌-◌, ◌<◌, ◌≤◌, List, ◌∷◌, [], ◌++◌, length, take, drop, map, set, slice_range, refl, sym, ap, subst, ◌∙◌, arith}
-use Rattle.std.proofs.lemmas.List.{length_push, length-append, length-map, length-set, length-take-le, length-drop, take_at}
-use Rattle.std.proofs.lemmas.List.Edits.{length-between}
-use Rattle.std.proofs.lemmas.List.Sums.{sum_by_push}
+use Rattle.trac_forms.proofs.Words.{◌≡◌, ℕ, ◌+◌, ◌-◌, ◌<◌, ◌≤◌, List, ◌∷◌, [], ◌++◌, length, take, drop, map, set, slice_range, refl, sym, ap, subst, ◌∙◌, arith, length_push, length-append, length-map, length-set, length-take-le, length-drop, take_at, length-between, sum_by_push, Form, items_of}
+use Rattle.trac_forms.proofs.Words.{segment, without, defined, form_cells, Text, Cell, Byte, Head, flat_text, character_of, Lists, flat_item, flat_form, flat_forms, form_at, name_at, part_text, new_form, IsTextPart, segmented_cells, IsIndexed, IsIndexBut, started, forms_in, head_at, start_of}
+use Rattle.trac_forms.proofs.Words.{IsStored, forms_in-flat, length-flat, length-new_form, flat_items_of, Byte-character_of, stands, start_of-set, IsStore-defined, IsStore-set, cells-without, cells-set, index-set, index-replaced, flat-segment, regapped, written}
 use Rattle.trac_language.specs.declared.item.Item.TheVariants as item
-use Rattle.trac_language.specs.Form.{Form, items_of}
-use Rattle.trac_language.specs.Segment.{segment}
-use Rattle.trac_language.specs.Store.{without, defined, form_cells}
-use Rattle.trac_language.specs.Text.{Text}
-use Rattle.trac_space.specs.declared.cell.Cell.{Cell}
-use Rattle.trac_space.specs.declared.cell.Cell.TheVariants.{Byte, Head}
-use Rattle.trac_space.specs.Texts.{flat_text, character_of}
 use Rattle.trac_space.specs.Lists as lists
-use Rattle.trac_space.specs.Lists.{Lists}
-use Rattle.trac_store.specs.FlatForms.{flat_item, flat_form, flat_forms}
-use Rattle.trac_store.specs.Forms.{form_at, name_at}
-use Rattle.trac_store.specs.Parts.{part_text, new_form, IsTextPart}
-use Rattle.trac_store.specs.Gaps.{segmented_cells}
-use Rattle.trac_store.specs.Index.{IsIndexed, IsIndexBut, started}
-use Rattle.trac_store.specs.Stored.{forms_in, head_at, start_of}
-use Rattle.trac_forms.specs.Stored.{IsStored}
-use Rattle.trac_store.proofs.FlatLemmas.{forms_in-flat, length-flat, length-new_form, flat_items_of, Byte-character_of}
 use Rattle.trac_forms.proofs.Strings.{used-stored, restored, redefined}
-use Rattle.trac_store.proofs.Places.{stands, start_of-set}
-use Rattle.trac_store.proofs.Stores.{IsStore-defined, IsStore-set, cells-without, cells-set}
-use Rattle.trac_store.proofs.FormTables.{index-set}
-use Rattle.trac_store.proofs.Indexed.{index-replaced}
-use Rattle.trac_store.proofs.Segments.{flat-segment, regapped, written}
 
 -- a new form of two parts of neutral behind the others, where an older one of that name is gone
 pub defined-stored : (s t u v : Lists) (count last start a b from to rest_count begins : ℕ) → IsStored s count last start → b ≤ length s.neutral → to ≤ length s.neutral → lists.used s + (3 + (b - a) + (to - from)) ≤ s.room → t ≡ record s { store = flat_forms (without (part_text s.neutral a b) (forms_in s.store)); spare = t.spare } → rest_count ≡ length (without (part_text s.neutral a b) (forms_in s.store)) → begins ≡ length t.store → u ≡ record t { store = t.store ++ flat_form (new_form t.neutral a b from to); spare = u.spare } → IsIndexed v.spare (forms_in u.store) → v ≡ record u { spare = v.spare } → IsStored v (rest_count + 1) rest_count begins

@@ -1,21 +1,7 @@
 -- Parts of the neutral string as texts, and arguments cut at comma marks.
-use Rattle.std.proofs.Common.{◌≡◌, ℕ, suc, ◌+◌, ◌-◌, ◌<◌, ◌≤◌, Bool, true, false, List, [], ◌∷◌, length, take, drop, slice_range, All, map, refl, sym, ap, ◌∙◌, subst, ⊎_elim, arith, get_or, cond, nat_le}
-use Rattle.std.proofs.lemmas.Bool.{cases_lt}
-use Rattle.std.proofs.lemmas.List.{length-map, get_or-drop, take-take, take-map, drop-take, drop-drop}
-use Rattle.std.proofs.lemmas.List.Edits.{length-between}
-use Rattle.std.proofs.lemmas.List.Elements.{All-cons, All-take, All-drop, All-map}
-use Rattle.trac_language.specs.Text.{Text}
-use Rattle.trac_language.specs.State.{argument}
-use Rattle.trac_space.specs.declared.cell.Cell.{Cell}
-use Rattle.trac_space.specs.declared.cell.Cell.TheVariants.{Byte, Call, Comma, Gap, Head}
-use Rattle.trac_space.specs.Cells.{seen, is_call, is_comma, NoCall, NoComma}
-use Rattle.trac_space.specs.Texts.{flat_text, text_of_cells, character_of, IsByte}
-use Rattle.trac_forms.specs.Contents.{Contents, IsStringCell, IsSound, IsTextPart, part_text}
-use Rattle.trac_forms.specs.Arguments.{before_comma}
-use Rattle.trac_forms.proofs.Parted.{before_comma-within, found-comma}
-use Rattle.trac_functions.specs.declared.arguments.Arguments.{Arguments}
-use Rattle.trac_functions.specs.Flat.{in_first, texts_of}
-use Rattle.trac_functions.specs.Calls.{texts_from, texts, AreArguments}
+use Rattle.trac_functions.proofs.Words.{◌≡◌, ℕ, suc, ◌+◌, ◌-◌, ◌<◌, ◌≤◌, Bool, true, false, List, [], ◌∷◌, length, take, drop, slice_range, All, map, refl, sym, ap, ◌∙◌, subst, ⊎_elim, arith, get_or, cond, nat_le, cases_lt, length-map, get_or-drop, take-take, take-map, drop-take, drop-drop}
+use Rattle.trac_functions.proofs.Words.{length-between, All-cons, All-take, All-drop, All-map, Text, argument, Cell, Byte, Call, Comma, Gap, Head, seen, is_call, is_comma, NoCall, NoComma, flat_text, text_of_cells, character_of, IsByte, Contents, IsStringCell, IsSound, IsTextPart, part_text}
+use Rattle.trac_functions.proofs.Words.{before_comma, before_comma-within, found-comma, Arguments, in_first, texts_of, texts_from, texts, AreArguments}
 
 -- ---- cells as contracts see them
 

@@ -1,25 +1,8 @@
 -- Results of bits: how many digits they have, and that they stay when cells are put behind the neutral string.
-use Rattle.std.proofs.Common.{◌≡◌, ℕ, ◌+◌, ◌-◌, ◌*◌, ◌≤◌, max, min, Bool, false, ◌||◌, ◌&&◌, not, List, [], ◌++◌, ◌∷◌, length, slice_range, map, replicate, pos, ℤ, refl, sym, ap, ◌∙◌, subst, arith}
-use Rattle.std.specs.Prelude.{flat_map, ◌+ℤ◌}
-use Rattle.std.specs.Int.{int_rem_euclid}
-use Rattle.std.proofs.lemmas.List.{length-append, length-replicate, length-drop, length-map}
-use Rattle.std.proofs.lemmas.List.Edits.{length-between}
-use Rattle.std.proofs.lemmas.List.FromFn.{length-map-range_with_len}
-use Rattle.trac_language.specs.Text.{Text}
-use Rattle.trac_language.specs.BitString.{Bits, is_octal, bits_of_digit, bit_at, octal, padded, cut, union, intersection, complement, shifted, rotated}
-use Rattle.trac_language.specs.Meaning.{World, valued, bits_result}
-use Rattle.trac_space.specs.declared.cell.Cell.{Cell}
-use Rattle.trac_space.specs.Cells.{seen}
-use Rattle.trac_space.specs.Texts.{text_of_cells, flat_text}
-use Rattle.trac_values.specs.Digits.{IsOctal, EachIs, bits_of_cells, signed}
-use Rattle.trac_values.proofs.Texts.{length-text}
-use Rattle.trac_values.proofs.OctalDigits.{length-octal, length-bits_of}
-use Rattle.trac_values.proofs.DigitBits.{length-bitwise}
-use Rattle.trac_values.proofs.Shifts.{rotation_same}
-use Rattle.trac_forms.specs.Contents.{Contents, used}
-use Rattle.trac_functions.specs.declared.bit_strings.BitResult.{BitResult}
-use Rattle.trac_functions.specs.declared.bit_strings.BitResult.TheVariants.{Union, Intersection, Complement, Shift, Rotation}
-use Rattle.trac_functions.specs.BitResults.{AreDigits, AreFor, bits_at, bits_made}
+use Rattle.trac_functions.proofs.Words.{◌≡◌, ℕ, ◌+◌, ◌-◌, ◌*◌, ◌≤◌, max, min, Bool, false, ◌||◌, ◌&&◌, not, List, [], ◌++◌, ◌∷◌, length, slice_range, map, replicate, pos, ℤ, refl, sym, ap, ◌∙◌, subst, arith, flat_map, ◌+ℤ◌, int_rem_euclid, length-append, length-replicate, length-drop, length-map}
+use Rattle.trac_functions.proofs.Words.{length-between, length-map-range_with_len, Text, Bits, is_octal, bits_of_digit, bit_at, octal, padded, cut, union, intersection, complement, shifted, rotated, World, valued, bits_result, Cell, seen, text_of_cells, flat_text, IsOctal, EachIs, bits_of_cells}
+use Rattle.trac_functions.proofs.Words.{signed, length-text, length-octal, length-bits_of, length-bitwise, rotation_same, Contents, used, BitResult, Rotation, AreDigits, AreFor, bits_at, bits_made}
+use Rattle.trac_functions.specs.declared.bit_strings.BitResult.TheVariants.{Union, Intersection, Complement, Shift}
 use Rattle.trac_functions.proofs.PutCharacters.{with_text, used-with, with-both}
 use Rattle.trac_functions.proofs.ArgumentLemmas.{text_of_cells-seen}
 use Rattle.trac_functions.proofs.DigitParts.{part-append}

@@ -1,17 +1,6 @@
 -- Parts of cells that grow at their end, and the bit strings of these parts.
-use Rattle.std.proofs.Common.{◌≡◌, ℕ, ◌+◌, ◌-◌, ◌≤◌, List, [], ◌∷◌, ◌++◌, length, take, drop, sym, ap, subst, ◌∙◌, arith, Some, append_assoc}
-use Rattle.std.specs.Prelude.{slice_range, slice_get}
-use Rattle.std.specs.List.{suffix_len}
-use Rattle.std.proofs.lemmas.List.{length-take, length-drop, drop-append-le, take-append-le, drop-take, drop-drop, map_more}
-use Rattle.std.proofs.lemmas.List.Edits.{length-between}
-use Rattle.std.proofs.lemmas.Option.{slice_get_within, get_or_from_slice_get}
-use Rattle.trac_language.specs.Text.{Text}
-use Rattle.trac_language.specs.BitString.{is_octal, octal_digits, octal_prefix}
-use Rattle.trac_space.specs.declared.cell.Cell.{Cell}
-use Rattle.trac_space.specs.Texts.{text_of_cells, flat_text}
-use Rattle.trac_values.specs.Digits.{IsOctal}
-use Rattle.trac_values.proofs.Texts.{length-text}
-use Rattle.trac_values.proofs.SuffixCells.{back_is, back_passes}
+use Rattle.trac_functions.proofs.Words.{◌≡◌, ℕ, ◌+◌, ◌-◌, ◌≤◌, List, [], ◌∷◌, ◌++◌, length, take, drop, sym, ap, subst, ◌∙◌, arith, Some, append_assoc, slice_range, slice_get, suffix_len, length-take, length-drop, drop-append-le, take-append-le, drop-take, drop-drop, map_more, length-between}
+use Rattle.trac_functions.proofs.Words.{slice_get_within, get_or_from_slice_get, Text, is_octal, octal_digits, octal_prefix, Cell, text_of_cells, flat_text, IsOctal, length-text, back_is, back_passes}
 
 -- a part stays when cells are put after it
 pub part-append : (xs ys : List Cell) (i j : ℕ) → i ≤ j → j ≤ length xs → slice_range (xs ++ ys) i j ≡ slice_range xs i j

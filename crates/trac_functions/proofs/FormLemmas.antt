@@ -1,29 +1,8 @@
 -- Lists of forms, and what the functions that change them make of a call.
-use Rattle.std.proofs.Common.{◌≡◌, ℕ, zero, suc, ◌+◌, ◌<◌, ◌≤◌, Bool, true, false, List, [], ◌∷◌, ◌++◌, length, drop, set, slice_range, subst, ◌-◌, refl, sym, ap, ◌∙◌, arith, Some, ⊎_elim}
-use Rattle.std.specs.Prelude.{if◌then◌else◌, flat_map, filter, bytes_eq, not, ◌||◌}
-use Rattle.std.specs.List.{list_any}
-use Rattle.std.proofs.lemmas.Bool.{cases_lt}
-use Rattle.std.proofs.lemmas.List.{append-nil, length-map, drop_more, drop_all, get_or-set_same, set-set, set-get_or}
-use Rattle.std.proofs.lemmas.Slice.Eq.{bytes_eq-Decides}
-use Rattle.std.proofs.lemmas.List.Edits.{length-between}
-use Rattle.std.proofs.lemmas.List.Elements.{All-nil, All-cons}
-use Rattle.trac_language.specs.declared.function.Function.{Function}
-use Rattle.trac_language.specs.Text.{Text}
-use Rattle.trac_language.specs.Form.{Form}
-use Rattle.trac_language.specs.Segment.{segment_by}
-use Rattle.trac_language.specs.Store.{IsStore, NoneNamed, is_named, without}
-use Rattle.trac_language.specs.Meaning.{World, meaning_of, built, value_length}
-use Rattle.trac_language.specs.State.{argument}
-use Rattle.trac_space.specs.declared.cell.Cell.{Cell}
-use Rattle.trac_space.specs.declared.cell.Cell.TheVariants.{Byte, Call, Comma, Gap, Head}
-use Rattle.trac_space.specs.Texts.{character_of}
-use Rattle.trac_forms.specs.Contents.{Contents, IsSound, form_at, name_at, body_at, pointer_at, IsTextPart, part_text, AreTextParts, part_texts}
-use Rattle.trac_forms.specs.Arguments.{before_comma, parts_between, texts_between, AreParted}
-use Rattle.trac_forms.proofs.Stores.{without-none}
-use Rattle.trac_forms.proofs.Parted.{parts-first, parts-none}
-use Rattle.trac_functions.specs.declared.arguments.Arguments.{Arguments}
-use Rattle.trac_functions.specs.Flat.{texts_of, in_first, with_first}
-use Rattle.trac_functions.specs.Calls.{Means, IsValue, AreArguments, texts}
+use Rattle.trac_functions.proofs.Words.{◌≡◌, ℕ, zero, suc, ◌+◌, ◌<◌, ◌≤◌, Bool, true, false, List, [], ◌∷◌, ◌++◌, length, drop, set, slice_range, subst, ◌-◌, refl, sym, ap, ◌∙◌, arith, Some, ⊎_elim, if◌then◌else◌, flat_map, filter, bytes_eq, not, ◌||◌, list_any, cases_lt, append-nil, length-map}
+use Rattle.trac_functions.proofs.Words.{drop_more, drop_all, get_or-set_same, set-set, set-get_or, bytes_eq-Decides, length-between, All-nil, All-cons, Function, Text, Form, segment_by, IsStore, NoneNamed, is_named, without, World, meaning_of, built, value_length, argument, Cell, Byte, Call, Comma}
+use Rattle.trac_functions.proofs.Words.{Gap, Head, character_of, Contents, IsSound, form_at, name_at, body_at, pointer_at, IsTextPart, part_text, AreTextParts, part_texts, before_comma, parts_between, texts_between, AreParted, without-none, parts-first, parts-none, Arguments, texts_of, in_first}
+use Rattle.trac_functions.proofs.Words.{with_first, Means, IsValue, AreArguments, texts}
 use Rattle.trac_functions.proofs.ArgumentLemmas.{none-left, texts_from-some, taken-part, taken-text, taken-rest, taken-left}
 use Rattle.trac_functions.proofs.FlatLemmas.{texts_of-some}
 use Rattle.trac_functions.proofs.MadeValues.{valued-of}

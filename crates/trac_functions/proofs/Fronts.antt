@@ -1,17 +1,6 @@
 -- The front and the back of a part of neutral, and the prefix of a text as its front.
-use Rattle.std.proofs.Common.{◌≡◌, ℕ, ◌+◌, ◌-◌, ◌≤◌, Bool, true, false, ◌||◌, cond, List, [], ◌++◌, length, take, drop, slice_range, All, sym, ap, ◌∙◌, subst, arith, append_assoc, eqb}
-use Rattle.std.proofs.lemmas.List.{length-append, append-nil, take-append-drop, take-append-le, take_all, take-take, take-map}
-use Rattle.std.proofs.lemmas.List.Elements.{All-take}
-use Rattle.std.specs.List.{suffix_len}
-use Rattle.std.specs.Char.{is_ascii_digit}
-use Rattle.trac_language.specs.Text.{Text}
-use Rattle.trac_language.specs.Number.{prefix, digits, before_digits, without_sign, ends_with}
-use Rattle.trac_language.specs.BitString.{octal_prefix, is_octal}
-use Rattle.trac_space.specs.declared.cell.Cell.{Cell}
-use Rattle.trac_space.specs.Texts.{text_of_cells, character_of, IsByte}
-use Rattle.trac_values.proofs.Texts.{length-text}
-use Rattle.trac_forms.specs.Contents.{IsTextPart, part_text}
-use Rattle.std.proofs.lemmas.List.Edits.{length-between}
+use Rattle.trac_functions.proofs.Words.{◌≡◌, ℕ, ◌+◌, ◌-◌, ◌≤◌, Bool, true, false, ◌||◌, cond, List, [], ◌++◌, length, take, drop, slice_range, All, sym, ap, ◌∙◌, subst, arith, append_assoc, eqb, length-append, append-nil, take-append-drop, take-append-le, take_all, take-take, take-map, All-take}
+use Rattle.trac_functions.proofs.Words.{suffix_len, is_ascii_digit, Text, prefix, digits, before_digits, without_sign, ends_with, octal_prefix, is_octal, Cell, text_of_cells, character_of, IsByte, length-text, IsTextPart, part_text, length-between}
 
 -- a text that another begins with
 pub record IsFront (front text : Text) : Type 0 where

@@ -1,14 +1,15 @@
 pub mod ArgumentLemmas
-pub mod PutCharacters
 pub mod BitResults
 pub mod CountLimits
+pub mod DigitParts
 pub mod FlatLemmas
 pub mod FormLemmas
 pub mod Fronts
 pub mod MadeValues
-pub mod TakenParts
-pub mod DigitParts
+pub mod Names
+pub mod PutCharacters
 pub mod PutParts
 pub mod Ranges
 pub mod TakenItems
-pub mod Names
+pub mod TakenParts
+mod Words

@@ -1,14 +1,6 @@
 -- The names of functions, each of two characters.
-use Rattle.std.proofs.Common.{◌≡◌, ◌≢◌, ℕ, ◌-◌, ◌≤◌, Bool, true, false, List, [], ◌∷◌, length, take, drop, None, refl, sym, ap, ◌∙◌, subst, rules, arith, get_or}
-use Rattle.std.specs.Prelude.{IsSome, IsTrue}
-use Rattle.std.proofs.Math.Seq.{take-length}
-use Rattle.trac_language.specs.Text.{Text}
-use Rattle.trac_language.specs.Function.{function_named}
-use Rattle.trac_space.specs.declared.cell.Cell.{Cell}
-use Rattle.trac_space.specs.declared.cell.Cell.TheVariants.{Byte, Call, Comma, Gap, Head}
-use Rattle.trac_space.specs.Cells.{is_comma}
-use Rattle.trac_space.specs.Texts.{text_of_cells, character_of}
-use Rattle.trac_forms.specs.Arguments.{before_comma}
+use Rattle.trac_functions.proofs.Words.{◌≡◌, ◌≢◌, ℕ, ◌-◌, ◌≤◌, Bool, true, false, List, [], ◌∷◌, length, take, drop, None, refl, sym, ap, ◌∙◌, subst, rules, arith, get_or, IsSome, IsTrue, take-length, Text, function_named, Cell, Byte, Call, Comma, Gap, Head, is_comma, text_of_cells, character_of}
+use Rattle.trac_functions.proofs.Words.{before_comma}
 
 one : (a : ℕ) → function_named (a ∷ []) ≡ None
 one a = search rules

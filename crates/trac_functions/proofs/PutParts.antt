@@ -1,14 +1,6 @@
 -- A value that is put at the end of the neutral string part by part.
-use Rattle.std.proofs.Common.{◌≡◌, ℕ, ◌+◌, ◌-◌, ◌<◌, ◌≤◌, false, List, [], ◌++◌, length, take, drop, slice_range, refl, sym, ap, ◌∙◌, arith, append_assoc, ⊎_elim}
-use Rattle.std.proofs.lemmas.Bool.{cases_lt}
-use Rattle.std.proofs.lemmas.List.{append-nil, length-map, length-append, map-append, take-append-le, drop-append-le, length-drop}
-use Rattle.trac_language.specs.declared.function.Function.{Function}
-use Rattle.trac_language.specs.Text.{Text}
-use Rattle.trac_space.specs.declared.cell.Cell.{Cell}
-use Rattle.trac_space.specs.declared.cell.Cell.TheVariants.{Byte}
-use Rattle.trac_space.specs.Texts.{flat_text}
-use Rattle.trac_forms.specs.Contents.{Contents, used, IsSound, IsTextPart, part_text}
-use Rattle.trac_functions.specs.Calls.{Valued, IsValue}
+use Rattle.trac_functions.proofs.Words.{◌≡◌, ℕ, ◌+◌, ◌-◌, ◌<◌, ◌≤◌, false, List, [], ◌++◌, length, take, drop, slice_range, refl, sym, ap, ◌∙◌, arith, append_assoc, ⊎_elim, cases_lt, append-nil, length-map, length-append, map-append, take-append-le, drop-append-le, length-drop, Function, Text, Cell}
+use Rattle.trac_functions.proofs.Words.{Byte, flat_text, Contents, used, IsSound, IsTextPart, part_text, Valued, IsValue}
 
 -- of a whole text this much is left, and the rest stands at the end of neutral
 pub record HasPut (old now : Contents) (whole left : Text) : Type 0 where

@@ -1,13 +1,6 @@
 -- Results of arithmetic are machine numbers.
-use Rattle.std.proofs.Common.{◌≡◌, ◌^◌, ℤ, Bool, true, false, cond, ◌&&◌, Option, Some, None, sym, ap, ◌∙◌}
-use Rattle.std.specs.Prelude.{unsigned_abs, IfSome, IsTrue}
-use Rattle.std.proofs.lemmas.Bool.{ltb-true}
-use Rattle.std.proofs.lemmas.Int.{to_z-of_z, fits_signed_from_abs}
-use Rattle.std.proofs.lemmas.Option.{cond_some}
-use Rattle.trac_language.specs.declared.arith.Arith.{Arith}
-use Rattle.trac_language.specs.Number.{arith, exactly, if_in_range, in_range}
-use mir.Syntax.{w128}
-use mir.Val.{to_z, of_z}
+use Rattle.trac_functions.proofs.Words.{◌≡◌, ◌^◌, ℤ, Bool, true, false, cond, ◌&&◌, Option, Some, None, sym, ap, ◌∙◌, unsigned_abs, IfSome, IsTrue, ltb-true, to_z-of_z, fits_signed_from_abs, cond_some, Arith, exactly, if_in_range, in_range, w128, to_z, of_z}
+use Rattle.trac_language.specs.Number.{arith}
 
 -- a number in the range is kept by a machine number
 kept : (n : ℤ) → in_range n ≡ true → to_z w128 (of_z w128 n) ≡ n

@@ -1,19 +1,9 @@
 -- Characters and gaps among the items of a form.
-use Rattle.std.proofs.Common.{◌≡◌, ℕ, zero, suc, ◌+◌, ◌-◌, ◌<◌, ◌≤◌, min, Bool, true, false, List, [], ◌∷◌, ◌++◌, length, take, drop, reverse, All, slice_range, get_or, refl, sym, ap, ◌∙◌, arith, append_assoc, append-nil, length-append}
-use Rattle.std.proofs.lemmas.List.{length-take, length-drop, length-reverse, get_or-drop, get_or-reverse, get_or-take, drop-drop, drop-take, take-append-drop, reverse-append, reverse-reverse, take-take, map-append, length-map}
-use Rattle.std.proofs.Math.Seq.{take-append_seam, take-add, drop-append_seam}
-use Rattle.std.proofs.lemmas.List.Edits.{length-between}
-use Rattle.trac_language.specs.declared.item.Item.{Item}
+use Rattle.trac_functions.proofs.Words.{◌≡◌, ℕ, zero, suc, ◌+◌, ◌-◌, ◌<◌, ◌≤◌, min, Bool, true, false, List, [], ◌∷◌, ◌++◌, length, take, drop, reverse, All, slice_range, get_or, refl, sym, ap, ◌∙◌, arith, append_assoc, append-nil, length-append, length-take, length-drop, length-reverse, get_or-drop}
+use Rattle.trac_functions.proofs.Words.{get_or-reverse, get_or-take, drop-drop, drop-take, take-append-drop, reverse-append, reverse-reverse, take-take, map-append, length-map, take-append_seam, take-add, drop-append_seam, length-between, Item, Text, is_character, text_of, first_characters}
+use Rattle.trac_functions.proofs.Words.{flat_text, Contents, used, character_at, gap_at, NonePasses, IsFirst, IsLast, characters-between, IsFirstOr}
 use Rattle.trac_language.specs.declared.item.Item.TheVariants.{Byte, Gap}
-use Rattle.trac_language.specs.Text.{Text}
-use Rattle.trac_language.specs.Form.{is_character, text_of}
-use Rattle.trac_language.specs.Part.{first_characters}
 use Rattle.trac_space.specs.declared.cell.Cell.TheVariants.{Byte as ByteCell}
-use Rattle.trac_space.specs.Texts.{flat_text}
-use Rattle.trac_forms.specs.Contents.{Contents, used}
-use Rattle.trac_forms.specs.Search.{character_at, gap_at, NonePasses, IsFirst, IsLast}
-use Rattle.trac_forms.proofs.Copies.{characters-between}
-use Rattle.trac_functions.specs.Taking.{IsFirstOr}
 
 first_characters-none : (items : List Item) → first_characters 0 items ≡ []
 first_characters-none [] = refl

@@ -1,32 +1,10 @@
 -- The parts that calls take of a form.
-use Rattle.std.proofs.Common.{◌≡◌, ◌≢◌, ℕ, zero, suc, ◌+◌, ◌-◌, ◌<◌, ◌≤◌, min, Bool, true, false, List, [], ◌∷◌, ◌++◌, length, take, drop, reverse, set, slice_range, get_or, Option, Some, None, refl, sym, ap, ◌∙◌, subst, ⊎_elim, arith, append-nil}
-use Rattle.std.specs.Prelude.{nat_lt, take_while, option_map, if◌then◌else◌, int_lt, unsigned_abs, pos}
-use Rattle.std.specs.List.{prefix_len}
-use Rattle.std.proofs.lemmas.Bool.{cases_lt, lt-ltb, le-ltb}
-use Rattle.std.proofs.lemmas.List.{length-take, length-drop, length-reverse, get_or-drop, drop-drop}
-use Rattle.std.proofs.Math.ListN.{drop_of_length-le}
-use Rattle.std.proofs.lemmas.List.Sums.{sum_by-cons}
-use Rattle.trac_language.specs.declared.item.Item.{Item}
+use Rattle.trac_functions.proofs.Words.{◌≡◌, ◌≢◌, ℕ, zero, suc, ◌+◌, ◌-◌, ◌<◌, ◌≤◌, min, Bool, true, false, List, [], ◌∷◌, ◌++◌, length, take, drop, reverse, set, slice_range, get_or, Option, Some, None, refl, sym, ap, ◌∙◌, subst, ⊎_elim, arith, append-nil, nat_lt, take_while, option_map}
+use Rattle.trac_functions.proofs.Words.{if◌then◌else◌, int_lt, unsigned_abs, pos, prefix_len, cases_lt, lt-ltb, le-ltb, length-take, length-drop, length-reverse, get_or-drop, drop-drop, drop_of_length-le, sum_by-cons, Item, Function, Text, Form, is_character, text_of, after_pointer, before_pointer}
+use Rattle.trac_functions.proofs.Words.{begins, place_of, form_named, changed, cells, form_cells, NoneNamed, Input, Part, characters, first_characters, segment_from, next_segment, unless_null, forward, backward, next_characters, previous_characters, up_to, initial_part, World, on_form, silent}
+use Rattle.trac_functions.proofs.Words.{with_form, take_part, meaning_of, value_length, built, number, flat_text, signed, character_at, is_gap, gap_at, text_at, NonePasses, IsFirst, Contents, form_at, IsNamedAt, IsSound, part_text, form_named-at, form_named-none, changed-at, Made, Full, Value}
+use Rattle.trac_functions.proofs.Words.{Placed, Defined, Over, world, Valued, Makes, part_value, moved, TakesPart}
 use Rattle.trac_language.specs.declared.item.Item.TheVariants.{Byte, Gap}
-use Rattle.trac_language.specs.declared.function.Function.{Function}
-use Rattle.trac_language.specs.Text.{Text}
-use Rattle.trac_language.specs.Form.{Form, is_character, text_of, after_pointer, before_pointer}
-use Rattle.trac_language.specs.Segment.{begins, place_of}
-use Rattle.trac_language.specs.Store.{form_named, changed, cells, form_cells, NoneNamed}
-use Rattle.trac_language.specs.State.{Input}
-use Rattle.trac_language.specs.Part.{Part, characters, first_characters, segment_from, next_segment, unless_null, forward, backward, next_characters, previous_characters, up_to, initial_part}
-use Rattle.trac_language.specs.Meaning.{World, on_form, silent, with_form, take_part, meaning_of, value_length, built}
-use Rattle.trac_language.specs.Number.{number}
-use Rattle.trac_space.specs.Texts.{flat_text}
-use Rattle.trac_values.specs.Digits.{signed}
-use Rattle.trac_forms.specs.Search.{character_at, is_gap, gap_at, text_at, NonePasses, IsFirst}
-use Rattle.trac_forms.specs.Contents.{Contents, form_at, IsNamedAt, IsSound, part_text}
-use Rattle.trac_forms.proofs.Stores.{form_named-at, form_named-none, changed-at}
-use Rattle.trac_functions.specs.declared.arguments.Made.{Made}
-use Rattle.trac_functions.specs.declared.arguments.Made.TheVariants.{Full, Value, Placed, Defined}
-use Rattle.trac_functions.specs.declared.arguments.Made.TheVariants.{Over}
-use Rattle.trac_functions.specs.Calls.{world, Valued, Makes}
-use Rattle.trac_functions.specs.Taking.{part_value, moved, TakesPart}
 use Rattle.trac_functions.proofs.CountLimits.{counted}
 use Rattle.trac_functions.proofs.MadeValues.{valued-of}
 use Rattle.trac_functions.proofs.TakenItems.{first-character, forward-all, forward-last, forward-more, forward-none, length-text_of, text_of-first, taken-forward, taken-backward, length-text_of-reverse}

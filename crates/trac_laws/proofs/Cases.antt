@@ -1,15 +1,5 @@
 -- Cases, and what the definition gives of each.
-use Rattle.std.specs.Prelude.{⊤, ℕ, false, true}
-use Rattle.std.specs.Fmt.{digits}
-use Rattle.trac_language.specs.declared.fate.Fate.{Fate}
-use Rattle.trac_language.specs.Text.{Text}
-use Rattle.trac_language.specs.Segment.{segment_after}
-use Rattle.trac_language.specs.Protected.{split_at_match}
-use Rattle.trac_language.specs.State.{Input, first}
-use Rattle.trac_language.specs.Meaning.{meaning_of}
-use Rattle.trac_language.specs.Rule.{rule}
-use Rattle.trac_language.specs.Step.{step, need}
-use Rattle.trac_language.specs.Run.{run}
+use Rattle.trac_laws.proofs.Words.{⊤, ℕ, false, true, digits, Fate, Text, segment_after, split_at_match, Input, first, meaning_of, rule, step, need, run}
 
 -- a name, a room, an allowance, an input, and the output, fate, steps and peak that are wanted
 pub record Case : Type 0 where

@@ -1,13 +1,5 @@
 -- The definitions give the worked examples.
-use Rattle.std.proofs.Common.{◌≡◌, ℕ, List, [], ◌∷◌, refl}
-use Rattle.std.specs.Prelude.{ℤ, codes, pos, negsuc, map, ◌==◌, if◌then◌else◌}
-use Rattle.std.specs.List.{range_with_len, list_any}
-use Rattle.trac_language.specs.declared.fate.Fate.{Fate}
-use Rattle.trac_language.specs.declared.fate.Fate.TheVariants.{Halted, InputEnded, Workspace, Steps, InputFailed}
-use Rattle.trac_language.specs.Text.{Text}
-use Rattle.trac_language.specs.State.{Input, first}
-use Rattle.trac_language.specs.Run.{run}
-use Rattle.trac_language.specs.Number.{number, prefix}
+use Rattle.trac_laws.proofs.Words.{◌≡◌, ℕ, List, [], ◌∷◌, refl, ℤ, codes, pos, negsuc, map, ◌==◌, if◌then◌else◌, range_with_len, list_any, Fate, Halted, InputEnded, Workspace, Steps, InputFailed, Text, Input, first, run, number, prefix}
 use Rattle.trac_laws.proofs.Cases.{Case, case, computing, ended, failing, ran}
 
 abbrev cases : List Case

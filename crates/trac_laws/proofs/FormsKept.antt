@@ -1,26 +1,11 @@
 -- Every run keeps its forms in order: no two have one name, and each pointer is a place of its body.
-use Rattle.std.proofs.Common.{◌≡◌, ◌≢◌, ℕ, zero, suc, ◌+◌, ◌-◌, ◌≤◌, min, Bool, true, false, not, cond, List, [], ◌∷◌, ◌++◌, length, drop, Option, Some, None, ℤ, pos, negsuc, refl, sym, ap, ◌∙◌, subst, ⊎_elim, arith}
-use Rattle.std.specs.Prelude.{nat_lt, ◌==◌, if◌then◌else◌, bytes_eq, filter, option_map, take_while}
-use Rattle.std.specs.List.{list_any, prefix_len}
-use Rattle.std.specs.Cmp.Lexicographic.{bytes_decides}
-use Rattle.std.proofs.lemmas.Bool.{cond_both, both_ways, cases_lt, lt-ltb, le-ltb, and_parts}
-use Rattle.std.proofs.lemmas.List.{length-take, length-drop}
-use Rattle.trac_language.specs.declared.item.Item.{Item}
-use Rattle.trac_language.specs.declared.item.Item.TheVariants.{Byte, Gap}
-use Rattle.trac_language.specs.declared.mode.Mode.{Mode}
-use Rattle.trac_language.specs.declared.mode.Mode.TheVariants.{Active, Neutral}
-use Rattle.trac_language.specs.declared.function.Function.{Function}
-use Rattle.trac_language.specs.declared.function.Function.TheVariants.{ReadString, ReadCharacter, ChangeMeta, Halt, DefineString, SegmentString, DeleteDefinition, DeleteAll, PrintForm, CallForm, CallSegment, CallCharacter, CallNumber, InitialPart, CallRestore, Arithmetic}
-use Rattle.trac_language.specs.Text.{Text}
-use Rattle.trac_language.specs.Form.{Form, is_character, text_of, items_of, fill, before_pointer, after_pointer}
-use Rattle.trac_language.specs.Segment.{begins, place_of, segment_by}
-use Rattle.trac_language.specs.Store.{is_named, form_named, without, changed, defined, NoneNamed, IsStore}
-use Rattle.trac_language.specs.Number.{number, prefix, arith as arith_of}
-use Rattle.trac_language.specs.State.{OpenCall, Memory, State, arguments, argument, add_to, add}
-use Rattle.trac_language.specs.Meaning.{World, Meaning, Gives, Ends, valued, silent, printing, before_meta, from_meta, read_all, read_string, read_character, change_meta, show_form, on_form, with_form, take_part, result_or, meaning_of, meaning}
-use Rattle.trac_language.specs.Rule.{Rule, AddProtected, EndCall, AddCharacter, rule}
-use Rattle.trac_language.specs.Step.{Outcome, Next, Over, function_of, world_of, deliver, perform, end_call, with_active, follow, step}
-use Rattle.trac_language.specs.Part.{Part, first_characters, last_characters, segment_from, next_segment, unless_null, forward, backward, characters, up_to, initial_part}
+use Rattle.trac_laws.proofs.Words.{◌≡◌, ◌≢◌, ℕ, zero, suc, ◌+◌, ◌-◌, ◌≤◌, min, Bool, true, false, not, cond, List, [], ◌∷◌, ◌++◌, length, drop, Option, Some, None, ℤ, pos, negsuc, refl, sym, ap, ◌∙◌, subst, ⊎_elim, arith, nat_lt, ◌==◌, if◌then◌else◌, bytes_eq, filter, option_map, take_while}
+use Rattle.trac_laws.proofs.Words.{list_any, prefix_len, bytes_decides, cond_both, both_ways, cases_lt, lt-ltb, le-ltb, and_parts, length-take, length-drop, Item, Byte, Gap, Mode, Active, Neutral, Function, ReadString, ReadCharacter, ChangeMeta, Halt, DefineString, SegmentString}
+use Rattle.trac_laws.proofs.Words.{DeleteDefinition, DeleteAll, PrintForm, CallForm, CallSegment, CallCharacter, CallNumber, InitialPart, CallRestore, Arithmetic, Text, Form, is_character, text_of, items_of, fill, before_pointer, after_pointer, begins, place_of, segment_by, is_named, form_named}
+use Rattle.trac_laws.proofs.Words.{without, changed, defined, NoneNamed, IsStore, number, prefix, OpenCall, Memory, State, arguments, argument, add_to, add, World, Meaning, Gives, Ends, valued, silent, printing, before_meta, from_meta, read_all, read_string, read_character, change_meta}
+use Rattle.trac_laws.proofs.Words.{show_form, on_form, with_form, take_part, result_or, meaning_of, meaning, Rule, AddProtected, EndCall, AddCharacter, rule, Outcome, Next, Over, function_of, world_of, deliver, perform, end_call, with_active, follow, step, Part, first_characters}
+use Rattle.trac_laws.proofs.Words.{last_characters, segment_from, next_segment, unless_null, forward, backward, characters, up_to, initial_part}
+use Rattle.trac_language.specs.Number.{arith as arith_of}
 
 -- ---- the parts that calls take lie within the body
 

@@ -1,18 +1,7 @@
 -- A step that doesn't read to the end of its input does the same where more stands behind that.
-use Rattle.std.proofs.Common.{◌≡◌, ℕ, Bool, true, false, not, ◌||◌, List, [], ◌∷◌, ◌++◌, Option, Some, None, refl, sym, ap, ap₂, subst, ◌∙◌, append_assoc, append-nil, ⊎_elim, take-append-drop}
-use Rattle.std.specs.Prelude.{◌==◌}
-use Rattle.std.specs.List.{list_any, position_or_len}
-use Rattle.std.proofs.lemmas.Bool.{and_cases, and_left, and_right}
-use Rattle.std.proofs.lemmas.List.Folds.{list_any-append}
-use Rattle.trac_language.specs.declared.mode.Mode.{Mode}
-use Rattle.trac_language.specs.declared.function.Function.{Function}
-use Rattle.trac_language.specs.Text.{Text}
-use Rattle.trac_language.specs.State.{Input, OpenCall, State, arguments}
-use Rattle.trac_language.specs.Meaning.{World, Meaning, Gives, Ends, before_meta, from_meta, read_all, read_string, read_character, meaning_of, meaning}
-use Rattle.trac_language.specs.Rule.{Rule, EndCall, rule}
-use Rattle.trac_language.specs.Step.{Outcome, Next, Over, function_of, world_of, perform, end_call, follow, step, need}
-use Rattle.trac_laws.specs.LastRead.{is_read_string, reads_last, end_reads_last, reads_last_by, reads_to_end}
-use Rattle.trac_laws.specs.Laws.{ReadsNoFurther, with_more}
+use Rattle.trac_laws.proofs.Words.{◌≡◌, ℕ, Bool, true, false, not, ◌||◌, List, [], ◌∷◌, ◌++◌, Option, Some, None, refl, sym, ap, ap₂, subst, ◌∙◌, append_assoc, append-nil, ⊎_elim, take-append-drop, ◌==◌, list_any, position_or_len, and_cases, and_left, and_right, list_any-append, Mode, Function}
+use Rattle.trac_laws.proofs.Words.{Text, Input, OpenCall, State, arguments, World, Meaning, Gives, Ends, before_meta, from_meta, read_all, read_string, read_character, meaning_of, meaning, Rule, EndCall, rule, Outcome, Next, Over, function_of, world_of, perform, end_call, follow, step, need}
+use Rattle.trac_laws.proofs.Words.{is_read_string, reads_last, end_reads_last, reads_last_by, reads_to_end, ReadsNoFurther, with_more}
 use Rattle.trac_laws.proofs.UnreadInput.{with_source, elsewhere}
 use Rattle.trac_laws.proofs.TakenInput.{Kind, IsString, IsCharacter, IsOther, kind, standing, step_anywhere}
 

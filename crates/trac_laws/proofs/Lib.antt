@@ -1,18 +1,19 @@
-pub mod TakenInput
-pub mod UnreadInput
-pub mod Examples
 pub mod Cases
-pub mod ScanningCases
-pub mod FunctionsCases
 pub mod CharactersCases
-pub mod LimitsCases
+pub mod Examples
 pub mod Fitting
+pub mod FormsKept
+pub mod FunctionsCases
+pub mod FurtherInput
+pub mod LimitsCases
 pub mod Parentheses
 pub mod Quoting
 pub mod Reached
 pub mod ReachedWhileReading
 pub mod Rules
 pub mod Runs
+pub mod ScanningCases
 pub mod Stepping
-pub mod FormsKept
-pub mod FurtherInput
+pub mod TakenInput
+pub mod UnreadInput
+mod Words

@@ -1,21 +1,6 @@
 -- A quoted text is printed as it is.
-use Rattle.std.proofs.Common.{◌≡◌, ◌≢◌, ℕ, zero, suc, ◌+◌, ◌-◌, ◌≤◌, max, false, not, cond, List, [], ◌∷◌, ◌++◌, length, take, drop, Some, refl, sym, ap, ◌∙◌, arith, append_assoc, append-nil}
-use Rattle.std.specs.Prelude.{codes, All, ◌==◌}
-use Rattle.std.specs.List.{before_first, position_or_len}
-use Rattle.std.proofs.lemmas.List.{length-append, take_at, drop_at}
-use Rattle.std.proofs.lemmas.Bool.{ne_eqb}
-use Rattle.std.proofs.lemmas.List.Elements.{recursion_from_All}
-use Rattle.trac_language.specs.declared.mode.Mode.TheVariants.{Active}
-use Rattle.trac_language.specs.declared.fate.Fate.TheVariants.{InputEnded}
-use Rattle.trac_language.specs.Text.{Text}
-use Rattle.trac_language.specs.Protected.{protected}
-use Rattle.trac_language.specs.State.{OpenCall, Input, State, first, size}
-use Rattle.trac_language.specs.Meaning.{meaning_of, read_string}
-use Rattle.trac_language.specs.Rule.{rule, parenthesis_rule}
-use Rattle.trac_language.specs.Step.{Outcome, Next, Over, perform, follow, step, need_by, need}
-use Rattle.trac_language.specs.Run.{Run, one_more, run}
-use Rattle.trac_laws.specs.Balance.{IsBalanced}
-use Rattle.trac_laws.specs.Laws.{quoting, Quoted}
+use Rattle.trac_laws.proofs.Words.{◌≡◌, ◌≢◌, ℕ, zero, suc, ◌+◌, ◌-◌, ◌≤◌, max, false, not, cond, List, [], ◌∷◌, ◌++◌, length, take, drop, Some, refl, sym, ap, ◌∙◌, arith, append_assoc, append-nil, codes, All, ◌==◌, before_first, position_or_len, length-append, take_at, drop_at, ne_eqb}
+use Rattle.trac_laws.proofs.Words.{recursion_from_All, Active, InputEnded, Text, protected, OpenCall, Input, State, first, size, meaning_of, read_string, rule, parenthesis_rule, Outcome, Next, Over, perform, follow, step, need_by, need, Run, one_more, run, IsBalanced, quoting, Quoted}
 use Rattle.trac_laws.proofs.Runs.{run_next, run_over}
 use Rattle.trac_laws.proofs.Parentheses.{protected_found}
 

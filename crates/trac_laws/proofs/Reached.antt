@@ -1,10 +1,5 @@
 -- What a loop over steps keeps: the run from the start is the run from here, after the steps done.
-use Rattle.std.proofs.Common.{◌≡◌, ℕ, suc, ◌+◌, ◌-◌, ◌<◌, ◌≤◌, max, ap, ◌∙◌, arith}
-use Rattle.trac_language.specs.declared.fate.Fate.{Fate}
-use Rattle.trac_language.specs.declared.fate.Fate.TheVariants.{Workspace, Steps}
-use Rattle.trac_language.specs.State.{State}
-use Rattle.trac_language.specs.Step.{Next, Over, step, need}
-use Rattle.trac_language.specs.Run.{Run, counted, stopped, run}
+use Rattle.trac_laws.proofs.Words.{◌≡◌, ℕ, suc, ◌+◌, ◌-◌, ◌<◌, ◌≤◌, max, ap, ◌∙◌, arith, Fate, Workspace, Steps, State, Next, Over, step, need, Run, counted, stopped, run}
 use Rattle.trac_laws.proofs.Runs.{run_none, run_full, run_over, run_next}
 
 -- a run that goes on after n steps with this peak

@@ -1,11 +1,5 @@
 -- What a loop over steps keeps while nobody knows yet how the input goes on.
-use Rattle.std.proofs.Common.{◌≡◌, ℕ, ◌+◌, ◌<◌, ◌≤◌, max, Bool, true, false, [], ◌++◌, sym, subst, append_assoc}
-use Rattle.trac_language.specs.declared.fate.Fate.TheVariants.{InputFailed}
-use Rattle.trac_language.specs.Text.{Text}
-use Rattle.trac_language.specs.State.{Memory}
-use Rattle.trac_language.specs.Step.{Next, Over, step, need}
-use Rattle.trac_language.specs.Run.{run}
-use Rattle.trac_laws.specs.LastRead.{reads_to_end}
+use Rattle.trac_laws.proofs.Words.{◌≡◌, ℕ, ◌+◌, ◌<◌, ◌≤◌, max, Bool, true, false, [], ◌++◌, sym, subst, append_assoc, InputFailed, Text, Memory, Next, Over, step, need, run, reads_to_end}
 use Rattle.trac_laws.proofs.TakenInput.{standing, step_anywhere}
 use Rattle.trac_laws.proofs.Reached.{Reached, reached_start, reached_next, reached_over}
 

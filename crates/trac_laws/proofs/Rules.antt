@@ -1,10 +1,5 @@
 -- The rule that fits, by the first character, as a scanner tells it.
-use Rattle.std.proofs.Common.{◌≡◌, ◌≢◌, ℕ, [], ◌∷◌, refl, ap}
-use Rattle.std.proofs.lemmas.Bool.{ne_eqb}
-use Rattle.trac_language.specs.declared.mode.Mode.TheVariants.{Active, Neutral}
-use Rattle.trac_language.specs.Text.{Text}
-use Rattle.trac_language.specs.Rule.{DeleteLayout, AddProtected, BeginArgument, BeginCall, EndCall, AddCharacter, parenthesis_rule, rule}
-use Rattle.trac_laws.specs.Balance.{IsProtected}
+use Rattle.trac_laws.proofs.Words.{◌≡◌, ◌≢◌, ℕ, [], ◌∷◌, refl, ap, ne_eqb, Active, Neutral, Text, DeleteLayout, AddProtected, BeginArgument, BeginCall, EndCall, AddCharacter, parenthesis_rule, rule, IsProtected}
 use Rattle.trac_laws.proofs.Parentheses.{protected_found}
 
 pub rule_tab : (rest : Text) → rule (9 ∷ rest) ≡ DeleteLayout rest

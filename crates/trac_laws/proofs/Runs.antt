@@ -1,15 +1,6 @@
 -- Laws of runs, from any state.
-use Rattle.std.proofs.Common.{◌≡◌, ◌≢◌, ℕ, zero, suc, ◌<◌, ◌≤◌, max, List, [], ◌∷◌, ◌++◌, refl, sym, ap, ◌∙◌, subst, ◌⊎◌, inl, inr, ⊎_elim, arith, append_assoc, append-nil}
-use Rattle.std.proofs.lemmas.Bool.{cases_lt, lt-ltb, le-ltb}
-use Rattle.trac_language.specs.declared.fate.Fate.{Fate}
-use Rattle.trac_language.specs.declared.fate.Fate.TheVariants.{Halted, Workspace, Steps}
-use Rattle.trac_language.specs.Text.{Text}
-use Rattle.trac_language.specs.State.{OpenCall, State, first}
-use Rattle.trac_language.specs.Meaning.{Meaning, Gives, Ends}
-use Rattle.trac_language.specs.Rule.{Rule, EndCall, rule}
-use Rattle.trac_language.specs.Step.{Outcome, Next, Over, perform, end_call, follow, step, need}
-use Rattle.trac_language.specs.Run.{Run, counted, stopped, one_more, go_on, within, run}
-use Rattle.trac_laws.specs.Laws.{IsPrefix, MoreRoom, MoreSteps, FewerSteps, LeastRoom, LessRoom}
+use Rattle.trac_laws.proofs.Words.{◌≡◌, ◌≢◌, ℕ, zero, suc, ◌<◌, ◌≤◌, max, List, [], ◌∷◌, ◌++◌, refl, sym, ap, ◌∙◌, subst, ◌⊎◌, inl, inr, ⊎_elim, arith, append_assoc, append-nil, cases_lt, lt-ltb, le-ltb, Fate, Halted, Workspace, Steps, Text, OpenCall, State, first, Meaning, Gives, Ends, Rule}
+use Rattle.trac_laws.proofs.Words.{EndCall, rule, Outcome, Next, Over, perform, end_call, follow, step, need, Run, counted, stopped, one_more, go_on, within, run, IsPrefix, MoreRoom, MoreSteps, FewerSteps, LeastRoom, LessRoom}
 
 -- an outcome is one of two
 cases_outcome : (o : Outcome) → ((t : State) × (o ≡ Next t)) ⊎ ((f : Fate) × (o ≡ Over f))

@@ -1,14 +1,6 @@
 -- A step is what the rule that fits does.
-use Rattle.std.proofs.Common.{◌≡◌, ◌↔◌, Bool, true, false, List, [], ◌∷◌, ◌++◌, refl, sym, ap, ◌∙◌, subst, ⊎_elim, inl, inr}
-use Rattle.std.proofs.lemmas.Bool.{false≢true}
-use Rattle.trac_language.specs.declared.mode.Mode.{Mode}
-use Rattle.trac_language.specs.declared.mode.Mode.TheVariants.{Active, Neutral}
-use Rattle.trac_language.specs.Text.{Text}
-use Rattle.trac_language.specs.State.{OpenCall, Memory, State, Input, arguments, add, add_to, begin_argument}
-use Rattle.trac_language.specs.Meaning.{Answer, Meaning, Gives, Ends, meaning}
-use Rattle.trac_language.specs.Rule.{Rule, AddProtected, BeginArgument, EndCall, AddCharacter, rule}
-use Rattle.trac_language.specs.Step.{Outcome, Next, deliver, perform, end_call, follow, step, function_of, world_of}
-use Rattle.trac_laws.specs.Stepping.{Adds, AddsArgument, Delivers, IsAfter, FollowsMeaning, EndsCall, rest_of, Does, Leads}
+use Rattle.trac_laws.proofs.Words.{◌≡◌, ◌↔◌, Bool, true, false, List, [], ◌∷◌, ◌++◌, refl, sym, ap, ◌∙◌, subst, ⊎_elim, inl, inr, false≢true, Mode, Active, Neutral, Text, OpenCall, Memory, State, Input, arguments, add, add_to, begin_argument, Answer, Meaning, Gives, Ends, meaning, Rule}
+use Rattle.trac_laws.proofs.Words.{AddProtected, BeginArgument, EndCall, AddCharacter, rule, Outcome, Next, deliver, perform, end_call, follow, step, function_of, world_of, Adds, AddsArgument, Delivers, IsAfter, FollowsMeaning, EndsCall, rest_of, Does, Leads}
 use Rattle.trac_laws.proofs.Fitting.{rule-fits}
 
 adds-to : (text : Text) (m : Memory) (calls : List OpenCall) → m.calls ≡ calls → Adds text m (add_to calls text m)

@@ -1,18 +1,7 @@
 -- What a step does is decided by the memory and by what it takes of the input.
-use Rattle.std.proofs.Common.{◌≡◌, ℕ, ◌+◌, ◌-◌, Bool, true, false, not, ◌||◌, cond, List, [], ◌∷◌, ◌++◌, length, take, drop, Option, Some, None, refl, sym, ap, subst, ◌∙◌, ⊎_elim, arith, append_assoc}
-use Rattle.std.specs.Prelude.{◌==◌}
-use Rattle.std.specs.List.{before_first, position_or_len, list_any}
-use Rattle.std.proofs.lemmas.Bool.{cases_Bool, false≢true}
-use Rattle.std.proofs.lemmas.List.{length-append, take_at, drop_at, append_cancel_right, nil_from_length}
-use Rattle.trac_language.specs.declared.mode.Mode.{Mode}
-use Rattle.trac_language.specs.declared.function.Function.{Function}
-use Rattle.trac_language.specs.declared.function.Function.TheVariants.{ReadString, ReadCharacter}
-use Rattle.trac_language.specs.Text.{Text}
-use Rattle.trac_language.specs.State.{OpenCall, Memory, State, arguments, size}
-use Rattle.trac_language.specs.Meaning.{World, Meaning, Gives, Ends, read_string, meaning_of, meaning, built}
-use Rattle.trac_language.specs.Rule.{Rule, EndCall, rule}
-use Rattle.trac_language.specs.Step.{Outcome, Next, Over, function_of, world_of, deliver, perform, end_call, with_active, follow, end_need, need_by, step, need}
-use Rattle.trac_laws.specs.LastRead.{is_read_string, reads_last, end_reads_last, reads_last_by, reads_to_end}
+use Rattle.trac_laws.proofs.Words.{◌≡◌, ℕ, ◌+◌, ◌-◌, Bool, true, false, not, ◌||◌, cond, List, [], ◌∷◌, ◌++◌, length, take, drop, Option, Some, None, refl, sym, ap, subst, ◌∙◌, ⊎_elim, arith, append_assoc, ◌==◌, before_first, position_or_len, list_any, cases_Bool, false≢true, length-append}
+use Rattle.trac_laws.proofs.Words.{take_at, drop_at, append_cancel_right, nil_from_length, Mode, Function, ReadString, ReadCharacter, Text, OpenCall, Memory, State, arguments, size, World, Meaning, Gives, Ends, read_string, meaning_of, meaning, built, Rule, EndCall, rule, Outcome, Next, Over}
+use Rattle.trac_laws.proofs.Words.{function_of, world_of, deliver, perform, end_call, with_active, follow, end_need, need_by, step, need, is_read_string, reads_last, end_reads_last, reads_last_by, reads_to_end}
 use Rattle.trac_laws.proofs.UnreadInput.{with_source, reads, elsewhere, built_elsewhere}
 
 abbrev pub standing : Memory → Text → Bool → Text → State

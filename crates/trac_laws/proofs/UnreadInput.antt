@@ -1,15 +1,8 @@
 -- A step that doesn't read to the end of the input looks at nothing past what it takes.
-use Rattle.std.proofs.Common.{◌≡◌, Bool, true, false, List, [], ◌∷◌, drop, Option, Some, None, ℤ, pos, refl, ap, ◌∙◌}
-use Rattle.trac_language.specs.declared.function.Function.{Function}
-use Rattle.trac_language.specs.declared.function.Function.TheVariants.{ReadString, ReadCharacter, ChangeMeta, DefineString, SegmentString, PrintForm, CallForm, CallSegment, CallCharacter, CallNumber, InitialPart, CallRestore, Arithmetic}
-use Rattle.trac_language.specs.Text.{Text}
-use Rattle.trac_language.specs.Form.{Form, fill, after_pointer}
-use Rattle.trac_language.specs.Segment.{segment_by}
-use Rattle.trac_language.specs.Store.{form_named}
-use Rattle.trac_language.specs.Number.{number, prefix, arith as arith_of}
-use Rattle.trac_language.specs.State.{Input, argument}
-use Rattle.trac_language.specs.Part.{Part, next_segment, characters, initial_part}
-use Rattle.trac_language.specs.Meaning.{World, Meaning, Gives, Ends, valued, silent, printing, change_meta, show_form, on_form, with_form, take_part, result_or, meaning_of, value_length, built}
+use Rattle.trac_laws.proofs.Words.{◌≡◌, Bool, true, false, List, [], ◌∷◌, drop, Option, Some, None, ℤ, pos, refl, ap, ◌∙◌, Function, ReadString, ReadCharacter, ChangeMeta, DefineString, SegmentString, PrintForm, CallForm, CallSegment, CallCharacter, CallNumber, InitialPart, CallRestore}
+use Rattle.trac_laws.proofs.Words.{Arithmetic, Text, Form, fill, after_pointer, segment_by, form_named, number, prefix, Input, argument, Part, next_segment, characters, initial_part, World, Meaning, Gives, Ends, valued, silent, printing, change_meta, show_form, on_form, with_form, take_part}
+use Rattle.trac_laws.proofs.Words.{result_or, meaning_of, value_length, built}
+use Rattle.trac_language.specs.Number.{arith as arith_of}
 
 -- what a call means, with another input
 abbrev pub with_source : Input → Meaning → Meaning

@@ -1,13 +1,5 @@
 -- Characters that are put once more by blocks, before they are looked at.
-use Rattle.std.proofs.Common.{◌≡◌, ℕ, ◌+◌, ◌-◌, ◌<◌, ◌≤◌, false, All, List, ◌++◌, length, take, drop, get_or, sym, ap, ◌∙◌, arith, rules}
-use Rattle.std.specs.List.{copy_within}
-use Rattle.std.proofs.Math.Seq.{take-add}
-use Rattle.std.proofs.lemmas.List.{places, same_lists}
-use Rattle.std.proofs.lemmas.List.Elements.{All-append}
-use Rattle.trac_space.specs.declared.cell.Cell.{Cell}
-use Rattle.trac_space.specs.declared.cell.Cell.TheVariants.{Comma}
-use Rattle.trac_space.specs.Texts.{IsByte, is_byte_cell, byte_cell_at}
-use lib.Seq.{paste}
+use Rattle.trac_space.proofs.Words.{◌≡◌, ℕ, ◌+◌, ◌-◌, ◌<◌, ◌≤◌, false, All, List, ◌++◌, length, take, drop, get_or, sym, ap, ◌∙◌, arith, rules, copy_within, take-add, places, same_lists, All-append, Cell, Comma, IsByte, is_byte_cell, byte_cell_at, paste}
 
 -- the first cells of a copy, with those before it
 pub front-of : {X : Type 0} (was after source : List X) (to m r : ℕ) → to ≤ length was → m ≤ length source → r ≤ m → after ≡ paste was to source m → take (to + r) after ≡ take to was ++ take r source

@@ -1,15 +1,7 @@
 -- Characters that are put once more at a place behind, one after the other.
-use Rattle.std.proofs.Common.{◌≡◌, ◌↔◌, ℕ, ◌+◌, ◌<◌, ◌≤◌, true, false, IsTrue, nat_eq, All, List, [], ◌∷◌, ◌++◌, length, take, drop, map, get_or, slice_range, sum_by, refl, sym, ◌-◌, ap, ◌∙◌, subst, ⊎_elim, arith, rules}
-use Rattle.std.proofs.lemmas.List.{places, same_lists, length-drop, length-take-le, get_or-take, get_or-map, get_or-drop, take_more, take-map, drop-map, drop-drop}
-use Rattle.std.proofs.Math.Seq.{take-add}
-use Rattle.std.proofs.lemmas.Bool.{cases_lt}
-use Rattle.std.proofs.lemmas.List.Elements.{All-append, All-push, All-map, All-cons, All-head, All-tail}
-use Rattle.std.proofs.lemmas.List.Sums.{sum_by-cons}
-use Rattle.trac_space.specs.declared.cell.Cell.{Cell}
-use Rattle.trac_space.specs.declared.cell.Cell.TheVariants.{Byte, Call, Comma, Gap, Head}
-use Rattle.trac_space.specs.Cells.{seen, IsNoCall, NoCall}
-use Rattle.trac_space.specs.Texts.{IsByte, is_byte_cell, byte_cell_at, kind_number}
-use lib.Seq.{paste}
+use Rattle.trac_space.proofs.Words.{◌≡◌, ◌↔◌, ℕ, ◌+◌, ◌<◌, ◌≤◌, true, false, IsTrue, nat_eq, All, List, [], ◌∷◌, ◌++◌, length, take, drop, map, get_or, slice_range, sum_by, refl, sym, ◌-◌, ap, ◌∙◌, subst, ⊎_elim, arith, rules, places, same_lists, length-drop, length-take-le, get_or-take}
+use Rattle.trac_space.proofs.Words.{get_or-map, get_or-drop, take_more, take-map, drop-map, drop-drop, take-add, cases_lt, All-append, All-push, All-map, All-cons, All-head, All-tail, sum_by-cons, Cell, Byte, Call, Comma, Gap, Head, seen, IsNoCall, NoCall, IsByte, is_byte_cell, byte_cell_at}
+use Rattle.trac_space.proofs.Words.{kind_number, paste}
 
 -- the cells before that place are as they were
 pub front-cell : (was now source : List Cell) (to k i : ℕ) (d : Cell) → i < to → to ≤ length was → now ≡ paste was to source k → get_or now i d ≡ get_or was i d

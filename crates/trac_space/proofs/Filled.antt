@@ -1,18 +1,8 @@
 -- Cells that are put at the end of neutral with their gaps filled, one after the other.
-use Rattle.std.proofs.Common.{Bool, cond, map, ◌≡◌, ℕ, zero, suc, ◌+◌, ◌-◌, ◌<◌, ◌≤◌, true, false, All, List, [], ◌∷◌, ◌++◌, length, take, drop, get_or, slice_range, Option, Some, None, nat_lt, refl, sym, ap, ◌∙◌, arith, rules, append_assoc, subst}
-use Rattle.std.specs.List.{copy_within}
-use Rattle.std.proofs.lemmas.List.{places, same_lists, get_or_default, get_or-drop, get_or-map, take-map, drop-map, map-append, take-take, append-nil, length-append, length-take-le, length-drop, drop_more, get_or-take}
-use Rattle.std.proofs.lemmas.List.Elements.{All-head, All-tail}
-use Rattle.std.proofs.lemmas.List.Edits.{length-between}
-use Rattle.trac_space.specs.declared.cell.Cell.{Cell}
-use Rattle.trac_space.specs.declared.cell.Cell.TheVariants.{Byte, Call, Comma, Gap, Head}
-use Rattle.trac_space.specs.Texts.{IsByte, is_byte_cell}
-use Rattle.trac_space.specs.declared.space.Space.TheInside.{Inside}
-use Rattle.trac_space.specs.Block.{lists, IsLaidOut}
-use Rattle.trac_space.specs.Cells.{seen}
-use Rattle.trac_space.specs.Lists.{Lists}
+use Rattle.trac_space.proofs.Words.{Bool, cond, map, ◌≡◌, ℕ, zero, suc, ◌+◌, ◌-◌, ◌<◌, ◌≤◌, true, false, All, List, [], ◌∷◌, ◌++◌, length, take, drop, get_or, slice_range, Option, Some, None, nat_lt, refl, sym, ap, ◌∙◌, arith, rules, append_assoc, subst, copy_within, places, same_lists}
+use Rattle.trac_space.proofs.Words.{get_or_default, get_or-drop, get_or-map, take-map, drop-map, map-append, take-take, append-nil, length-append, length-take-le, length-drop, drop_more, get_or-take, All-head, All-tail, length-between, Cell, Byte, Call, Comma, Gap, Head, IsByte, is_byte_cell}
+use Rattle.trac_space.proofs.Words.{Inside, lists, IsLaidOut, seen, Lists, IsHead, ListsParts, number_of, number_at, filling, filled, listed_part, ordinal_of, IsPut}
 use Rattle.trac_space.proofs.BlockChanges.{sizes, store-part}
-use Rattle.trac_space.specs.Filled.{IsHead, ListsParts, number_of, number_at, filling, filled, listed_part, ordinal_of, IsPut}
 
 -- what a copy to a place behind leaves
 module _ (now new : List Cell) (start to n : ℕ) (apart : start + n ≤ to) (within : to + n ≤ length now) (is : new ≡ copy_within now start (start + n) to) where

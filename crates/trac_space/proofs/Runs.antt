@@ -1,16 +1,7 @@
 -- Characters that are moved to a place before, one after the other, and become what a table says.
-use Rattle.std.proofs.Common.{◌≡◌, ℕ, ◌+◌, ◌<◌, ◌≤◌, Bool, true, false, All, List, [], ◌∷◌, length, take, drop, map, get_or, refl, sym, ap, ◌∙◌, arith, subst}
-use Rattle.std.specs.Prelude.{◌==◌, if◌then◌else◌}
-use Rattle.std.proofs.lemmas.List.{places, length-drop, length-map, length-take-le, get_or-drop, get_or-take, get_or-map, take_more, take-take, take-map, drop-append-le, drop_all}
-use Rattle.std.proofs.lemmas.List.Elements.{All-nil, All-push, All-map}
-use Rattle.std.proofs.lemmas.Grind.{elements}
-use Rattle.trac_space.specs.declared.cell.Cell.{Cell}
-use Rattle.trac_space.specs.declared.cell.Cell.TheVariants.{Byte, Call, Comma, Gap, Head}
-use Rattle.trac_space.specs.Cells.{seen, is_comma, IsNoCall, NoCall, NoComma}
-use Rattle.trac_space.specs.Texts.{IsByte, character_of}
-use Rattle.trac_space.specs.Runs.{number_in, IsInRun, turned_by, turned}
+use Rattle.trac_space.proofs.Words.{◌≡◌, ℕ, ◌+◌, ◌<◌, ◌≤◌, Bool, true, false, All, List, [], ◌∷◌, length, take, drop, map, get_or, refl, sym, ap, ◌∙◌, arith, subst, ◌==◌, if◌then◌else◌, places, length-drop, length-map, length-take-le, get_or-drop, get_or-take, get_or-map, take_more, take-take}
+use Rattle.trac_space.proofs.Words.{take-map, drop-append-le, drop_all, All-nil, All-push, All-map, elements, Cell, Byte, Call, Comma, Gap, Head, seen, is_comma, IsNoCall, NoCall, NoComma, IsByte, character_of, number_in, IsInRun, turned_by, turned, paste}
 use Rattle.trac_space.proofs.Characters.{tested-seen}
-use lib.Seq.{paste}
 
 -- the cell that is next to be moved is as it was
 pub run-cell : (was now source : List Cell) (start to k : ℕ) (d : Cell) → to ≤ start → start + k < length was → k ≤ length source → now ≡ paste was to source k → get_or now (start + k) d ≡ get_or was (start + k) d

@@ -1,10 +1,5 @@
 -- Bytes up to the first that is looked for.
-use Rattle.std.proofs.Common.{◌≡◌, ℕ, ◌+◌, ◌-◌, ◌<◌, ◌≤◌, Bool, false, List, length, take, drop, slice_range, slice_get, Some, arith, rules}
-use Rattle.std.specs.List.{list_any}
-use Rattle.std.proofs.Math.Seq.{take-add}
-use Rattle.std.proofs.lemmas.List.{places, same_lists}
-use Rattle.std.proofs.lemmas.List.Folds.{list_any-append}
-use Rattle.std.proofs.lemmas.Grind.{elements}
+use Rattle.trac_space.proofs.Words.{◌≡◌, ℕ, ◌+◌, ◌-◌, ◌<◌, ◌≤◌, Bool, false, List, length, take, drop, slice_range, slice_get, Some, arith, rules, list_any, take-add, places, same_lists, list_any-append, elements}
 
 -- it isn't among the first, nor among the next
 pub none-more : (test : ℕ → Bool) (bytes : List ℕ) (k n : ℕ) → list_any test (take k bytes) ≡ false → list_any test (take n (drop k bytes)) ≡ false → list_any test (take (k + n) bytes) ≡ false

@@ -1,14 +1,6 @@
 -- A list of borders before active.
-use Rattle.std.proofs.Common.{◌≡◌, ℕ, suc, ◌+◌, ◌-◌, ◌<◌, ◌≤◌, List, ◌∷◌, length, take, drop, map, slice_range, get_or, refl, sym, ap, subst, ◌∙◌, arith, All}
-use Rattle.std.proofs.lemmas.List.{length-map, length-take-le, get_or-map}
-use Rattle.std.proofs.lemmas.List.Elements.{All-get_or}
-use Rattle.std.proofs.lemmas.Option.{slice_get-get_or, get_or_from_slice_get}
-use Rattle.trac_space.specs.declared.cell.Cell.{Cell}
-use Rattle.trac_space.specs.declared.cell.Cell.TheVariants.{Byte, Call, Comma, Gap, Head}
-use Rattle.trac_space.specs.Cells.{seen}
-use Rattle.trac_space.specs.Lists.{Lists, used, HasWay}
-use Rattle.trac_space.specs.Texts.{character_of, IsByte}
-use Rattle.trac_store.specs.Borders.{byte_at, IsLongestBorder, AreBorders}
+use Rattle.trac_store.proofs.Words.{◌≡◌, ℕ, suc, ◌+◌, ◌-◌, ◌<◌, ◌≤◌, List, ◌∷◌, length, take, drop, map, slice_range, get_or, refl, sym, ap, subst, ◌∙◌, arith, All, length-map, length-take-le, get_or-map, All-get_or, slice_get-get_or, get_or_from_slice_get, Cell, Byte, Call, Comma, Gap, Head}
+use Rattle.trac_store.proofs.Words.{seen, Lists, used, HasWay, character_of, IsByte, byte_at, IsLongestBorder, AreBorders}
 use Rattle.trac_store.proofs.TextBorders.{borders-more, byte-in}
 
 -- the first cells of a list

@@ -1,19 +1,7 @@
 -- What fills the gaps of a body, where the arguments are listed before active.
-use Rattle.std.proofs.Common.{Bool, ◌≡◌, ℕ, zero, suc, ◌+◌, ◌-◌, ◌<◌, ◌≤◌, true, false, List, [], ◌∷◌, ◌++◌, length, drop, get_or, nat_lt, refl, sym, ap, ◌∙◌, arith, subst, slice_range, ⊎_elim}
-use Rattle.std.proofs.lemmas.Bool.{cases_lt}
-use Rattle.std.proofs.lemmas.List.{length-map, map-append, get_or_past}
-use Rattle.std.proofs.lemmas.Option.{get_or_from_slice_get}
-use Rattle.trac_language.specs.Text.{Text}
-use Rattle.trac_space.specs.declared.cell.Cell.{Cell}
-use Rattle.trac_space.specs.declared.cell.Cell.TheVariants.{Byte, Call, Comma, Gap, Head}
-use Rattle.trac_space.specs.Cells.{NoCall}
-use Rattle.trac_space.specs.Filled.{number_of, number_at, ListsParts, listed_part, filled}
-use Rattle.std.specs.Bool.{OnTrue}
-use Rattle.trac_space.specs.Lists.{Lists}
-use Rattle.trac_space.specs.Texts.{flat_text}
-use Rattle.trac_store.specs.Arguments.{numbered_part, IsHeadAt, IsListed}
-use Rattle.trac_store.specs.Parts.{AreTextParts, part_text, part_texts}
-use Rattle.trac_store.specs.Stored.{head_at}
+use Rattle.trac_store.proofs.Words.{Bool, ◌≡◌, ℕ, zero, suc, ◌+◌, ◌-◌, ◌<◌, ◌≤◌, true, false, List, [], ◌∷◌, ◌++◌, length, drop, get_or, nat_lt, refl, sym, ap, ◌∙◌, arith, subst, slice_range, ⊎_elim, cases_lt, length-map, map-append, get_or_past, get_or_from_slice_get, Text, Cell, Byte, Call}
+use Rattle.trac_store.proofs.Words.{Comma, Gap, Head, NoCall, number_at, ListsParts, listed_part, filled, OnTrue, Lists, flat_text, numbered_part, IsHeadAt, IsListed, AreTextParts, part_text, part_texts, head_at}
+use Rattle.trac_space.specs.Filled.{number_of}
 use Rattle.trac_store.proofs.Filling.{filled as filled_text, part-there, part-text, text-no_call}
 use Rattle.trac_store.proofs.FlatLemmas.{Byte-character_of}
 use Rattle.trac_store.proofs.Finding.{bytes-flat}

@@ -1,26 +1,9 @@
 -- The text of a form whose gaps are filled, part by part.
-use Rattle.std.proofs.Common.{◌≡◌, ℕ, zero, suc, ◌+◌, ◌-◌, ◌<◌, ◌≤◌, true, false, List, [], ◌∷◌, ◌++◌, length, take, drop, map, get_or, slice_get, slice_range, Some, All, refl, sym, ap, ◌∙◌, arith, append_assoc, subst, ⊎_elim}
-use Rattle.std.proofs.lemmas.Bool.{false≢true, cases_lt}
-use Rattle.std.proofs.lemmas.Option.{slice_get-get_or}
+use Rattle.trac_store.proofs.Words.{◌≡◌, ℕ, zero, suc, ◌+◌, ◌-◌, ◌<◌, ◌≤◌, true, false, List, [], ◌∷◌, ◌++◌, length, take, drop, map, get_or, slice_get, slice_range, Some, All, refl, sym, ap, ◌∙◌, arith, append_assoc, subst, ⊎_elim, false≢true, cases_lt, slice_get-get_or, drop-map, take-take}
+use Rattle.trac_store.proofs.Words.{drop_more, append-nil, length-append, length-map, map-append, get_or_past, All-head, All-tail, All-nil, All-cons, All-get_or, All-map, length-between, Item, Text, fill, is_character, text_of, IsStore, Cell, Byte, Call, Comma, Gap, Head, IsNoCall, NoCall, Lists}
+use Rattle.trac_store.proofs.Words.{used, HasWay, flat_text, text_of_cells, character_of, IsByte, is_byte_cell, byte_cell_at, flat_item, flat_forms, IsTextPart, part_text, AreTextParts, part_texts, form_at, body_at, pointer_at, parts_between, numbered_part, AreParted, gap_ordinal, gap_number}
+use Rattle.trac_store.proofs.Words.{item_of, forms_in, start_of, head_at}
 use Rattle.std.proofs.Math.ListN.{get_or-map as get_or-map-same}
-use Rattle.std.proofs.lemmas.List.{drop-map, take-take, drop_more, append-nil, length-append, length-map, map-append, get_or_past}
-use Rattle.std.proofs.lemmas.List.Elements.{All-head, All-tail, All-nil, All-cons, All-get_or, All-map}
-use Rattle.std.proofs.lemmas.List.Edits.{length-between}
-use Rattle.trac_language.specs.declared.item.Item.{Item}
-use Rattle.trac_language.specs.Text.{Text}
-use Rattle.trac_language.specs.Form.{fill, is_character, text_of}
-use Rattle.trac_language.specs.Store.{IsStore}
-use Rattle.trac_space.specs.declared.cell.Cell.{Cell}
-use Rattle.trac_space.specs.declared.cell.Cell.TheVariants.{Byte, Call, Comma, Gap, Head}
-use Rattle.trac_space.specs.Cells.{IsNoCall, NoCall}
-use Rattle.trac_space.specs.Lists.{Lists, used, HasWay}
-use Rattle.trac_space.specs.Texts.{flat_text, text_of_cells, character_of, IsByte, is_byte_cell, byte_cell_at}
-use Rattle.trac_store.specs.FlatForms.{flat_item, flat_forms}
-use Rattle.trac_store.specs.Parts.{IsTextPart, part_text, AreTextParts, part_texts}
-use Rattle.trac_store.specs.Forms.{form_at, body_at, pointer_at}
-use Rattle.trac_store.specs.Arguments.{parts_between, numbered_part, AreParted}
-use Rattle.trac_store.specs.Gaps.{gap_ordinal, gap_number}
-use Rattle.trac_store.specs.Stored.{item_of, forms_in, start_of, head_at}
 use Rattle.trac_store.proofs.Places.{stands}
 use Rattle.trac_store.proofs.Stores.{pointer-within}
 use Rattle.trac_store.proofs.Parted.{drop-part, parts-longer}

@@ -1,17 +1,6 @@
 -- What stands where a form begins, in a slice of the whole store.
-use Rattle.std.proofs.Common.{◌≡◌, ℕ, ◌+◌, ◌-◌, ◌<◌, ◌≤◌, List, length, take, drop, map, All, get_or, slice_range, slice_get, Some, sym, ap, ◌∙◌, subst, arith}
-use Rattle.std.specs.Option.{option_map}
-use Rattle.std.proofs.lemmas.Option.{slice_get-map, slice_get-get_or}
-use Rattle.std.proofs.lemmas.List.{take-map, drop-map, length-map, get_or-map, get_or-take, get_or-drop}
-use Rattle.std.proofs.lemmas.List.Edits.{length-between}
-use Rattle.std.proofs.lemmas.List.Elements.{All-map}
-use Rattle.trac_space.specs.declared.cell.Cell.{Cell}
-use Rattle.trac_space.specs.declared.cell.Cell.TheVariants.{Byte, Call, Comma, Gap, Head}
-use Rattle.trac_space.specs.Cells.{seen}
-use Rattle.trac_space.specs.Texts.{flat_text, text_of_cells, IsByte}
-use Rattle.trac_store.specs.FlatForms.{flat_forms}
-use Rattle.trac_store.specs.Forms.{form_at}
-use Rattle.trac_store.specs.Stored.{forms_in, start_of, head_number}
+use Rattle.trac_store.proofs.Words.{◌≡◌, ℕ, ◌+◌, ◌-◌, ◌<◌, ◌≤◌, List, length, take, drop, map, All, get_or, slice_range, slice_get, Some, sym, ap, ◌∙◌, subst, arith, option_map, slice_get-map, slice_get-get_or, take-map, drop-map, length-map, get_or-map, get_or-take, get_or-drop, length-between}
+use Rattle.trac_store.proofs.Words.{All-map, Cell, Byte, Call, Comma, Gap, Head, seen, flat_text, text_of_cells, IsByte, flat_forms, form_at, forms_in, start_of, head_number}
 use Rattle.trac_store.proofs.FlatLemmas.{Byte-character_of}
 use Rattle.trac_store.proofs.Gaps.{bytes-seen}
 use Rattle.trac_store.proofs.Places.{stands, head_cells}

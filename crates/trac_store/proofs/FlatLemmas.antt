@@ -1,21 +1,8 @@
 -- Forms as cells and back.
-use Rattle.std.proofs.Common.{◌≡◌, ℕ, zero, suc, ◌+◌, ◌-◌, ◌≤◌, List, [], ◌∷◌, ◌++◌, length, take, drop, map, refl, sym, ap, ◌∙◌, arith, slice_range, All, get_or, false}
-use Rattle.std.proofs.lemmas.List.{append_assoc, length-append, length-map, take_at, drop_at, drop-take, take-append-le}
-use Rattle.std.proofs.lemmas.List.Edits.{length-between}
-use Rattle.std.proofs.lemmas.List.Elements.{All-nil, All-head, All-tail, All-cons, All-append, All-map}
-use Rattle.std.proofs.lemmas.List.Sums.{sum_by-cons}
-use Rattle.trac_language.specs.declared.item.Item.{Item}
+use Rattle.trac_store.proofs.Words.{◌≡◌, ℕ, zero, suc, ◌+◌, ◌-◌, ◌≤◌, List, [], ◌∷◌, ◌++◌, length, take, drop, map, refl, sym, ap, ◌∙◌, arith, slice_range, All, get_or, false, append_assoc, length-append, length-map, take_at, drop_at, drop-take, take-append-le, length-between, All-nil, All-head}
+use Rattle.trac_store.proofs.Words.{All-tail, All-cons, All-append, All-map, sum_by-cons, Item, Form, items_of, form_cells, cells, Cell, Byte, Call, Comma, Gap, Head, Lists, is_call, IsNoCall, NoCall, character_of, IsByte, flat_item, flat_form, flat_forms, IsTextPart, part_text, new_form}
+use Rattle.trac_store.proofs.Words.{item_of, read_forms, forms_in}
 use Rattle.trac_language.specs.declared.item.Item.TheVariants as item
-use Rattle.trac_language.specs.Form.{Form, items_of}
-use Rattle.trac_language.specs.Store.{form_cells, cells}
-use Rattle.trac_space.specs.declared.cell.Cell.{Cell}
-use Rattle.trac_space.specs.declared.cell.Cell.TheVariants.{Byte, Call, Comma, Gap, Head}
-use Rattle.trac_space.specs.Lists.{Lists}
-use Rattle.trac_space.specs.Cells.{is_call, IsNoCall, NoCall}
-use Rattle.trac_space.specs.Texts.{character_of, IsByte}
-use Rattle.trac_store.specs.FlatForms.{flat_item, flat_form, flat_forms}
-use Rattle.trac_store.specs.Parts.{IsTextPart, part_text, new_form}
-use Rattle.trac_store.specs.Stored.{item_of, read_forms, forms_in}
 
 -- forms have as many cells as they form_cells
 pub length-flat : (forms : List Form) → length (flat_forms forms) ≡ cells forms

@@ -1,20 +1,7 @@
 -- The table of the forms of a store, as they come and go.
-use Rattle.std.proofs.Common.{◌≡◌, ◌≢◌, ℕ, zero, suc, ◌+◌, ◌-◌, ◌<◌, ◌≤◌, true, false, List, [], ◌∷◌, length, set, take, if◌then◌else◌, refl, sym, ap, ◌∙◌, arith, subst}
-use Rattle.std.specs.Prelude.{nat_lt, nat_le}
-use Rattle.std.specs.List.{remove}
-use Rattle.std.proofs.lemmas.Bool.{lt-ltb, le-ltb, ltb-true, ltb-false, lt-leb, leb-true, leb-false, false≢true}
-use Rattle.std.proofs.lemmas.List.{get_or-take, take-take, length-take-le, length-set}
-use Rattle.std.proofs.lemmas.List.Edits.{length-remove, get_or-remove_below, get_or-remove_above}
-use Rattle.std.proofs.lemmas.List.Sums.{sum_by-cons}
-use Rattle.trac_language.specs.Text.{Text}
-use Rattle.trac_language.specs.Form.{Form}
-use Rattle.trac_language.specs.Store.{form_cells, cells}
-use Rattle.trac_space.specs.declared.cell.Cell.{Cell}
-use Rattle.trac_space.specs.declared.cell.Cell.TheVariants.{Comma, Head}
-use Rattle.trac_store.specs.FlatForms.{flat_forms}
-use Rattle.trac_store.specs.Forms.{name_at, form_at}
-use Rattle.trac_store.specs.Stored.{start_of}
-use Rattle.trac_store.specs.Index.{hash, quarter, slots, cell_at, home_place, is_open, number_of, home_in, start_in, buried, forward, earlier, started, IsReached, IsIndexBut, IsIndex, IsOpenFor, with_entry}
+use Rattle.trac_store.proofs.Words.{◌≡◌, ◌≢◌, ℕ, zero, suc, ◌+◌, ◌-◌, ◌<◌, ◌≤◌, true, false, List, [], ◌∷◌, length, set, take, if◌then◌else◌, refl, sym, ap, ◌∙◌, arith, subst, nat_lt, nat_le, remove, lt-ltb, le-ltb, ltb-true, ltb-false, lt-leb, leb-true, leb-false, false≢true, get_or-take}
+use Rattle.trac_store.proofs.Words.{take-take, length-take-le, length-set, length-remove, get_or-remove_below, get_or-remove_above, sum_by-cons, Text, Form, form_cells, cells, Cell, Comma, Head, flat_forms, name_at, form_at, start_of, hash, quarter, slots, cell_at, home_place, is_open, number_of}
+use Rattle.trac_store.proofs.Words.{home_in, start_in, buried, forward, earlier, started, IsReached, IsIndexBut, IsIndex, IsOpenFor, with_entry}
 use Rattle.trac_store.proofs.TableChanges.{index-put, index-bury, index-begin, index-as, reached-within, head-same}
 use Rattle.trac_store.proofs.FlatLemmas.{length-flat}
 

@@ -1,13 +1,6 @@
 -- How a walk over a body makes gaps of a text.
-use Rattle.std.proofs.Common.{◌≡◌, ℕ, zero, suc, ◌+◌, ◌-◌, ◌<◌, ◌≤◌, ◌&&◌, Bool, true, false, List, [], ◌∷◌, ◌++◌, length, take, drop, map, slice_range, set, get_or, refl, sym, ap, ◌∙◌, arith}
-use Rattle.std.proofs.lemmas.List.{append_assoc, drop_more, drop-drop, drop-take, take_more_set}
-use Rattle.std.proofs.Math.Bool.{and-false}
-use Rattle.std.proofs.lemmas.Bool.{false≢true}
-use Rattle.trac_space.specs.declared.cell.Cell.{Cell}
-use Rattle.trac_space.specs.declared.cell.Cell.TheVariants.{Byte, Call, Comma, Gap, Head}
-use Rattle.trac_space.specs.Cells.{seen}
-use Rattle.trac_space.specs.Texts.{character_of}
-use Rattle.trac_store.specs.Gaps.{is_byte, begins_cells, segment_cells}
+use Rattle.trac_store.proofs.Words.{◌≡◌, ℕ, zero, suc, ◌+◌, ◌-◌, ◌<◌, ◌≤◌, ◌&&◌, Bool, true, false, List, [], ◌∷◌, ◌++◌, length, take, drop, map, slice_range, set, get_or, refl, sym, ap, ◌∙◌, arith, append_assoc, drop_more, drop-drop, drop-take, take_more_set, and-false, false≢true, Cell, Byte}
+use Rattle.trac_store.proofs.Words.{Call, Comma, Gap, Head, seen, character_of, is_byte, begins_cells, segment_cells}
 
 is_byte-seen : (b : ℕ) (cell : Cell) → is_byte b (seen cell) ≡ is_byte b cell
 is_byte-seen b (Byte c) = refl

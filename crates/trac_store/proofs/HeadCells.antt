@@ -1,14 +1,6 @@
 -- Head cells, as a slice of the store holds them.
-use Rattle.std.proofs.Common.{◌≡◌, ℕ, ◌+◌, ◌<◌, ◌≤◌, List, length, map, get_or, slice_range, slice_get, Option, Some, refl, sym, ap, ◌∙◌, arith}
-use Rattle.std.proofs.lemmas.List.{length-map, get_or-map}
-use Rattle.std.proofs.lemmas.List.Edits.{length-between, get_or-between}
-use Rattle.std.specs.Option.{option_map}
-use Rattle.std.proofs.lemmas.Option.{slice_get-map, slice_get-get_or, get_or_from_slice_get}
-use Rattle.trac_space.specs.declared.cell.Cell.{Cell}
-use Rattle.trac_space.specs.declared.cell.Cell.TheVariants.{Byte, Call, Comma, Gap, Head}
-use Rattle.trac_space.specs.Cells.{seen}
-use Rattle.trac_store.specs.Stored.{head_number, head_at}
-use Rattle.trac_store.specs.Arguments.{IsHeadAt}
+use Rattle.trac_store.proofs.Words.{◌≡◌, ℕ, ◌+◌, ◌<◌, ◌≤◌, List, length, map, get_or, slice_range, slice_get, Option, Some, refl, sym, ap, ◌∙◌, arith, length-map, get_or-map, length-between, get_or-between, option_map, slice_get-map, slice_get-get_or, get_or_from_slice_get, Cell, Byte, Call}
+use Rattle.trac_store.proofs.Words.{Comma, Gap, Head, seen, head_number, head_at, IsHeadAt}
 
 -- a cell that is a number
 pub is_head : (cell : Cell) (n : ℕ) → cell ≡ Head n → cell ≡ Head (head_number (Some cell))

@@ -1,20 +1,6 @@
 -- A search by the table.
-use Rattle.std.proofs.Common.{◌≡◌, ◌≢◌, ℕ, zero, suc, ◌+◌, ◌-◌, ◌*◌, ◌/◌, ◌<◌, ◌≤◌, true, false, List, [], ◌∷◌, length, map, set, take, get_or, Bool, inl, inr, if◌then◌else◌, nat_le, refl, subst, sym, ap, ◌∙◌, arith, ⊎_elim}
-use Rattle.std.specs.Prelude.{bit_and}
-use Rattle.std.proofs.lemmas.Nat.{and_le_r}
-use Rattle.std.proofs.lemmas.Bool.{false≢true, cases_lt}
-use Rattle.std.proofs.lemmas.List.{length-map, length-append, length-set, get_or-map}
-use Rattle.trac_language.specs.Text.{Text}
-use Rattle.trac_language.specs.Form.{Form}
-use Rattle.trac_language.specs.Store.{NoneNamed}
-use Rattle.trac_space.specs.declared.cell.Cell.{Cell}
-use Rattle.trac_space.specs.declared.cell.Cell.TheVariants.{Byte, Head}
-use Rattle.trac_space.specs.Cells.{seen}
-use Rattle.trac_space.specs.Lists.{Lists, used, with_way}
-use Rattle.trac_store.specs.FlatForms.{flat_form, flat_forms}
-use Rattle.trac_store.specs.Forms.{name_at, form_at}
-use Rattle.trac_store.specs.Stored.{start_of}
-use Rattle.trac_store.specs.Index.{IsIndexed, IsKept, hash, quarter, slots, slot, start_place, cell_at, is_blank, IsIndex}
+use Rattle.trac_store.proofs.Words.{◌≡◌, ◌≢◌, ℕ, zero, suc, ◌+◌, ◌-◌, ◌*◌, ◌/◌, ◌<◌, ◌≤◌, true, false, List, [], ◌∷◌, length, map, set, take, get_or, Bool, inl, inr, if◌then◌else◌, nat_le, refl, subst, sym, ap, ◌∙◌, arith, ⊎_elim, bit_and, and_le_r, false≢true, cases_lt, length-map}
+use Rattle.trac_store.proofs.Words.{length-append, length-set, get_or-map, Text, Form, NoneNamed, Cell, Byte, Head, seen, Lists, used, with_way, flat_form, flat_forms, name_at, form_at, start_of, IsIndexed, IsKept, hash, quarter, slots, slot, start_place, cell_at, is_blank, IsIndex}
 use Rattle.trac_store.proofs.TableChanges.{index-as}
 
 pub NoneNamed-from : (name : Text) (forms : List Form) → ((k : ℕ) → k < length forms → name_at forms k ≢ name) → NoneNamed name forms

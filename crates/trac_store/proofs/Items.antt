@@ -1,15 +1,6 @@
 -- The items of a body and their cells.
-use Rattle.std.proofs.Common.{◌≡◌, ℕ, ◌+◌, ◌<◌, ◌≤◌, List, length, map, slice_range, get_or, refl, sym, ap, ◌∙◌, arith}
-use Rattle.std.proofs.lemmas.List.{get_or-map}
-use Rattle.std.proofs.lemmas.List.Edits.{get_or-between}
-use Rattle.std.proofs.lemmas.Option.{slice_get-get_or}
-use Rattle.trac_language.specs.declared.item.Item.{Item}
+use Rattle.trac_store.proofs.Words.{◌≡◌, ℕ, ◌+◌, ◌<◌, ◌≤◌, List, length, map, slice_range, get_or, refl, sym, ap, ◌∙◌, arith, get_or-map, get_or-between, slice_get-get_or, Item, Cell, Comma, flat_item, item_at, item_of, item_of_cell, stored_item}
 use Rattle.trac_language.specs.declared.item.Item.TheVariants as item
-use Rattle.trac_space.specs.declared.cell.Cell.{Cell}
-use Rattle.trac_space.specs.declared.cell.Cell.TheVariants.{Comma}
-use Rattle.trac_store.specs.FlatForms.{flat_item}
-use Rattle.trac_store.specs.Search.{item_at}
-use Rattle.trac_store.specs.Stored.{item_of, item_of_cell, stored_item}
 
 item_of-flat : (i : Item) → item_of (flat_item i) ≡ i
 item_of-flat (item.Byte b) = refl

@@ -1,17 +1,7 @@
 -- What stands between comma marks, part by part, and a list of where the parts begin.
-use Rattle.std.proofs.Common.{◌≡◌, ℕ, zero, suc, ◌+◌, ◌-◌, ◌<◌, ◌≤◌, Bool, true, false, List, [], ◌∷◌, ◌++◌, All, length, take, drop, map, slice_range, get_or, refl, sym, ap, ◌∙◌, arith, cond, nat_le, ⊎_elim, append_assoc}
-use Rattle.std.proofs.lemmas.Bool.{cases_lt}
-use Rattle.std.proofs.lemmas.List.{drop_more, length-append, length-drop, length-take-le, drop-take, drop-drop, take-append-drop, get_or_append_left}
-use Rattle.std.proofs.lemmas.List.Elements.{All-head, All-tail}
-use Rattle.std.proofs.Math.Seq.{get_or-append_seam}
-use Rattle.std.proofs.lemmas.List.Edits.{length-between}
-use Rattle.trac_space.specs.declared.cell.Cell.{Cell}
-use Rattle.trac_space.specs.declared.cell.Cell.TheVariants.{Byte, Call, Comma, Gap, Head}
-use Rattle.trac_space.specs.Cells.{seen, is_comma}
-use Rattle.trac_space.specs.Texts.{IsByte}
-use Rattle.trac_space.specs.Lists.{Lists, used, HasWay}
-use Rattle.trac_store.specs.Arguments.{before_comma, parts_at, parts_between, numbered_part, IsHeadAt, IsListed}
-use Rattle.trac_store.specs.Stored.{head_at}
+use Rattle.trac_store.proofs.Words.{◌≡◌, ℕ, zero, suc, ◌+◌, ◌-◌, ◌<◌, ◌≤◌, Bool, true, false, List, [], ◌∷◌, ◌++◌, All, length, take, drop, map, slice_range, get_or, refl, sym, ap, ◌∙◌, arith, cond, nat_le, ⊎_elim, append_assoc, cases_lt, drop_more, length-append, length-drop, length-take-le}
+use Rattle.trac_store.proofs.Words.{drop-take, drop-drop, take-append-drop, get_or_append_left, All-head, All-tail, get_or-append_seam, length-between, Cell, Byte, Call, Comma, Gap, Head, seen, is_comma, IsByte, Lists, used, HasWay, before_comma, parts_at, parts_between, numbered_part, IsHeadAt}
+use Rattle.trac_store.proofs.Words.{IsListed, head_at}
 use Rattle.trac_store.proofs.FlatLemmas.{part_of_longer}
 
 pub drop-part : (cells : List Cell) (at n end : ℕ) → at + n ≤ end → drop n (slice_range cells at end) ≡ slice_range cells (at + n) end

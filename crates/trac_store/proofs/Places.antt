@@ -1,18 +1,6 @@
 -- Where forms stand among the cells of a list of forms.
-use Rattle.std.proofs.Common.{◌≡◌, ℕ, suc, ◌+◌, ◌-◌, ◌<◌, ◌≤◌, List, [], ◌∷◌, ◌++◌, length, take, drop, map, slice_range, slice_get, set, Some, refl, sym, ap, ◌∙◌, arith}
-use Rattle.std.specs.List.{remove}
-use Rattle.std.proofs.Math.Seq.{drop-append-add}
-use Rattle.std.proofs.lemmas.List.{append_assoc, append-nil, length-append, length-map, take-append-drop, drop_more, take_more, take_at, drop_at, drop-drop, set_split, take-set, set-append_right}
-use Rattle.std.proofs.lemmas.List.Concat.{flat_map-append}
-use Rattle.trac_language.specs.Form.{Form}
-use Rattle.trac_language.specs.Store.{form_cells}
-use Rattle.trac_space.specs.declared.cell.Cell.{Cell}
-use Rattle.trac_space.specs.declared.cell.Cell.TheVariants.{Byte, Head}
-use Rattle.trac_space.specs.Lists.{Lists}
-use Rattle.trac_space.specs.Texts.{flat_text}
-use Rattle.trac_store.specs.FlatForms.{flat_item, flat_form, flat_forms}
-use Rattle.trac_store.specs.Forms.{form_at}
-use Rattle.trac_store.specs.Stored.{start_of, head_number, head_at}
+use Rattle.trac_store.proofs.Words.{◌≡◌, ℕ, suc, ◌+◌, ◌-◌, ◌<◌, ◌≤◌, List, [], ◌∷◌, ◌++◌, length, take, drop, map, slice_range, slice_get, set, Some, refl, sym, ap, ◌∙◌, arith, remove, drop-append-add, append_assoc, append-nil, length-append, length-map, take-append-drop, drop_more, take_more}
+use Rattle.trac_store.proofs.Words.{take_at, drop_at, drop-drop, set_split, take-set, set-append_right, flat_map-append, Form, form_cells, Cell, Byte, Head, Lists, flat_text, flat_item, flat_form, flat_forms, form_at, start_of, head_number, head_at}
 
 slice_get-append-add : (xs ys : List Cell) (n : ℕ) → slice_get (xs ++ ys) (length xs + n) ≡ slice_get ys n
 slice_get-append-add [] ys n = ap (slice_get ys) (omega arith)

@@ -1,21 +1,7 @@
 -- Forms that are marked, and then removed.
-use Rattle.std.proofs.Common.{◌≡◌, ◌<◌, ℕ, zero, suc, ◌+◌, ◌≤◌, Bool, true, false, List, [], ◌∷◌, length, map, set, slice_range, sym, ap, refl, ◌∙◌, subst, arith, ◌⊎◌, ⊎_elim}
-use Rattle.std.specs.Prelude.{if◌then◌else◌, filter, not, ◌||◌, ◌==◌}
-use Rattle.std.proofs.lemmas.List.{length-append, length-map, length-set, get_or-set_other}
-use Rattle.std.proofs.lemmas.List.Elements.{All-head, All-tail}
-use Rattle.trac_language.specs.Text.{Text}
-use Rattle.trac_language.specs.Form.{Form}
-use Rattle.trac_language.specs.Store.{is_named, NoneNamed, IsStore}
-use Rattle.trac_space.specs.declared.cell.Cell.{Cell}
-use Rattle.trac_space.specs.declared.cell.Cell.TheVariants.{Head}
-use Rattle.trac_space.specs.Lists.{Lists}
-use Rattle.trac_space.specs.Texts.{flat_text}
-use Rattle.trac_store.specs.FlatForms.{flat_form, flat_forms, flat_item}
-use Rattle.trac_store.specs.Forms.{form_at, IsNamedAt}
-use Rattle.trac_store.specs.Parts.{IsTextPart, part_text, part_texts}
-use Rattle.trac_store.specs.Arguments.{before_comma, parts_between, texts_between, AreParted}
-use Rattle.trac_store.specs.Stored.{IsPlace, forms_in, start_of}
-use Rattle.trac_store.specs.Removal.{is_among, without_all, mark, is_marked, marked, marked_if, with_marks, unmarked, HaveOwnNames, IsFormed, IsMarkedFrom}
+use Rattle.trac_store.proofs.Words.{◌≡◌, ◌<◌, ℕ, zero, suc, ◌+◌, ◌≤◌, Bool, true, false, List, [], ◌∷◌, length, map, set, slice_range, sym, ap, refl, ◌∙◌, subst, arith, ◌⊎◌, ⊎_elim, if◌then◌else◌, filter, not, ◌||◌, ◌==◌, length-append, length-map, length-set, get_or-set_other, All-head}
+use Rattle.trac_store.proofs.Words.{All-tail, Text, Form, is_named, NoneNamed, IsStore, Cell, Head, Lists, flat_text, flat_form, flat_forms, flat_item, form_at, IsNamedAt, IsTextPart, part_text, part_texts, before_comma, parts_between, texts_between, AreParted, IsPlace, forms_in, start_of}
+use Rattle.trac_store.proofs.Words.{is_among, without_all, mark, is_marked, marked, marked_if, with_marks, unmarked, HaveOwnNames, IsFormed, IsMarkedFrom}
 use Rattle.trac_store.proofs.FlatLemmas.{forms_in-flat}
 use Rattle.trac_store.proofs.Places.{stands, repointed, start_of-set}
 use Rattle.trac_store.proofs.Parted.{parts-first, part-fits}

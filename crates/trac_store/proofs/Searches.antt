@@ -1,19 +1,7 @@
 -- What a search over the cells of a body says of its items.
-use Rattle.std.proofs.Common.{◌≡◌, ℕ, ◌+◌, ◌<◌, ◌≤◌, ◌&&◌, ◌==◌, Bool, true, false, List, [], ◌∷◌, length, drop, map, get_or, Option, Some, None, MatchOption, ⊎_elim, refl, sym, ap, ◌∙◌, arith}
-use Rattle.std.proofs.lemmas.List.{get_or-map, length-map, drop-map}
-use Rattle.std.proofs.lemmas.Bool.{cases_eq, and_parts}
-use Rattle.trac_language.specs.declared.item.Item.{Item}
+use Rattle.trac_store.proofs.Words.{◌≡◌, ℕ, ◌+◌, ◌<◌, ◌≤◌, ◌&&◌, ◌==◌, Bool, true, false, List, [], ◌∷◌, length, drop, map, get_or, Option, Some, None, MatchOption, ⊎_elim, refl, sym, ap, ◌∙◌, arith, get_or-map, length-map, drop-map, cases_eq, and_parts, Item, Text, is_character, begins, Cell}
+use Rattle.trac_store.proofs.Words.{Byte, Call, Comma, Gap, Head, seen, character_of, is_byte_cell, byte_cell_at, flat_item, is_gap, gap_at, character_at, text_at, NonePasses, IsFirst, IsLast, is_gap_cell, gap_cell_at, text_cells_at, begins_cells}
 use Rattle.trac_language.specs.declared.item.Item.TheVariants as item
-use Rattle.trac_language.specs.Text.{Text}
-use Rattle.trac_language.specs.Form.{is_character}
-use Rattle.trac_language.specs.Segment.{begins}
-use Rattle.trac_space.specs.declared.cell.Cell.{Cell}
-use Rattle.trac_space.specs.declared.cell.Cell.TheVariants.{Byte, Call, Comma, Gap, Head}
-use Rattle.trac_space.specs.Cells.{seen}
-use Rattle.trac_space.specs.Texts.{character_of, is_byte_cell, byte_cell_at}
-use Rattle.trac_store.specs.FlatForms.{flat_item}
-use Rattle.trac_store.specs.Search.{is_gap, gap_at, character_at, text_at, NonePasses, IsFirst, IsLast}
-use Rattle.trac_store.specs.Gaps.{is_gap_cell, gap_cell_at, text_cells_at, begins_cells}
 use Rattle.trac_store.proofs.Gaps.{begins-map_seen, bytes-seen}
 
 -- another test that agrees gives the same places

@@ -1,19 +1,6 @@
 -- The cells of a segmented body.
-use Rattle.std.proofs.Common.{◌≡◌, ℕ, zero, suc, ◌+◌, ◌-◌, ◌<◌, Bool, true, false, List, [], ◌∷◌, ◌++◌, length, take, drop, map, set, refl, sym, ap, ◌∙◌, arith}
-use Rattle.std.specs.Prelude.{if◌then◌else◌}
-use Rattle.std.proofs.lemmas.List.{append_assoc, length-append, length-map, take_at, set-append_right}
-use Rattle.trac_language.specs.declared.item.Item.{Item}
-use Rattle.trac_language.specs.Text.{Text}
-use Rattle.trac_language.specs.Form.{Form}
-use Rattle.trac_language.specs.Segment.{begins, segment_after, segment}
-use Rattle.trac_space.specs.declared.cell.Cell.{Cell}
-use Rattle.trac_space.specs.declared.cell.Cell.TheVariants.{Byte, Gap, Head}
-use Rattle.trac_space.specs.Lists.{Lists}
-use Rattle.trac_space.specs.Texts.{flat_text}
-use Rattle.trac_store.specs.FlatForms.{flat_item, flat_form, flat_forms}
-use Rattle.trac_store.specs.Forms.{form_at}
-use Rattle.trac_store.specs.Gaps.{segment_cells, segmented_cells}
-use Rattle.trac_store.specs.Stored.{start_of}
+use Rattle.trac_store.proofs.Words.{◌≡◌, ℕ, zero, suc, ◌+◌, ◌-◌, ◌<◌, Bool, true, false, List, [], ◌∷◌, ◌++◌, length, take, drop, map, set, refl, sym, ap, ◌∙◌, arith, if◌then◌else◌, append_assoc, length-append, length-map, take_at, set-append_right, Item, Text, Form, begins, segment_after}
+use Rattle.trac_store.proofs.Words.{segment, Cell, Byte, Gap, Head, Lists, flat_text, flat_item, flat_form, flat_forms, form_at, segment_cells, segmented_cells, start_of}
 use Rattle.trac_store.proofs.Searches.{begins-flat}
 use Rattle.trac_store.proofs.Places.{Stands, flat-set}
 

@@ -1,18 +1,7 @@
 -- Lists of forms of distinct names.
-use Rattle.std.proofs.Common.{◌≡◌, ◌≢◌, ℕ, zero, suc, ◌+◌, ◌-◌, ◌<◌, ◌≤◌, Bool, true, false, List, [], ◌∷◌, ◌++◌, length, take, drop, set, slice_range, Option, Some, None, sym, ap, refl, ◌∙◌, subst, arith}
-use Rattle.std.specs.Prelude.{bytes_eq, if◌then◌else◌}
-use Rattle.std.specs.Option.{MatchOption}
-use Rattle.std.specs.List.{remove}
-use Rattle.std.proofs.lemmas.Bool.{both_ways, false_from_ne_true}
-use Rattle.std.proofs.lemmas.Slice.Eq.{bytes_eq-Decides}
-use Rattle.std.proofs.lemmas.List.{take_more, take_all, take-append-drop, drop_all, set_split, append-nil, get_or-drop, length-drop}
-use Rattle.std.proofs.lemmas.List.Sums.{sum_by-remove, sum_by-set, sum_by-cons}
-use Rattle.trac_language.specs.Text.{Text}
-use Rattle.trac_language.specs.Form.{Form, items_of}
-use Rattle.trac_language.specs.Store.{is_named, form_named, without, changed, defined, form_cells, cells, NoneNamed, IsStore}
-use Rattle.trac_store.specs.FlatForms.{flat_forms}
-use Rattle.trac_store.specs.Forms.{form_at, IsNamedAt}
-use Rattle.trac_store.specs.Stored.{IsFoundAt}
+use Rattle.trac_store.proofs.Words.{◌≡◌, ◌≢◌, ℕ, zero, suc, ◌+◌, ◌-◌, ◌<◌, ◌≤◌, Bool, true, false, List, [], ◌∷◌, ◌++◌, length, take, drop, set, slice_range, Option, Some, None, sym, ap, refl, ◌∙◌, subst, arith, bytes_eq, if◌then◌else◌, MatchOption, remove, both_ways, false_from_ne_true}
+use Rattle.trac_store.proofs.Words.{bytes_eq-Decides, take_more, take_all, take-append-drop, drop_all, set_split, append-nil, get_or-drop, length-drop, sum_by-remove, sum_by-set, sum_by-cons, Text, Form, items_of, is_named, form_named, without, changed, defined, form_cells, cells, NoneNamed}
+use Rattle.trac_store.proofs.Words.{IsStore, flat_forms, form_at, IsNamedAt, IsFoundAt}
 use Rattle.trac_store.proofs.FlatLemmas.{length-flat}
 
 pub NoneNamed-push : (name : Text) (forms : List Form) (form : Form) → NoneNamed name forms → form.name ≢ name → NoneNamed name (forms ++ form ∷ [])

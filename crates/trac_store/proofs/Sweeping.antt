@@ -1,23 +1,7 @@
 -- The store while the marked forms are taken out of it, in order.
-use Rattle.std.proofs.Common.{◌≡◌, ℕ, zero, suc, ◌+◌, ◌-◌, ◌<◌, ◌≤◌, true, false, List, [], ◌∷◌, ◌++◌, length, take, drop, map, slice_range, slice_get, sym, ap, refl, ◌∙◌, arith}
-use Rattle.std.specs.Prelude.{not}
-use Rattle.std.proofs.lemmas.List.{append_assoc, append-nil, take-append-drop, length-append, length-map, length-drop, length-take-le, length_push, take_more, take_at, drop_at, drop-drop, flat_map_more}
-use Rattle.std.proofs.lemmas.List.Concat.{flat_map-append}
-use Rattle.std.proofs.lemmas.List.Edits.{length-between}
-use Rattle.std.proofs.lemmas.Option.{slice_get_past}
-use Rattle.std.proofs.lemmas.Slice.{drop-append-drop}
-use Rattle.std.proofs.lemmas.List.Elements.{filter-append}
-use Rattle.std.proofs.lemmas.List.Folds.{drop_split}
-use Rattle.trac_language.specs.Form.{Form}
-use Rattle.trac_space.specs.declared.cell.Cell.{Cell}
-use Rattle.trac_space.specs.declared.cell.Cell.TheVariants.{Byte}
-use Rattle.trac_space.specs.Lists.{Lists}
-use Rattle.trac_space.specs.Texts.{flat_text}
-use Rattle.trac_space.proofs.Characters.{part-on}
-use Rattle.trac_store.specs.FlatForms.{flat_item, flat_form, flat_forms}
-use Rattle.trac_store.specs.Forms.{form_at}
-use Rattle.trac_store.specs.Removal.{IsMarkedFrom, is_marked, unmarked}
-use Rattle.trac_store.specs.Stored.{forms_in, start_of, head_number, head_at, IsPlace}
+use Rattle.trac_store.proofs.Words.{◌≡◌, ℕ, zero, suc, ◌+◌, ◌-◌, ◌<◌, ◌≤◌, true, false, List, [], ◌∷◌, ◌++◌, length, take, drop, map, slice_range, slice_get, sym, ap, refl, ◌∙◌, arith, not, append_assoc, append-nil, take-append-drop, length-append, length-map, length-drop, length-take-le}
+use Rattle.trac_store.proofs.Words.{length_push, take_more, take_at, drop_at, drop-drop, flat_map_more, flat_map-append, length-between, slice_get_past, drop-append-drop, filter-append, drop_split, Form, Cell, Byte, Lists, flat_text, part-on, flat_item, flat_form, flat_forms, form_at}
+use Rattle.trac_store.proofs.Words.{IsMarkedFrom, is_marked, unmarked, forms_in, start_of, head_number, head_at, IsPlace}
 use Rattle.trac_store.proofs.Places.{Stands, stands}
 
 -- of the first i forms, which end at `from`, those without a mark stand before the gap from a up to

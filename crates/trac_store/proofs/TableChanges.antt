@@ -1,13 +1,6 @@
 -- Changes of a table of forms.
-use Rattle.std.proofs.Common.{◌≡◌, ◌≢◌, ℕ, ◌+◌, ◌-◌, ◌*◌, ◌/◌, ◌<◌, ◌≤◌, false, List, length, set, sym, ap, ◌∙◌, arith, ⊎_elim, inl, inr, subst, ◌⊎◌}
-use Rattle.std.specs.Prelude.{bit_and}
-use Rattle.std.proofs.lemmas.Nat.{and_le_r}
-use Rattle.std.proofs.lemmas.Bool.{cases_lt}
-use Rattle.std.proofs.lemmas.List.{length-set, get_or-set_same, get_or-set_other}
-use Rattle.trac_language.specs.Text.{Text}
-use Rattle.trac_space.specs.declared.cell.Cell.{Cell}
-use Rattle.trac_space.specs.declared.cell.Cell.TheVariants.{Byte, Comma, Head}
-use Rattle.trac_store.specs.Index.{hash, quarter, slots, slot, cell_at, start_place, home_place, is_blank, IsReached, IsEntry, HasEntry, IsHeld, IsIndexBut, with_entry}
+use Rattle.trac_store.proofs.Words.{◌≡◌, ◌≢◌, ℕ, ◌+◌, ◌-◌, ◌*◌, ◌/◌, ◌<◌, ◌≤◌, false, List, length, set, sym, ap, ◌∙◌, arith, ⊎_elim, inl, inr, subst, ◌⊎◌, bit_and, and_le_r, cases_lt, length-set, get_or-set_same, get_or-set_other, Text, Cell, Byte, Comma, Head, hash, quarter, slots, slot}
+use Rattle.trac_store.proofs.Words.{cell_at, start_place, home_place, is_blank, IsReached, IsEntry, HasEntry, IsHeld, IsIndexBut, with_entry}
 
 pub same_or : (a b : ℕ) → (a ≡ b) ⊎ (a ≢ b)
 same_or a b =

@@ -1,16 +1,6 @@
 -- Borders of a text, and what a search by them keeps.
-use Rattle.std.proofs.Common.{◌≡◌, ℕ, zero, suc, ◌+◌, ◌-◌, ◌<◌, ◌≤◌, Bool, true, false, List, [], ◌∷◌, length, drop, map, get_or, Some, ⊎_elim, refl, sym, ap, subst, ◌∙◌, arith}
-use Rattle.std.proofs.lemmas.List.{length-map, length-drop, get_or-map, get_or-drop}
-use Rattle.std.proofs.lemmas.Bool.{cases_eq, cases_lt, false≢true, and_parts, and_from, eq-eqb, eqb-true}
-use Rattle.trac_space.specs.declared.cell.Cell.{Cell}
-use Rattle.trac_space.specs.declared.cell.Cell.TheVariants.{Byte, Call, Comma, Gap, Head}
-use Rattle.trac_space.specs.Cells.{seen}
-use Rattle.trac_space.specs.Texts.{character_of}
-use Rattle.trac_store.specs.Arguments.{IsHeadAt}
-use Rattle.trac_store.specs.Borders.{byte_at, IsBorder, IsLongestBorder, AreBorders, GoesOn, IsNextBorder}
-use Rattle.trac_store.specs.Gaps.{is_byte, begins_cells, text_cells_at}
-use Rattle.trac_store.specs.Search.{NonePasses, IsFirst}
-use Rattle.trac_store.specs.Stored.{head_number, head_at}
+use Rattle.trac_store.proofs.Words.{◌≡◌, ℕ, zero, suc, ◌+◌, ◌-◌, ◌<◌, ◌≤◌, Bool, true, false, List, [], ◌∷◌, length, drop, map, get_or, Some, ⊎_elim, refl, sym, ap, subst, ◌∙◌, arith, length-map, length-drop, get_or-map, get_or-drop, cases_eq, cases_lt, false≢true, and_parts, and_from, eq-eqb}
+use Rattle.trac_store.proofs.Words.{eqb-true, Cell, Byte, Call, Comma, Gap, Head, seen, character_of, IsHeadAt, byte_at, IsBorder, IsLongestBorder, AreBorders, GoesOn, IsNextBorder, is_byte, begins_cells, text_cells_at, NonePasses, IsFirst, head_number, head_at}
 use Rattle.trac_store.proofs.Gaps.{begins-few}
 use Rattle.trac_store.proofs.HeadCells.{number-at}
 

@@ -1,37 +1,13 @@
 //! Reading and writing through the buffers of the program's devices.
 ghost use Rattle.std.specs.Prelude.{◌≡◌, ◌≤◌, length};
 
+use crate::fakes::{FakeReader, FakeWriter};
 use crate::space::are_bytes;
 use std::alloc::Global;
-use std::io;
 use std::io::{Read, Write};
 use std::process::Abort;
 use std::test::Fail;
 use trac_core::{BufferedReader, BufferedWriter, Cell, Input, Next, Output, Sink, Source, Work};
-
-// A reader of a text that gives at most `most` bytes at a read, and fails at the read number
-// `fails_at`.
-#[derive(Drop)]
-struct FakeReader<'a> {
-    rest: &'a [u8],
-    most: usize,
-    reads: u32,
-    fails_at: u32,
-}
-
-impl Read for FakeReader<'_> {
-    fn read(&mut self, buf: &mut [u8]) -> io::Result<usize> {
-        self.reads = self.reads.saturating_add(1);
-        if self.reads == self.fails_at {
-            return Err(io::Error::from(io::ErrorKind::Other));
-        }
-        let n = self.most.min(self.rest.len()).min(buf.len());
-        let (given, rest) = self.rest.split_at(n);
-        buf[..n].copy_from_slice(given);
-        self.rest = rest;
-        Ok(n)
-    }
-}
 
 // The bytes 0, 1, .., 250, 0, 1, ..
 fn pattern(alloc: Global, len: usize) -> Result<Vec<u8>, Fail> {
@@ -40,31 +16,6 @@ fn pattern(alloc: Global, len: usize) -> Result<Vec<u8>, Fail> {
         text.push((i % 251) as u8)?;
     }
     Ok(text)
-}
-
-// A writer that takes at most `most` bytes at a write, and fails at the write number `fails_at`.
-#[derive(Drop)]
-struct FakeWriter<'a> {
-    taken: &'a mut Vec<u8>,
-    most: usize,
-    writes: u32,
-    fails_at: u32,
-}
-
-impl Write for FakeWriter<'_> {
-    fn write(&mut self, buf: &[u8]) -> io::Result<usize> {
-        self.writes = self.writes.saturating_add(1);
-        if self.writes == self.fails_at {
-            return Err(io::Error::from(io::ErrorKind::Other));
-        }
-        let n = self.most.min(buf.len());
-        self.taken.extend_from_slice(&buf[..n])?;
-        Ok(n)
-    }
-
-    fn flush(&mut self) -> io::Result<()> {
-        Ok(())
-    }
 }
 
 // Reads by `size` bytes to the end. A failure must come once, where the reader fails, and lose and
@@ -76,7 +27,7 @@ fn reads_all(
     reader: FakeReader<'_>,
     size: usize,
 ) -> Result<(), Fail> {
-    let fails = u32::from(reader.fails_at > 0);
+    let fails = u32::from(reader.bad_read > 0);
     let mut failures = 0u32;
     let mut buffered = BufferedReader::new(reader);
     let mut buf = vec![in alloc; 0u8; size]?;
@@ -108,12 +59,7 @@ fn reads_through_the_buffer(rt: HostRuntime) -> Result<(), Fail> {
     ];
     for (len, most, fails_at, size) in rows {
         let text = pattern(rt.alloc(), len)?;
-        let reader = FakeReader {
-            rest: &text,
-            most,
-            reads: 0,
-            fails_at,
-        };
+        let reader = FakeReader::new(&text, most, fails_at);
         reads_all(&rt, rt.alloc(), &text, reader, size)?;
     }
     Ok(())
@@ -131,12 +77,7 @@ fn writes_all(
 ) -> Result<(), Fail> {
     let mut taken = Vec::new(alloc);
     let mut failures = 0u32;
-    let mut buffered = BufferedWriter::new(FakeWriter {
-        taken: &mut taken,
-        most,
-        writes: 0,
-        fails_at,
-    });
+    let mut buffered = BufferedWriter::new(FakeWriter::new(&mut taken, most, fails_at));
     let mut rest = text;
     for _ in 0..30_000 {
         let part = &rest[..size.min(rest.len())];
@@ -179,12 +120,7 @@ fn writes_through_the_buffer(rt: HostRuntime) -> Result<(), Fail> {
 #[test]
 fn a_write_of_no_byte_is_a_failure(rt: HostRuntime) -> Result<(), Fail> {
     let mut taken = Vec::new(rt.alloc());
-    let mut buffered = BufferedWriter::new(FakeWriter {
-        taken: &mut taken,
-        most: 0,
-        writes: 0,
-        fails_at: 0,
-    });
+    let mut buffered = BufferedWriter::new(FakeWriter::new(&mut taken, 0, 0));
     assert!(rt; buffered.write(b"a").is_ok());
     assert!(rt; buffered.flush().is_err());
     assert!(rt; buffered.flush().is_err());
@@ -225,12 +161,7 @@ fn reads_in_runs(rt: HostRuntime) -> Result<(), Fail> {
     ];
     for (len, most, fails_at) in rows {
         let text = pattern(rt.alloc(), len)?;
-        let mut source = Input::new(FakeReader {
-            rest: &text,
-            most,
-            reads: 0,
-            fails_at,
-        });
+        let mut source = Input::new(FakeReader::new(&text, most, fails_at));
         let mut seen = Vec::new(rt.alloc());
         let mut block = [Cell::Comma; 100];
         takes(&rt, &mut source, &mut block, "");
@@ -254,12 +185,7 @@ fn reads_in_runs(rt: HostRuntime) -> Result<(), Fail> {
 
 #[test]
 fn takes_what_is_held(rt: HostRuntime) {
-    let mut source = Input::new(FakeReader {
-        rest: b"xabcde'fg",
-        most: usize::MAX,
-        reads: 0,
-        fails_at: 2,
-    });
+    let mut source = Input::new(FakeReader::new(b"xabcde'fg", usize::MAX, 2));
     let mut block = [Cell::Comma; 8];
     takes(&rt, &mut source, &mut block, "");
     assert_eq!(rt; source.next(), Next::Byte(b'x'));
@@ -283,12 +209,7 @@ fn writes_in_runs(rt: HostRuntime) -> Result<(), Fail> {
     }
     for (most, fails_at, kept) in [(5_000, 0, 20_000), (5_000, 2, 8_192)] {
         let mut taken = Vec::new(rt.alloc());
-        let mut sink = Output::new(FakeWriter {
-            taken: &mut taken,
-            most,
-            writes: 0,
-            fails_at,
-        });
+        let mut sink = Output::new(FakeWriter::new(&mut taken, most, fails_at));
         assert_eq!(rt; sink.put_all(&cells).is_ok(), fails_at == 0);
         assert_eq!(rt; sink.failures(), u64::from(fails_at > 0));
         assert!(rt; sink.flush().is_ok());

@@ -6,6 +6,8 @@
 #[cfg(test)]
 mod buffers;
 #[cfg(test)]
+mod fakes;
+#[cfg(test)]
 mod machine;
 #[cfg(test)]
 mod space;

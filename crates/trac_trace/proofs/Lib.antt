@@ -1,5 +1,6 @@
-pub mod Texts
-pub mod Failures
 pub mod Command
-pub mod Shows
+pub mod Failures
 pub mod LargestTold
+pub mod Shows
+pub mod Texts
+mod Words

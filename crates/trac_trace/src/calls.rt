@@ -10,7 +10,7 @@ use trac_core::Cell;
 use trac_space::Mode;
 
 /// What is odd about a call.
-#[derive(Clone, Copy, Debug, PartialEq, Eq)]
+#[derive(Clone, Copy)]
 pub enum Oddity {
     /// No function has its name.
     NoFunction,

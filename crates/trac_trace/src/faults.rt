@@ -191,7 +191,7 @@ fn until_call(cells: &[Cell]) -> usize
 }
 
 /// The cells that each part of a block holds.
-#[derive(Clone, Copy, Debug, PartialEq, Eq)]
+#[derive(Clone, Copy)]
 pub struct Parts {
     pub forms: u64,
     pub neutral: u64,

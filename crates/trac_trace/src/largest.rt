@@ -13,7 +13,7 @@ use trac_core::{Forms, Machine, StoredForm};
 const MOST_FORMS: u32 = 5;
 
 /// A form by its cells and its place among the forms, from 0.
-#[derive(Clone, Copy, Debug, PartialEq, Eq)]
+#[derive(Clone, Copy)]
 pub struct SizedForm {
     pub cells: u64,
     pub place: u64,

@@ -24,7 +24,7 @@ const DIGITS: &[u8; 16] = b"0123456789abcdef";
 const BLANKS: &[u8; 6] = b"      ";
 
 /// A step that was done.
-#[derive(Clone, Copy, Debug, PartialEq, Eq)]
+#[derive(Clone, Copy)]
 pub struct Step {
     /// Its number, from 1.
     pub number: u64,

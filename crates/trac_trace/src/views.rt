@@ -2,7 +2,7 @@
 ghost use Rattle.std.specs.Prelude.{◌≡◌, ◌&&◌, ◌+◌, ◌-◌, ◌^◌, max, min, nat_le, false};
 ghost use Rattle.trac_trace.specs.Told.{has_steps};
 
-use trac_words::{MOST_STEPS, Settings};
+use trac_words::Settings;
 
 /// The most steps before the end that `--last` can show, this processor's own choice.
 pub const MOST_LAST: u64 = 1_000_000;
@@ -10,7 +10,7 @@ pub const MOST_LAST: u64 = 1_000_000;
 pub const MOST_WIDTH: u32 = 16_777_216;
 
 /// The views of a run, and the steps that they are of. All of it is this processor's own choice.
-#[derive(Clone, Copy, Debug, PartialEq, Eq)]
+#[derive(Clone, Copy)]
 pub struct Views {
     /// The first step that is shown, from 1.
     pub from: u64,
@@ -29,36 +29,13 @@ pub struct Views {
 }
 
 /// What the words of the program give: the settings of the run, and what is shown of it.
-#[derive(Clone, Copy, Debug, PartialEq, Eq)]
+#[derive(Clone, Copy)]
 pub struct Options {
     pub settings: Settings,
     pub views: Views,
 }
 
 impl Views {
-    /// The steps alone, all of them: what is shown where the words don't say.
-    pub fn steps_alone() -> Views
-        ensures { result ≡ record {
-          from = 1;
-          to = 1000000000000;
-          last = 0;
-          width = 100;
-          calls = false;
-          forms = false;
-          warn = false;
-        } }
-    {
-        Views {
-            from: 1,
-            to: MOST_STEPS,
-            last: 0,
-            width: 100,
-            calls: false,
-            forms: false,
-            warn: false,
-        }
-    }
-
     /// Whether the steps themselves are shown: where no other view is asked for.
     pub fn has_steps(&self) -> bool
         ensures { result ≡ has_steps self.now }

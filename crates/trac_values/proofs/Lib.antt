@@ -1,9 +1,10 @@
-pub mod LongNumbers
 pub mod DigitBits
 pub mod DigitsFromEnd
+pub mod LongNumbers
 pub mod OctalDigits
 pub mod Shifts
 pub mod SuffixCells
 pub mod Suffixes
 pub mod TailNumbers
 pub mod Texts
+mod Words

@@ -1,15 +1,6 @@
 -- Shifts and rotations of lists of bits, digit by digit.
-use Rattle.std.proofs.Common.{◌≡◌, ℕ, suc, ◌+◌, ◌-◌, ◌*◌, ◌/◌, ◌%◌, ◌<◌, ◌≤◌, Bool, false, length, min, get_or, ℤ, pos, negsuc, neg_ℤ, Some, None, refl, sym, ap, ◌∙◌, arith, ⊎_elim}
-use Rattle.std.specs.Prelude.{◌+ℤ◌, slice_get, int_lt, unsigned_abs}
-use Rattle.std.specs.Int.{int_rem_euclid}
-use Rattle.std.proofs.Math.Nat.{add-mod-mod, add-mod_left, mod-eq_of_lt}
-use Rattle.std.proofs.lemmas.Nat.{mod_below, div-add-mod'}
-use Rattle.std.proofs.lemmas.Int.{ints, int_rem_euclid_is}
-use Rattle.std.proofs.lemmas.Bool.{cases_lt, le-ltb}
-use Rattle.std.proofs.lemmas.List.{ext_get_or, get_or_past}
-use Rattle.std.proofs.lemmas.List.FromFn.{get_or-map-range_with_len, length-map-range_with_len}
-use Rattle.trac_language.specs.BitString.{Bits, octal_digit, octal, bits_by, bit_at, shifted, rotated}
-use Rattle.trac_values.specs.Digits.{signed}
+use Rattle.trac_values.proofs.Words.{◌≡◌, ℕ, suc, ◌+◌, ◌-◌, ◌*◌, ◌/◌, ◌%◌, ◌<◌, ◌≤◌, Bool, false, length, min, get_or, ℤ, pos, negsuc, neg_ℤ, Some, None, refl, sym, ap, ◌∙◌, arith, ⊎_elim, ◌+ℤ◌, slice_get, int_lt, unsigned_abs, int_rem_euclid, add-mod-mod, add-mod_left, mod-eq_of_lt, mod_below}
+use Rattle.trac_values.proofs.Words.{div-add-mod', ints, int_rem_euclid_is, cases_lt, le-ltb, ext_get_or, get_or_past, get_or-map-range_with_len, length-map-range_with_len, Bits, octal_digit, octal, bits_by, bit_at, shifted, rotated, signed}
 use Rattle.trac_values.proofs.DigitBits.{digit_of_bits, no_digit}
 
 module _ (f : ℕ → Bool) (n : ℕ) where

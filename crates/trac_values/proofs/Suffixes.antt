@@ -1,15 +1,6 @@
 -- The longest suffix of characters that pass a test, found from the end.
-use Rattle.std.proofs.Common.{◌≡◌, ℕ, ◌+◌, ◌-◌, ◌*◌, ◌<◌, ◌≤◌, Bool, true, false, List, length, take, get_or, sym, ap, ◌∙◌, arith}
-use Rattle.std.specs.List.{suffix_len}
-use Rattle.std.specs.Char.{is_ascii_digit, digit_value}
-use Rattle.std.specs.Str.Parse.{digits_value}
-use Rattle.std.proofs.lemmas.Bool.Decides.{nat_tests}
-use Rattle.std.proofs.lemmas.Int.Digits.{digits_value_more}
-use Rattle.std.proofs.lemmas.List.{length-take, length-map, get_or-map}
-use Rattle.std.proofs.lemmas.List.Sums.{suffix_len-take_yes, suffix_len-take_no}
-use Rattle.trac_space.specs.declared.cell.Cell.{Cell}
-use Rattle.trac_space.specs.Texts.{character_of, text_of_cells}
-use Rattle.trac_values.specs.Digits.{value_upto}
+use Rattle.trac_values.proofs.Words.{◌≡◌, ℕ, ◌+◌, ◌-◌, ◌*◌, ◌<◌, ◌≤◌, Bool, true, false, List, length, take, get_or, sym, ap, ◌∙◌, arith, suffix_len, is_ascii_digit, digit_value, digits_value, nat_tests, digits_value_more, length-take, length-map, get_or-map, suffix_len-take_yes}
+use Rattle.trac_values.proofs.Words.{suffix_len-take_no, Cell, character_of, text_of_cells, value_upto}
 
 module _ (p : ℕ → Bool) (cells : List Cell) where
   -- the character of a cell

@@ -1,13 +1,6 @@
 -- What a text's number and prefix are, told by where its digits begin.
-use Rattle.std.proofs.Common.{◌≡◌, ℕ, ◌+◌, ◌-◌, ◌<◌, true, List, length, drop, get_or, sym, ap, ◌∙◌, arith, reverse}
-use Rattle.std.specs.List.{suffix_len}
-use Rattle.std.specs.Char.{is_ascii_digit}
-use Rattle.std.proofs.lemmas.List.{length-take, length-drop, get_or-drop, get_or-reverse, drop-map}
-use Rattle.std.proofs.lemmas.List.Sums.{prefix_len_passes, suffix_len-le-length}
-use Rattle.trac_language.specs.Text.{Text}
-use Rattle.trac_language.specs.Number.{digits, before_digits}
-use Rattle.trac_space.specs.declared.cell.Cell.{Cell}
-use Rattle.trac_space.specs.Texts.{character_of, text_of_cells}
+use Rattle.trac_values.proofs.Words.{◌≡◌, ℕ, ◌+◌, ◌-◌, ◌<◌, true, List, length, drop, get_or, sym, ap, ◌∙◌, arith, reverse, suffix_len, is_ascii_digit, length-take, length-drop, get_or-drop, get_or-reverse, drop-map, prefix_len_passes, suffix_len-le-length, Text, digits, before_digits, Cell}
+use Rattle.trac_values.proofs.Words.{character_of, text_of_cells}
 
 length-before_digits : (t : Text) → length (before_digits t) ≡ length t - suffix_len is_ascii_digit t
 length-before_digits t = omega (arith, length-take (length t - suffix_len is_ascii_digit t) t)

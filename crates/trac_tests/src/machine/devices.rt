@@ -2,6 +2,7 @@
 ghost use Rattle.std.specs.Prelude.{◌≡◌, ◌+◌, ◌-◌, ◌<◌, [], false, ⊤};
 
 use super::{AMPLE, Faults, HELLO, MANY, NO_FAULTS, SHOWN, came_to, faulty};
+use crate::fakes::{FakeReader, FakeWriter};
 use crate::space::are_bytes;
 use std::io;
 use std::io::{ErrorKind, Read, Write};
@@ -123,51 +124,6 @@ impl Sink for FakeSink {
 
     fn failures(&self) -> u64 {
         self.failures
-    }
-}
-
-/// A reader of a text whose read of this number, counted from 1, fails.
-#[derive(Drop)]
-struct FakeReader<'a> {
-    text: &'a [u8],
-    reads: u32,
-    bad_read: u32,
-}
-
-impl Read for FakeReader<'_> {
-    fn read(&mut self, buf: &mut [u8]) -> io::Result<usize> {
-        self.reads = self.reads.saturating_add(1);
-        if self.reads == self.bad_read {
-            return Err(io::Error::from(io::ErrorKind::Other));
-        }
-        let n = self.text.len().min(buf.len());
-        let (given, rest) = self.text.split_at(n);
-        buf[..n].copy_from_slice(given);
-        self.text = rest;
-        Ok(n)
-    }
-}
-
-/// A writer whose write of this number, counted from 1, fails.
-#[derive(Drop)]
-struct FakeWriter<'a> {
-    taken: &'a mut Vec<u8>,
-    writes: u32,
-    bad_write: u32,
-}
-
-impl Write for FakeWriter<'_> {
-    fn write(&mut self, buf: &[u8]) -> io::Result<usize> {
-        self.writes = self.writes.saturating_add(1);
-        if self.writes == self.bad_write {
-            return Err(io::Error::from(io::ErrorKind::Other));
-        }
-        self.taken.extend_from_slice(buf)?;
-        Ok(buf.len())
-    }
-
-    fn flush(&mut self) -> io::Result<()> {
-        Ok(())
     }
 }
 
@@ -306,11 +262,7 @@ fn bytes_that_are_not_held(rt: HostRuntime) {
     takes_nothing(&rt, &mut source);
     assert_eq!(rt; source.calls, 0);
     assert_eq!(rt; source.next(), Next::Byte(b'a'));
-    let mut reader = ReadSource::new(FakeReader {
-        text: b"abc",
-        reads: 0,
-        bad_read: 0,
-    });
+    let mut reader = ReadSource::new(FakeReader::new(b"abc", usize::MAX, 0));
     takes_nothing(&rt, &mut reader);
     assert_eq!(rt; reader.next(), Next::Byte(b'a'));
 }
@@ -521,16 +473,8 @@ fn ended_runs_stay_ended(rt: HostRuntime) {
 /// Runs over a reader and a writer, of which one may fail.
 fn piped(rt: &impl Abort, taken: &mut Vec<u8>, bad_read: u32, bad_write: u32) -> Report {
     let mut block = [Cell::Byte(0); AMPLE];
-    let mut source = ReadSource::new(FakeReader {
-        text: HELLO.as_bytes(),
-        reads: 0,
-        bad_read,
-    });
-    let mut sink = WriteSink::new(FakeWriter {
-        taken,
-        writes: 0,
-        bad_write,
-    });
+    let mut source = ReadSource::new(FakeReader::new(HELLO.as_bytes(), usize::MAX, bad_read));
+    let mut sink = WriteSink::new(FakeWriter::new(taken, usize::MAX, bad_write));
     let report = Machine::over(&mut block, MANY).run(&mut source, &mut sink);
     assert_eq!(rt;
         source.failures(),
@@ -667,11 +611,7 @@ fn interruptions_without_end(rt: HostRuntime) -> Result<(), Fail> {
 
 #[test]
 fn other_errors_are_not_tried_again(rt: HostRuntime) {
-    let mut reader = RetryingReader::new(FakeReader {
-        text: b"a",
-        reads: 0,
-        bad_read: 1,
-    });
+    let mut reader = RetryingReader::new(FakeReader::new(b"a", usize::MAX, 1));
     let read = reader.read(&mut [0]);
     assert_eq!(rt;
         read.err().map(|error| error.kind()),

@@ -1,7 +1,4 @@
-use Rattle.std.proofs.Common.{◌-◌, ◌++◌, length, take, drop, sym, ap, subst, ◌∙◌, arith, length-take}
-use lib.Seq.{take-add, take-take}
-use Rattle.std.specs.Io.KnownBytes.{Appends}
-use Rattle.std.proofs.KnownBytes.{Appends-trans}
+use Rattle.trac_devices.proofs.Words.{◌-◌, ◌++◌, length, take, drop, sym, ap, subst, ◌∙◌, arith, length-take, take-add, take-take, Appends, Appends-trans}
 use Rattle.trac_devices.proofs.buffered.write_until_failure.Goals as goal
 
 pub loop-written-preserved : goal.loop-written-preserved

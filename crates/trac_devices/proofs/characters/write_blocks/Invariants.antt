@@ -1,5 +1,4 @@
-use Rattle.std.proofs.Common.{◌≤◌, ◌-◌, ◌+◌, length}
-use Rattle.trac_devices.specs.Characters.{AreWritten}
+use Rattle.trac_devices.proofs.Words.{◌≤◌, ◌-◌, ◌+◌, length, AreWritten}
 use Rattle.trac_devices.proofs.characters.write_blocks.Given as goal
 
 -- the characters so far are written

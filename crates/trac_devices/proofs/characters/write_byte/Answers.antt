@@ -1,8 +1,4 @@
-use Rattle.std.proofs.Common.{ℕ, ◌+◌, ◌≤◌, ◌<◌, List, All, length, take, drop, get_or, ◌∙◌, subst, arith}
-use Rattle.std.proofs.lemmas.List.{get_or-take, get_or-drop, length-take-le, length-drop}
-use Rattle.trac_space.specs.declared.cell.Cell.{Cell}
-use Rattle.trac_space.specs.declared.cell.Cell.TheVariants.{Byte}
-use Rattle.trac_space.specs.Texts.{IsByte}
+use Rattle.trac_devices.proofs.Words.{ℕ, ◌+◌, ◌≤◌, ◌<◌, List, All, length, take, drop, get_or, ◌∙◌, subst, arith, get_or-take, get_or-drop, length-take-le, length-drop, Cell, Byte, IsByte}
 use Rattle.trac_devices.proofs.characters.write_byte.Goals as goal
 
 -- a cell of a block of characters is one

@@ -1,5 +1,4 @@
-use Rattle.std.proofs.Common.{◌≡◌, length}
-use Rattle.std.specs.Io.KnownBytes.{Keeps}
+use Rattle.trac_devices.proofs.Words.{◌≡◌, length, Keeps}
 use Rattle.trac_devices.proofs.retrying.read_again.Given as goal
 
 -- the buffer keeps its length, and an interrupted read consumed nothing

@@ -1,5 +1,4 @@
-use Rattle.std.proofs.Common.{◌∙◌, ◌-◌, ◌+◌, ap}
-use Rattle.trac_events.specs.Calls.{argument_of}
+use Rattle.trac_events.proofs.Words.{◌∙◌, ◌-◌, ◌+◌, ap, argument_of}
 use Rattle.trac_events.proofs.NextArgument.{next_argument}
 use Rattle.trac_events.proofs.call.argument.Goals as goal
 

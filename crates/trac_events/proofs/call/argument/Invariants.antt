@@ -1,5 +1,4 @@
-use Rattle.std.proofs.Common.{◌≡◌, ◌-◌}
-use Rattle.trac_events.specs.Calls.{argument_of}
+use Rattle.trac_events.proofs.Words.{◌≡◌, ◌-◌, argument_of}
 use Rattle.trac_events.proofs.call.argument.Given as goal
 
 -- the argument wanted is that many commas on

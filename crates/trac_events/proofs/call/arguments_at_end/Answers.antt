@@ -1,4 +1,4 @@
-use Rattle.std.proofs.Common.{◌-◌, ◌+◌}
+use Rattle.trac_events.proofs.Words.{◌-◌, ◌+◌}
 use Rattle.trac_events.proofs.LastMarks.{last_call, taken_whole}
 use Rattle.trac_events.proofs.call.arguments_at_end.Goals as goal
 

@@ -1,5 +1,4 @@
-use Rattle.std.proofs.Common.{drop}
-use Rattle.trac_space.specs.Cells.{NoCall}
+use Rattle.trac_events.proofs.Words.{drop, NoCall}
 use Rattle.trac_events.proofs.call.arguments_at_end.Given as goal
 
 -- no call mark stands among the cells so far, from the last one on

@@ -1,6 +1,4 @@
-use Rattle.std.proofs.Common.{◌≡◌, ◌+◌, drop}
-use Rattle.std.specs.List.{position_or_len}
-use Rattle.trac_space.specs.Cells.{is_comma}
+use Rattle.trac_events.proofs.Words.{◌≡◌, ◌+◌, drop, position_or_len, is_comma}
 use Rattle.trac_events.proofs.call.before_comma.Given as goal
 
 -- no comma mark stands among the cells so far

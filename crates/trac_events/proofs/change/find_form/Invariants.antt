@@ -1,6 +1,4 @@
-use Rattle.std.proofs.Common.{◌≡◌}
-use Rattle.trac_language.specs.Store.{form_named}
-use Rattle.trac_space.specs.Texts.{text_of_cells}
+use Rattle.trac_events.proofs.Words.{◌≡◌, form_named, text_of_cells}
 use Rattle.trac_events.proofs.change.find_form.Given as goal
 
 -- no form so far has the name

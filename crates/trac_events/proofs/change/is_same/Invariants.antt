@@ -1,6 +1,4 @@
-use Rattle.std.proofs.Common.{◌≡◌, drop}
-use Rattle.trac_space.specs.Texts.{text_of_cells}
-use Rattle.trac_events.specs.Changes.{is_same}
+use Rattle.trac_events.proofs.Words.{◌≡◌, drop, text_of_cells, is_same}
 use Rattle.trac_events.proofs.change.is_same.Given as goal
 
 -- what is left of both is the same where they are

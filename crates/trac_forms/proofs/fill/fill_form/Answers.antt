@@ -1,5 +1,4 @@
-use Rattle.std.proofs.Common.{arith}
-use Rattle.trac_store.proofs.Filling.{AreItems, items}
+use Rattle.trac_forms.proofs.Words.{arith, AreItems, items}
 use Rattle.trac_forms.proofs.fill.fill_form.Goals as goal
 use Rattle.trac_forms.proofs.fill.fill_form.Goals.{After-heads_of-name}
 

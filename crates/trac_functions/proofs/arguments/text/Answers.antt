@@ -1,5 +1,4 @@
-use Rattle.std.proofs.Common.{sym, ap, ◌∙◌, subst, All}
-use Rattle.trac_space.specs.Texts.{text_of_cells, IsByte}
+use Rattle.trac_functions.proofs.Words.{sym, ap, ◌∙◌, subst, All, text_of_cells, IsByte}
 use Rattle.trac_functions.proofs.ArgumentLemmas.{text_of_cells-seen, bytes-seen, within-room}
 use Rattle.trac_functions.proofs.arguments.text.Goals as goal
 

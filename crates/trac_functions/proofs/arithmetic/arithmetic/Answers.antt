@@ -1,12 +1,5 @@
-use Rattle.std.proofs.Common.{◌≡◌, ◌∷◌, ◌+◌, ◌++◌, false, true, Some, None, sym, ap, ◌∙◌, refl, arith, length}
-use Rattle.std.specs.Fmt.{signed_decimal}
-use Rattle.trac_language.specs.declared.function.Function.TheVariants.{Arithmetic}
-use Rattle.trac_language.specs.Number.{number, prefix, arith as result_of_arith, if_in_range}
-use Rattle.trac_language.specs.State.{argument}
-use Rattle.trac_language.specs.Meaning.{result_or, forced, valued, meaning_of}
-use Rattle.trac_values.specs.Cells.{number_in}
-use Rattle.trac_forms.specs.Contents.{part_text}
-use Rattle.trac_functions.specs.Calls.{world, texts}
+use Rattle.trac_functions.proofs.Words.{◌≡◌, ◌∷◌, ◌+◌, ◌++◌, false, true, Some, None, sym, ap, ◌∙◌, refl, arith, length, signed_decimal, Arithmetic, number, prefix, if_in_range, argument, result_or, forced, valued, meaning_of, number_in, part_text, world, texts}
+use Rattle.trac_language.specs.Number.{arith as result_of_arith}
 use Rattle.trac_functions.proofs.MadeValues.{valued-of}
 use Rattle.trac_functions.proofs.Ranges.{arith-passed, ranged}
 use Rattle.trac_functions.proofs.Fronts.{prefix-front, inside, front-part, front-text}

@@ -1,5 +1,4 @@
-use Rattle.std.proofs.Common.{◌∙◌, pos}
-use Rattle.trac_values.specs.Digits.{signed}
+use Rattle.trac_functions.proofs.Words.{◌∙◌, pos, signed}
 use Rattle.trac_functions.proofs.BitResults.{union-digits, intersection-digits, complement-digits, shift-digits, rotation-digits}
 use Rattle.trac_functions.proofs.bit_strings.digits_made.Goals as goal
 

@@ -1,7 +1,4 @@
-use Rattle.std.proofs.Common.{length, ap, ◌∙◌}
-use Rattle.std.specs.Prelude.{flat_map}
-use Rattle.trac_language.specs.BitString.{octal_prefix, bits_of_digit}
-use Rattle.trac_forms.specs.Contents.{part_text}
+use Rattle.trac_functions.proofs.Words.{length, ap, ◌∙◌, flat_map, octal_prefix, bits_of_digit, part_text}
 use Rattle.trac_functions.proofs.Fronts.{octal_prefix-front, inside, front-part, front-text}
 use Rattle.trac_functions.proofs.DigitParts.{part_is_octal, digits_of_part}
 use Rattle.trac_functions.proofs.bit_strings.digits_of.Goals as goal

@@ -1,8 +1,4 @@
-use Rattle.std.proofs.Common.{◌+◌, ◌≤◌, ◌++◌, false, length, arith}
-use Rattle.std.proofs.lemmas.Bool.{OnTrue_at}
-use Rattle.trac_language.specs.BitString.{octal}
-use Rattle.trac_forms.specs.Contents.{used, part_text}
-use Rattle.trac_functions.specs.BitResults.{bits_made}
+use Rattle.trac_functions.proofs.Words.{◌+◌, ◌≤◌, ◌++◌, false, length, arith, OnTrue_at, octal, used, part_text, bits_made}
 use Rattle.trac_functions.proofs.Fronts.{length-part_text}
 use Rattle.trac_functions.proofs.PutCharacters.{stands-behind}
 use Rattle.trac_functions.proofs.BitResults.{made-within, behind-all}

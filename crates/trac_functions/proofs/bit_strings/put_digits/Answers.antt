@@ -1,9 +1,4 @@
-use Rattle.std.proofs.Common.{◌≡◌, ◌<◌, length, take, Some, sym, ap, ◌∙◌, arith}
-use Rattle.std.specs.Prelude.{slice_get}
-use Rattle.std.proofs.lemmas.Bool.{OnTrue_at}
-use Rattle.std.proofs.lemmas.Option.{none-some, slice_get-get_or}
-use Rattle.trac_language.specs.BitString.{octal}
-use Rattle.trac_functions.specs.BitResults.{bits_made}
+use Rattle.trac_functions.proofs.Words.{◌≡◌, ◌<◌, length, take, Some, sym, ap, ◌∙◌, arith, slice_get, OnTrue_at, none-some, slice_get-get_or, octal, bits_made}
 use Rattle.trac_functions.proofs.PutCharacters.{with-more, fits-more}
 use Rattle.trac_functions.proofs.BitResults.{behind-made}
 use Rattle.trac_functions.proofs.bit_strings.put_digits.Goals as goal

@@ -1,8 +1,4 @@
-use Rattle.std.proofs.Common.{◌≡◌, ◌++◌, take}
-use Rattle.trac_language.specs.BitString.{octal}
-use Rattle.trac_space.specs.Texts.{flat_text}
-use Rattle.trac_forms.specs.Contents.{IsSound}
-use Rattle.trac_functions.specs.BitResults.{bits_made}
+use Rattle.trac_functions.proofs.Words.{◌≡◌, ◌++◌, take, octal, flat_text, IsSound, bits_made}
 use Rattle.trac_functions.proofs.bit_strings.put_digits.Given as goal
 
 -- the first digits stand at the end

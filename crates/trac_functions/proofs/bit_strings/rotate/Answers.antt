@@ -1,13 +1,4 @@
-use Rattle.std.proofs.Common.{◌≡◌, ◌∷◌, max, false, length, ap, ◌∙◌, refl, arith, pos}
-use Rattle.trac_language.specs.declared.function.Function.TheVariants.{Rotate}
-use Rattle.trac_language.specs.Number.{number}
-use Rattle.trac_language.specs.BitString.{bits, octal_prefix, rotated}
-use Rattle.trac_language.specs.State.{argument}
-use Rattle.trac_language.specs.Meaning.{meaning_of}
-use Rattle.trac_space.specs.Texts.{text_of_cells}
-use Rattle.trac_forms.specs.Contents.{part_text}
-use Rattle.trac_functions.specs.BitResults.{bits_at}
-use Rattle.trac_functions.specs.Calls.{world, texts}
+use Rattle.trac_functions.proofs.Words.{◌≡◌, ◌∷◌, max, false, length, ap, ◌∙◌, refl, arith, pos, Rotate, number, bits, octal_prefix, rotated, argument, meaning_of, text_of_cells, part_text, bits_at, world, texts}
 use Rattle.trac_functions.proofs.MadeValues.{valued-of}
 use Rattle.trac_functions.proofs.BitResults.{bits-means, length-at, rotation-any}
 use Rattle.trac_functions.proofs.bit_strings.rotate.Goals as goal

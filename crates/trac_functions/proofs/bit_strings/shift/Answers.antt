@@ -1,15 +1,4 @@
-use Rattle.std.proofs.Common.{◌≡◌, ◌∷◌, ◌≤◌, false, length, ap, ◌∙◌, refl, arith}
-use Rattle.trac_language.specs.declared.function.Function.TheVariants.{Shift}
-use Rattle.trac_language.specs.Number.{number}
-use Rattle.trac_language.specs.BitString.{bits, octal_prefix, shifted}
-use Rattle.trac_language.specs.State.{argument}
-use Rattle.trac_language.specs.Meaning.{meaning_of}
-use Rattle.trac_space.specs.Texts.{text_of_cells}
-use Rattle.trac_values.specs.Digits.{signed}
-use Rattle.trac_values.proofs.Shifts.{shift_same}
-use Rattle.trac_forms.specs.Contents.{part_text}
-use Rattle.trac_functions.specs.BitResults.{bits_at}
-use Rattle.trac_functions.specs.Calls.{world, texts}
+use Rattle.trac_functions.proofs.Words.{◌≡◌, ◌∷◌, ◌≤◌, false, length, ap, ◌∙◌, refl, arith, Shift, number, bits, octal_prefix, shifted, argument, meaning_of, text_of_cells, signed, shift_same, part_text, bits_at, world, texts}
 use Rattle.trac_functions.proofs.MadeValues.{valued-of}
 use Rattle.trac_functions.proofs.BitResults.{bits-means, length-at}
 use Rattle.trac_functions.proofs.bit_strings.shift.Goals as goal

@@ -1,11 +1,4 @@
-use Rattle.std.proofs.Common.{◌≡◌, ◌∷◌, false, ap, ◌∙◌, refl}
-use Rattle.trac_language.specs.declared.function.Function.TheVariants.{Union}
-use Rattle.trac_language.specs.BitString.{bits, octal_prefix, union}
-use Rattle.trac_language.specs.State.{argument}
-use Rattle.trac_language.specs.Meaning.{meaning_of}
-use Rattle.trac_forms.specs.Contents.{part_text}
-use Rattle.trac_functions.specs.BitResults.{bits_at}
-use Rattle.trac_functions.specs.Calls.{world, texts}
+use Rattle.trac_functions.proofs.Words.{◌≡◌, ◌∷◌, false, ap, ◌∙◌, refl, Union, bits, octal_prefix, union, argument, meaning_of, part_text, bits_at, world, texts}
 use Rattle.trac_functions.proofs.MadeValues.{valued-of}
 use Rattle.trac_functions.proofs.BitResults.{bits-means}
 use Rattle.trac_functions.proofs.bit_strings.union.Goals as goal

@@ -1,11 +1,4 @@
-use Rattle.std.proofs.Common.{◌∷◌, false, ap, ◌∙◌, refl}
-use Rattle.std.specs.Prelude.{bytes_eq}
-use Rattle.trac_language.specs.declared.function.Function.TheVariants.{Equal}
-use Rattle.trac_language.specs.State.{argument}
-use Rattle.trac_language.specs.Meaning.{valued, meaning_of}
-use Rattle.trac_space.specs.Texts.{text_of_cells}
-use Rattle.trac_forms.specs.Contents.{part_text}
-use Rattle.trac_functions.specs.Calls.{world, texts}
+use Rattle.trac_functions.proofs.Words.{◌∷◌, false, ap, ◌∙◌, refl, bytes_eq, Equal, argument, valued, meaning_of, text_of_cells, part_text, world, texts}
 use Rattle.trac_functions.proofs.MadeValues.{valued-of, same-test, chosen}
 use Rattle.trac_functions.proofs.comparing.equal.Goals as goal
 use Rattle.trac_functions.proofs.comparing.equal.Goals.{then-equal, else-equal}

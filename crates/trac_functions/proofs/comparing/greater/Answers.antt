@@ -1,12 +1,4 @@
-use Rattle.std.proofs.Common.{◌∷◌, false, ap, ◌∙◌, refl}
-use Rattle.std.specs.Prelude.{int_lt}
-use Rattle.trac_language.specs.declared.function.Function.TheVariants.{Greater}
-use Rattle.trac_language.specs.State.{argument}
-use Rattle.trac_language.specs.Meaning.{valued, meaning_of}
-use Rattle.trac_language.specs.Number.{number}
-use Rattle.trac_space.specs.Texts.{text_of_cells}
-use Rattle.trac_forms.specs.Contents.{part_text}
-use Rattle.trac_functions.specs.Calls.{world, texts}
+use Rattle.trac_functions.proofs.Words.{◌∷◌, false, ap, ◌∙◌, refl, int_lt, Greater, argument, valued, meaning_of, number, text_of_cells, part_text, world, texts}
 use Rattle.trac_functions.proofs.MadeValues.{valued-of, same-order, chosen}
 use Rattle.trac_functions.proofs.comparing.greater.Goals as goal
 use Rattle.trac_functions.proofs.comparing.greater.Goals.{then-greater, else-greater}

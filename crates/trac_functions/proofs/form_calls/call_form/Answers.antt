@@ -1,20 +1,6 @@
-use Rattle.std.proofs.lemmas.Bool.{false≢true, cases_lt}
-use Rattle.std.proofs.lemmas.List.Elements.{All-head, All-tail}
-use Rattle.std.proofs.Common.{⊎_elim, ◌≡◌, ℕ, ◌+◌, ◌<◌, ◌≤◌, ◌∷◌, ◌++◌, [], List, length, drop, refl, sym, ap, ◌∙◌, subst, arith, false, true, Some}
-use Rattle.trac_language.specs.declared.function.Function.TheVariants.{CallForm}
-use Rattle.trac_language.specs.Text.{Text}
-use Rattle.trac_language.specs.declared.item.Item.{Item}
+use Rattle.trac_functions.proofs.Words.{false≢true, cases_lt, All-head, All-tail, ⊎_elim, ◌≡◌, ℕ, ◌+◌, ◌<◌, ◌≤◌, ◌∷◌, ◌++◌, [], List, length, drop, refl, sym, ap, ◌∙◌, subst, arith, false, true, Some, CallForm, Text, Item, fill, is_character, text_of, Input, argument, meaning_of, built, value_length}
+use Rattle.trac_functions.proofs.Words.{flat_text, texts_between, Contents, used, body_at, pointer_at, IsNamedAt, IsSound, AreCharacters, IsLoaded, called_part, form_named-at, form_named-none, Arguments, world, texts, AreArguments, Means, IsValue, Valued}
 use Rattle.trac_language.specs.declared.item.Item.TheVariants.{Byte, Gap}
-use Rattle.trac_language.specs.Form.{fill, is_character, text_of}
-use Rattle.trac_language.specs.State.{Input, argument}
-use Rattle.trac_language.specs.Meaning.{meaning_of, built, value_length}
-use Rattle.trac_space.specs.Texts.{flat_text}
-use Rattle.trac_forms.specs.Arguments.{texts_between}
-use Rattle.trac_forms.specs.Contents.{Contents, used, body_at, pointer_at, IsNamedAt, IsSound}
-use Rattle.trac_forms.specs.Loading.{AreCharacters, IsLoaded, called_part}
-use Rattle.trac_forms.proofs.Stores.{form_named-at, form_named-none}
-use Rattle.trac_functions.specs.declared.arguments.Arguments.{Arguments}
-use Rattle.trac_functions.specs.Calls.{world, texts, AreArguments, Means, IsValue, Valued}
 use Rattle.trac_functions.proofs.MadeValues.{valued-of}
 use Rattle.trac_functions.proofs.TakenItems.{all-characters}
 use Rattle.trac_functions.proofs.FormLemmas.{unchanged, parted, parted-texts}

@@ -1,9 +1,4 @@
-use Rattle.std.proofs.Common.{◌≡◌, ◌+◌, ◌-◌, length, refl, ap, ◌∙◌, arith}
-use Rattle.trac_language.specs.Store.{defined}
-use Rattle.trac_language.specs.State.{argument}
-use Rattle.trac_language.specs.Meaning.{meaning_of, silent}
-use Rattle.trac_forms.specs.Contents.{part_text}
-use Rattle.trac_functions.specs.Calls.{world, texts}
+use Rattle.trac_functions.proofs.Words.{◌≡◌, ◌+◌, ◌-◌, length, refl, ap, ◌∙◌, arith, defined, argument, meaning_of, silent, part_text, world, texts}
 use Rattle.trac_functions.proofs.FormLemmas.{length-part}
 use Rattle.trac_functions.proofs.form_calls.define_string.Goals as goal
 

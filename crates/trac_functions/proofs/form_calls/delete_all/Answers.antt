@@ -1,6 +1,4 @@
-use Rattle.std.proofs.Common.{[], refl}
-use Rattle.trac_language.specs.declared.function.Function.TheVariants.{DeleteAll}
-use Rattle.trac_language.specs.Meaning.{meaning_of}
+use Rattle.trac_functions.proofs.Words.{[], refl, DeleteAll, meaning_of}
 use Rattle.trac_functions.proofs.FormLemmas.{null-value}
 use Rattle.trac_functions.proofs.form_calls.delete_all.Goals as goal
 

@@ -1,15 +1,4 @@
-use Rattle.std.proofs.Common.{◌≡◌, ℕ, ◌<◌, ◌≤◌, ◌∷◌, [], List, drop, sym, ap, ◌∙◌, arith, false, refl}
-use Rattle.std.specs.List.{remove}
-use Rattle.trac_language.specs.declared.function.Function.TheVariants.{DeleteDefinition}
-use Rattle.trac_language.specs.Text.{Text}
-use Rattle.trac_language.specs.Form.{Form}
-use Rattle.trac_language.specs.Store.{without}
-use Rattle.trac_language.specs.State.{Input, argument}
-use Rattle.trac_language.specs.Meaning.{meaning_of, silent}
-use Rattle.trac_forms.specs.Contents.{Contents, IsSound}
-use Rattle.trac_forms.proofs.Stores.{without-at, without-none}
-use Rattle.trac_functions.specs.declared.arguments.Arguments.{Arguments}
-use Rattle.trac_functions.specs.Calls.{world, texts, texts_from, AreArguments, IsValue}
+use Rattle.trac_functions.proofs.Words.{◌≡◌, ℕ, ◌<◌, ◌≤◌, ◌∷◌, [], List, drop, sym, ap, ◌∙◌, arith, false, refl, remove, DeleteDefinition, Text, Form, without, Input, argument, meaning_of, silent, Contents, IsSound, without-at, without-none, Arguments, world, texts, texts_from, AreArguments, IsValue}
 use Rattle.trac_functions.proofs.ArgumentLemmas.{none-left}
 use Rattle.trac_functions.proofs.FormLemmas.{null-value, arguments-kept, next-left, only-forms, parted, parted-texts, unnamed, unnamed-none, unnamed-first}
 use Rattle.trac_functions.proofs.form_calls.delete_definition.Goals as goal

@@ -1,5 +1,4 @@
-use Rattle.std.proofs.Common.{◌≡◌}
-use Rattle.trac_functions.specs.Calls.{AreArguments, texts}
+use Rattle.trac_functions.proofs.Words.{◌≡◌, AreArguments, texts}
 use Rattle.trac_functions.proofs.FormLemmas.{unnamed}
 use Rattle.trac_functions.proofs.form_calls.delete_definition.Given as goal
 

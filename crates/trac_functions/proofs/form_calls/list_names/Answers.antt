@@ -1,10 +1,4 @@
-use Rattle.std.proofs.Common.{◌≡◌, ℕ, ◌+◌, ◌<◌, ◌++◌, ◌∷◌, [], length, drop, refl, sym, ap, ◌∙◌, arith, false}
-use Rattle.trac_language.specs.declared.function.Function.TheVariants.{ListNames}
-use Rattle.trac_language.specs.State.{Input}
-use Rattle.trac_language.specs.Meaning.{meaning_of, valued}
-use Rattle.trac_space.specs.Texts.{flat_text}
-use Rattle.trac_forms.specs.Contents.{Contents, used, name_at, part_text, IsTextPart, IsSound}
-use Rattle.trac_functions.specs.Calls.{world, texts}
+use Rattle.trac_functions.proofs.Words.{◌≡◌, ℕ, ◌+◌, ◌<◌, ◌++◌, ◌∷◌, [], length, drop, refl, sym, ap, ◌∙◌, arith, false, ListNames, Input, meaning_of, valued, flat_text, Contents, used, name_at, part_text, IsTextPart, IsSound, world, texts}
 use Rattle.trac_functions.proofs.MadeValues.{valued-of}
 use Rattle.trac_functions.proofs.FormLemmas.{names, names-more, names-none}
 use Rattle.trac_functions.proofs.PutParts.{HasPut, put-none, put-more, put-full, put-all, forms-kept, part-kept, text-kept}

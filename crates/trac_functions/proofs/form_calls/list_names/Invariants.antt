@@ -1,5 +1,4 @@
-use Rattle.std.proofs.Common.{drop}
-use Rattle.trac_forms.specs.Contents.{part_text}
+use Rattle.trac_functions.proofs.Words.{drop, part_text}
 use Rattle.trac_functions.proofs.FormLemmas.{names}
 use Rattle.trac_functions.proofs.PutParts.{HasPut}
 use Rattle.trac_functions.proofs.form_calls.list_names.Given as goal

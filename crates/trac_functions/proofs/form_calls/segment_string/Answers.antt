@@ -1,15 +1,5 @@
-use Rattle.std.proofs.Common.{◌≡◌, ℕ, suc, ◌+◌, ◌<◌, ◌≤◌, ◌∷◌, [], List, length, drop, set, refl, sym, ap, ◌∙◌, arith, add-one, length-set}
-use Rattle.std.proofs.lemmas.List.{get_or-set_same}
-use Rattle.trac_language.specs.declared.function.Function.TheVariants.{SegmentString}
-use Rattle.trac_language.specs.Text.{Text}
-use Rattle.trac_language.specs.Form.{Form}
-use Rattle.trac_language.specs.Segment.{segment, segment_by}
-use Rattle.trac_language.specs.Store.{changed}
-use Rattle.trac_language.specs.State.{argument}
-use Rattle.trac_language.specs.Meaning.{meaning_of, silent}
-use Rattle.trac_forms.specs.Contents.{Contents, form_at, body_at, pointer_at, part_text}
-use Rattle.trac_forms.proofs.Stores.{form_named-at, form_named-none, changed-at}
-use Rattle.trac_functions.specs.Calls.{world, texts, texts_from}
+use Rattle.trac_functions.proofs.Words.{◌≡◌, ℕ, suc, ◌+◌, ◌<◌, ◌≤◌, ◌∷◌, [], List, length, drop, set, refl, sym, ap, ◌∙◌, arith, add-one, length-set, get_or-set_same, SegmentString, Text, Form, segment, segment_by, changed, argument, meaning_of, silent, Contents, form_at, body_at, pointer_at}
+use Rattle.trac_functions.proofs.Words.{part_text, form_named-at, form_named-none, changed-at, world, texts, texts_from}
 use Rattle.trac_functions.proofs.ArgumentLemmas.{none-left}
 use Rattle.trac_functions.proofs.FormLemmas.{null-value, unchanged, arguments-kept, next-left, fewer-left, texts-bounded, only-forms, segmented, segmented-set, segmented-none}
 use Rattle.trac_functions.proofs.form_calls.segment_string.Goals as goal

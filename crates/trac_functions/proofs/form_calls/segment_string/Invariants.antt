@@ -1,6 +1,4 @@
-use Rattle.std.proofs.Common.{◌≡◌, ◌+◌, ◌<◌, ◌≤◌, suc, drop, length}
-use Rattle.trac_forms.specs.Contents.{pointer_at}
-use Rattle.trac_functions.specs.Calls.{AreArguments, texts}
+use Rattle.trac_functions.proofs.Words.{◌≡◌, ◌+◌, ◌<◌, ◌≤◌, suc, drop, length, pointer_at, AreArguments, texts}
 use Rattle.trac_functions.proofs.FormLemmas.{segmented}
 use Rattle.trac_functions.proofs.form_calls.segment_string.Given as goal
 

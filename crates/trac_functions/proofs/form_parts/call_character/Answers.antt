@@ -1,10 +1,4 @@
-use Rattle.std.proofs.Common.{◌∷◌, ◌∙◌, refl}
-use Rattle.std.specs.Prelude.{pos}
-use Rattle.trac_language.specs.declared.function.Function.TheVariants.{CallCharacter}
-use Rattle.trac_language.specs.State.{argument}
-use Rattle.trac_language.specs.Meaning.{meaning_of}
-use Rattle.trac_language.specs.Part.{characters}
-use Rattle.trac_functions.specs.Calls.{texts}
+use Rattle.trac_functions.proofs.Words.{◌∷◌, ◌∙◌, refl, pos, CallCharacter, argument, meaning_of, characters, texts}
 use Rattle.trac_functions.proofs.TakenParts.{makes-found, makes-missing}
 use Rattle.trac_functions.proofs.form_parts.call_character.Goals as goal
 

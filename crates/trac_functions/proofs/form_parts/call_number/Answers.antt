@@ -1,13 +1,4 @@
-use Rattle.std.proofs.Common.{◌∷◌, sym, ap, ◌∙◌, refl, subst, arith, length, Option}
-use Rattle.trac_language.specs.declared.function.Function.TheVariants.{CallNumber}
-use Rattle.trac_language.specs.State.{argument}
-use Rattle.trac_language.specs.Meaning.{meaning_of}
-use Rattle.trac_language.specs.Part.{Part, characters}
-use Rattle.trac_language.specs.Number.{number}
-use Rattle.trac_space.specs.Texts.{text_of_cells}
-use Rattle.trac_forms.specs.Contents.{Contents, part_text, form_at, IsSound}
-use Rattle.trac_functions.specs.Calls.{texts}
-use Rattle.trac_functions.specs.Taking.{TakesPart}
+use Rattle.trac_functions.proofs.Words.{◌∷◌, sym, ap, ◌∙◌, refl, subst, arith, length, Option, CallNumber, argument, meaning_of, Part, characters, number, text_of_cells, Contents, part_text, form_at, IsSound, texts, TakesPart}
 use Rattle.trac_functions.proofs.TakenParts.{makes-found, makes-missing, characters-counted}
 use Rattle.trac_functions.proofs.form_parts.call_number.Goals as goal
 

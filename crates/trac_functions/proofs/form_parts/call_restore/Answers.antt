@@ -1,8 +1,4 @@
-use Rattle.std.proofs.Common.{◌∷◌, refl}
-use Rattle.trac_language.specs.declared.function.Function.TheVariants.{CallRestore}
-use Rattle.trac_language.specs.State.{argument}
-use Rattle.trac_language.specs.Meaning.{meaning_of}
-use Rattle.trac_functions.specs.Calls.{texts}
+use Rattle.trac_functions.proofs.Words.{◌∷◌, refl, CallRestore, argument, meaning_of, texts}
 use Rattle.trac_functions.proofs.TakenParts.{changes-found, changes-missing}
 use Rattle.trac_functions.proofs.form_parts.call_restore.Goals as goal
 

@@ -1,9 +1,4 @@
-use Rattle.std.proofs.Common.{◌∷◌, ◌∙◌, refl}
-use Rattle.trac_language.specs.declared.function.Function.TheVariants.{CallSegment}
-use Rattle.trac_language.specs.State.{argument}
-use Rattle.trac_language.specs.Meaning.{meaning_of}
-use Rattle.trac_language.specs.Part.{next_segment}
-use Rattle.trac_functions.specs.Calls.{texts}
+use Rattle.trac_functions.proofs.Words.{◌∷◌, ◌∙◌, refl, CallSegment, argument, meaning_of, next_segment, texts}
 use Rattle.trac_functions.proofs.TakenParts.{makes-found, makes-missing}
 use Rattle.trac_functions.proofs.form_parts.call_segment.Goals as goal
 

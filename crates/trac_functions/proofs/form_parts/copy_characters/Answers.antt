@@ -1,10 +1,4 @@
-use Rattle.std.proofs.Common.{◌++◌, List, slice_range, ap, ◌∙◌, subst, arith}
-use Rattle.trac_language.specs.declared.item.Item.{Item}
-use Rattle.trac_language.specs.Form.{text_of}
-use Rattle.trac_space.specs.Texts.{flat_text}
-use Rattle.trac_forms.specs.Search.{character_at, gap_at}
-use Rattle.trac_forms.specs.Contents.{Contents, body_at}
-use Rattle.trac_functions.specs.Taking.{IsFirstOr}
+use Rattle.trac_functions.proofs.Words.{◌++◌, List, slice_range, ap, ◌∙◌, subst, arith, Item, text_of, flat_text, character_at, gap_at, Contents, body_at, IsFirstOr}
 use Rattle.trac_functions.proofs.TakenItems.{copied-more, length-part, used-copied}
 use Rattle.trac_functions.proofs.form_parts.copy_characters.Goals as goal
 

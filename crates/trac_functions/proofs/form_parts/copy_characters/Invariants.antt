@@ -1,7 +1,4 @@
-use Rattle.std.proofs.Common.{◌≡◌, ◌≤◌, ◌-◌, ◌++◌, slice_range}
-use Rattle.trac_language.specs.Form.{text_of}
-use Rattle.trac_space.specs.Texts.{flat_text}
-use Rattle.trac_forms.specs.Contents.{body_at, IsSound}
+use Rattle.trac_functions.proofs.Words.{◌≡◌, ◌≤◌, ◌-◌, ◌++◌, slice_range, text_of, flat_text, body_at, IsSound}
 use Rattle.trac_functions.proofs.form_parts.copy_characters.Given as goal
 
 -- the characters up to a place were copied

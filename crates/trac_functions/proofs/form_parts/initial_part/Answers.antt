@@ -1,11 +1,4 @@
-use Rattle.std.proofs.Common.{◌∷◌, ap, ◌∙◌, refl, subst}
-use Rattle.trac_language.specs.declared.function.Function.TheVariants.{InitialPart}
-use Rattle.trac_language.specs.State.{argument}
-use Rattle.trac_language.specs.Meaning.{meaning_of}
-use Rattle.trac_language.specs.Part.{initial_part}
-use Rattle.trac_forms.specs.Contents.{Contents, part_text, form_at}
-use Rattle.trac_functions.specs.Calls.{texts}
-use Rattle.trac_functions.specs.Taking.{TakesPart}
+use Rattle.trac_functions.proofs.Words.{◌∷◌, ap, ◌∙◌, refl, subst, InitialPart, argument, meaning_of, initial_part, Contents, part_text, form_at, texts, TakesPart}
 use Rattle.trac_functions.proofs.TakenParts.{makes-found, makes-missing}
 use Rattle.trac_functions.proofs.form_parts.initial_part.Goals as goal
 

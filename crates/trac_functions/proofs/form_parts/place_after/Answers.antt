@@ -1,5 +1,4 @@
-use Rattle.std.proofs.Common.{arith}
-use Rattle.trac_forms.specs.Contents.{body_at}
+use Rattle.trac_functions.proofs.Words.{arith, body_at}
 use Rattle.trac_functions.proofs.TakenItems.{forward-none, forward-within, forward-more, forward-last}
 use Rattle.trac_functions.proofs.form_parts.place_after.Goals as goal
 

@@ -1,5 +1,4 @@
-use Rattle.std.proofs.Common.{arith}
-use Rattle.trac_forms.specs.Contents.{body_at}
+use Rattle.trac_functions.proofs.Words.{arith, body_at}
 use Rattle.trac_functions.proofs.TakenItems.{backward-none, backward-more, backward-last}
 use Rattle.trac_functions.proofs.form_parts.place_before.Goals as goal
 

@@ -1,7 +1,4 @@
-use Rattle.std.proofs.Common.{Option, refl, sym, ◌∙◌, subst, arith}
-use Rattle.trac_language.specs.Part.{Part}
-use Rattle.trac_forms.specs.Contents.{form_at, part_text}
-use Rattle.trac_functions.specs.Taking.{TakesPart}
+use Rattle.trac_functions.proofs.Words.{Option, refl, sym, ◌∙◌, subst, arith, Part, form_at, part_text, TakesPart}
 use Rattle.trac_functions.proofs.TakenParts.{segment-none, segment-gap, segment-end}
 use Rattle.trac_functions.proofs.form_parts.take_segment.Goals as goal
 

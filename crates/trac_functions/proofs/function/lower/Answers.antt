@@ -1,7 +1,4 @@
-use Rattle.std.proofs.Common.{◌≡◌, ◌∙◌, arith}
-use Rattle.std.specs.Char.{to_ascii_lowercase}
-use Rattle.std.proofs.lemmas.List.FromFn.{get_or-map-range_with_len}
-use Rattle.trac_space.specs.Texts.{character_of}
+use Rattle.trac_functions.proofs.Words.{◌≡◌, ◌∙◌, arith, to_ascii_lowercase, get_or-map-range_with_len, character_of}
 use Rattle.trac_functions.proofs.function.lower.Goals as goal
 
 pub returns : goal.returns

@@ -1,5 +1,4 @@
-use Rattle.std.proofs.Common.{◌≡◌, ◌-◌, ◌≤◌, length, take, replicate}
-use Rattle.trac_space.specs.declared.cell.Cell.TheVariants.{Byte}
+use Rattle.trac_space.proofs.Words.{◌≡◌, ◌-◌, ◌≤◌, length, take, replicate, Byte}
 use Rattle.trac_space.proofs.block.blank_by.Given as goal
 
 -- the cells so far are blank

@@ -1,11 +1,4 @@
-use Rattle.std.proofs.Common.{◌≡◌, ℕ, ◌+◌, ◌*◌, ◌/◌, ◌<◌, ◌≤◌, List, ◌++◌, ◌-◌, length, take, replicate, sym, ap, ◌∙◌, arith, rules}
-use Rattle.std.proofs.Math.Nat.{mod-lt}
-use Rattle.std.proofs.Math.Seq.{take-length}
-use Rattle.std.proofs.lemmas.Nat.{div-add-mod'}
-use Rattle.std.proofs.lemmas.List.{places, same_lists, length-replicate}
-use Rattle.std.proofs.lemmas.Grind.{elements}
-use Rattle.trac_space.specs.declared.cell.Cell.{Cell}
-use Rattle.trac_space.specs.declared.cell.Cell.TheVariants.{Byte}
+use Rattle.trac_space.proofs.Words.{◌≡◌, ℕ, ◌+◌, ◌*◌, ◌/◌, ◌<◌, ◌≤◌, List, ◌++◌, ◌-◌, length, take, replicate, sym, ap, ◌∙◌, arith, rules, mod-lt, take-length, div-add-mod', places, same_lists, length-replicate, elements, Cell, Byte}
 use Rattle.trac_space.proofs.block.put_blanks.Goals as goal
 
 -- blank cells behind blank cells

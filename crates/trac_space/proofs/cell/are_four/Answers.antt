@@ -1,5 +1,4 @@
-use Rattle.std.proofs.Common.{◌≡◌, ◌+◌, take, drop, sym, ◌∙◌, arith}
-use Rattle.trac_space.specs.Texts.{IsByte}
+use Rattle.trac_space.proofs.Words.{◌≡◌, ◌+◌, take, drop, sym, ◌∙◌, arith, IsByte}
 use Rattle.trac_space.proofs.Characters.{bytes-kinds, none-is, both-ends}
 use Rattle.trac_space.proofs.cell.are_four.Goals as goal
 

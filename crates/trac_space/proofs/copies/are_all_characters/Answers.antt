@@ -1,5 +1,4 @@
-use Rattle.std.proofs.Common.{◌≡◌, ◌+◌, ◌-◌, arith, rules}
-use Rattle.trac_space.specs.Texts.{IsByte}
+use Rattle.trac_space.proofs.Words.{◌≡◌, ◌+◌, ◌-◌, arith, rules, IsByte}
 use Rattle.trac_space.proofs.Characters.{both-ends}
 use Rattle.trac_space.proofs.copies.are_all_characters.Goals as goal
 

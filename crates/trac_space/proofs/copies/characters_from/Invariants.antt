@@ -1,5 +1,4 @@
-use Rattle.std.proofs.Common.{◌-◌, ◌≤◌, All, drop, take}
-use Rattle.trac_space.specs.Texts.{IsByte}
+use Rattle.trac_space.proofs.Words.{◌-◌, ◌≤◌, All, drop, take, IsByte}
 use Rattle.trac_space.proofs.copies.characters_from.Given as goal
 
 -- so many characters stand there

@@ -1,5 +1,4 @@
-use Rattle.std.proofs.Common.{◌+◌, sym, ◌∙◌, arith, slice_index_or}
-use Rattle.trac_space.specs.declared.cell.Cell.TheVariants.{Byte}
+use Rattle.trac_space.proofs.Words.{◌+◌, sym, ◌∙◌, arith, slice_index_or, Byte}
 use Rattle.trac_space.proofs.Characters.{bytes-more, tested-byte}
 use Rattle.trac_space.proofs.copies.characters_in_block.Goals as goal
 

@@ -1,5 +1,4 @@
-use Rattle.std.proofs.Common.{◌≡◌, ◌+◌, ◌-◌, ◌<◌, drop}
-use lib.Seq.{paste}
+use Rattle.trac_space.proofs.Words.{◌≡◌, ◌+◌, ◌-◌, ◌<◌, drop, paste}
 use Rattle.trac_space.proofs.copies.copy_blocks.Given as goal
 
 -- so many cells are at their place

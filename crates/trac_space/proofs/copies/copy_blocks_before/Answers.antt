@@ -1,4 +1,4 @@
-use Rattle.std.proofs.Common.{arith}
+use Rattle.trac_space.proofs.Words.{arith}
 use Rattle.trac_space.proofs.Blocks.{carried-on, carried-last}
 use Rattle.trac_space.proofs.copies.copy_blocks_before.Goals as goal
 

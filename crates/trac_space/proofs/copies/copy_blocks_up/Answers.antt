@@ -1,5 +1,4 @@
-use Rattle.std.proofs.Common.{◌≡◌, ◌+◌, ◌-◌, ap, ◌∙◌, refl, arith}
-use Rattle.std.specs.List.{copy_within}
+use Rattle.trac_space.proofs.Words.{◌≡◌, ◌+◌, ◌-◌, ap, ◌∙◌, refl, arith, copy_within}
 use Rattle.trac_space.proofs.Blocks.{copied-up, lifted-last}
 use Rattle.trac_space.proofs.copies.copy_blocks_up.Goals as goal
 

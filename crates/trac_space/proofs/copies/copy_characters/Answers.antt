@@ -1,5 +1,4 @@
-use Rattle.std.proofs.Common.{◌≡◌, drop, arith}
-use Rattle.std.proofs.lemmas.List.{length-drop}
+use Rattle.trac_space.proofs.Words.{◌≡◌, drop, arith, length-drop}
 use Rattle.trac_space.proofs.Blocks.{front-of, behind-of, bytes-on, stop-on, copied-on}
 use Rattle.trac_space.proofs.copies.copy_characters.Goals as goal
 

@@ -1,8 +1,4 @@
-use Rattle.std.proofs.Common.{◌≡◌, ◌+◌, ◌<◌, length, drop, set, sym, ap, ◌∙◌, subst, slice_index_or, arith}
-use Rattle.std.proofs.lemmas.List.{length-drop, get_or-drop}
-use Rattle.std.proofs.lemmas.List.Edits.{paste_more}
-use Rattle.trac_space.specs.declared.cell.Cell.TheVariants.{Byte}
-use Rattle.trac_space.specs.Texts.{IsByte}
+use Rattle.trac_space.proofs.Words.{◌≡◌, ◌+◌, ◌<◌, length, drop, set, sym, ap, ◌∙◌, subst, slice_index_or, arith, length-drop, get_or-drop, paste_more, Byte, IsByte}
 use Rattle.trac_space.proofs.Characters.{front-cell, bytes-more}
 use Rattle.trac_space.proofs.copies.copy_characters_each.Goals as goal
 

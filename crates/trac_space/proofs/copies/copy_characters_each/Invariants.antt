@@ -1,6 +1,4 @@
-use Rattle.std.proofs.Common.{◌-◌, ◌≡◌, ◌≤◌, All, drop, take}
-use lib.Seq.{paste}
-use Rattle.trac_space.specs.Texts.{IsByte}
+use Rattle.trac_space.proofs.Words.{◌-◌, ◌≡◌, ◌≤◌, All, drop, take, paste, IsByte}
 use Rattle.trac_space.proofs.copies.copy_characters_each.Given as goal
 
 -- so many characters are at their place

@@ -1,7 +1,4 @@
-use Rattle.std.proofs.Common.{◌≡◌, ℕ, ◌+◌, ◌≤◌, List, length, drop, arith, rules}
-use Rattle.std.specs.List.{copy_within}
-use Rattle.std.proofs.lemmas.List.{places, same_lists}
-use lib.Seq.{paste}
+use Rattle.trac_space.proofs.Words.{◌≡◌, ℕ, ◌+◌, ◌≤◌, List, length, drop, arith, rules, copy_within, places, same_lists, paste}
 use Rattle.trac_space.proofs.copies.copy_down.Goals as goal
 
 -- the first k cells are there, and n more follow

@@ -1,6 +1,4 @@
-use Rattle.std.proofs.Common.{◌≡◌, ℕ, ◌+◌, ◌-◌, ◌≤◌, List, ◌++◌, length, take, drop, slice_range, arith, rules}
-use Rattle.std.proofs.lemmas.List.{places, same_lists}
-use borrow.Rule.Slice.PartMut.{put_mid}
+use Rattle.trac_space.proofs.Words.{◌≡◌, ℕ, ◌+◌, ◌-◌, ◌≤◌, List, ◌++◌, length, take, drop, slice_range, arith, rules, places, same_lists, put_mid}
 use Rattle.trac_space.proofs.copies.copy_parts.Goals as goal
 
 -- the next cells are copied

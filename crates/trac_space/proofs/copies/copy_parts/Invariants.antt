@@ -1,4 +1,4 @@
-use Rattle.std.proofs.Common.{◌≡◌, ◌-◌, ◌≤◌, ◌++◌, length, take, drop}
+use Rattle.trac_space.proofs.Words.{◌≡◌, ◌-◌, ◌≤◌, ◌++◌, length, take, drop}
 use Rattle.trac_space.proofs.copies.copy_parts.Given as goal
 
 -- the first cells are copied, and the others are as they were

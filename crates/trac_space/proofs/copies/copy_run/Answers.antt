@@ -1,11 +1,4 @@
-use Rattle.std.proofs.Common.{◌≡◌, ◌+◌, ◌-◌, ◌<◌, length, drop, set, sym, ap, ◌∙◌, subst, slice_index_or, arith}
-use Rattle.std.proofs.lemmas.List.{length-drop, length-map}
-use Rattle.std.proofs.lemmas.List.Edits.{paste_more}
-use lib.Seq.{paste}
-use Rattle.trac_space.specs.declared.cell.Cell.TheVariants.{Byte}
-use Rattle.trac_space.specs.Cells.{is_comma}
-use Rattle.trac_space.specs.Texts.{IsByte, character_of}
-use Rattle.trac_space.specs.Runs.{number_in, turned, turned_by}
+use Rattle.trac_space.proofs.Words.{◌≡◌, ◌+◌, ◌-◌, ◌<◌, length, drop, set, sym, ap, ◌∙◌, subst, slice_index_or, arith, length-drop, length-map, paste_more, paste, Byte, is_comma, IsByte, character_of, number_in, turned, turned_by}
 use Rattle.trac_space.proofs.Runs.{run-cell, byte-at, run-more, turned-at, turned-byte, turned-one, plain-more, plain-none}
 use Rattle.trac_space.proofs.copies.copy_run.Goals as goal
 use Rattle.trac_space.proofs.copies.copy_run.Goals.{then-number-eq0, else-number-eq0+then-number-eq1}

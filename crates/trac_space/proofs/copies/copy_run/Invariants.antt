@@ -1,7 +1,4 @@
-use Rattle.std.proofs.Common.{◌-◌, ◌≡◌, ◌≤◌, All, drop, take}
-use lib.Seq.{paste}
-use Rattle.trac_space.specs.Cells.{NoComma}
-use Rattle.trac_space.specs.Runs.{IsInRun, turned}
+use Rattle.trac_space.proofs.Words.{◌-◌, ◌≡◌, ◌≤◌, All, drop, take, paste, NoComma, IsInRun, turned}
 use Rattle.trac_space.proofs.copies.copy_run.Given as goal
 
 -- so many characters are at their place, and no comma mark stands behind the last

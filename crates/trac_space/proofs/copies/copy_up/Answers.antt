@@ -1,4 +1,4 @@
-use Rattle.std.proofs.Common.{arith}
+use Rattle.trac_space.proofs.Words.{arith}
 use Rattle.trac_space.proofs.Blocks.{copied-up}
 use Rattle.trac_space.proofs.copies.copy_up.Goals as goal
 

@@ -1,9 +1,4 @@
-use Rattle.std.proofs.Common.{◌≡◌, ◌+◌, ◌-◌, ◌≤◌, ◌<◌, ◌∙◌, All, take, drop, slice_range, slice_index_or, sym, ap, subst, arith}
-use Rattle.std.proofs.lemmas.List.{take-take, get_or_default}
-use Rattle.std.proofs.lemmas.List.Elements.{All-take}
-use Rattle.trac_space.specs.declared.cell.Cell.TheVariants.{Byte, Comma}
-use Rattle.trac_space.specs.Texts.{IsByte, is_byte_cell}
-use Rattle.trac_space.specs.Filled.{filling, listed_part, ordinal_of}
+use Rattle.trac_space.proofs.Words.{◌≡◌, ◌+◌, ◌-◌, ◌≤◌, ◌<◌, ◌∙◌, All, take, drop, slice_range, slice_index_or, sym, ap, subst, arith, take-take, get_or_default, All-take, Byte, Comma, IsByte, is_byte_cell, filling, listed_part, ordinal_of}
 use Rattle.trac_space.proofs.Filled.{Along, along-start, along-front, along-end, along-rest, lists-now, same-part, same-cell, block-run, cell-put, cell-full, filling-gap}
 use Rattle.trac_space.proofs.filling.fill_cells.Goals as goal
 use Rattle.trac_space.proofs.filling.fill_cells.Goals.{After-characters_in_block-run, After-part_of-start}

@@ -1,6 +1,4 @@
-use Rattle.std.proofs.Common.{◌≡◌, ◌+◌, ◌∙◌, ap, drop, slice_range, slice_index_or, arith}
-use Rattle.trac_space.specs.declared.cell.Cell.TheVariants.{Comma}
-use Rattle.trac_space.specs.Filled.{filling}
+use Rattle.trac_space.proofs.Words.{◌≡◌, ◌+◌, ◌∙◌, ap, drop, slice_range, slice_index_or, arith, Comma, filling}
 use Rattle.trac_space.proofs.Filled.{along-start, along-front, along-end, lists-now, same-part, same-cell, cell-put, cell-full}
 use Rattle.trac_space.proofs.filling.fill_each.Goals as goal
 use Rattle.trac_space.proofs.filling.fill_each.Goals.{After-cells_for-start}

@@ -1,4 +1,4 @@
-use Rattle.std.proofs.Common.{drop, slice_range}
+use Rattle.trac_space.proofs.Words.{drop, slice_range}
 use Rattle.trac_space.proofs.Filled.{Along}
 use Rattle.trac_space.proofs.filling.fill_each.Given as goal
 

@@ -1,5 +1,4 @@
-use Rattle.std.proofs.Common.{◌≡◌, ℕ, suc, ◌+◌, ◌%◌, arith}
-use Rattle.std.proofs.lemmas.List.{length-drop}
+use Rattle.trac_space.proofs.Words.{◌≡◌, ℕ, suc, ◌+◌, ◌%◌, arith, length-drop}
 use Rattle.trac_space.proofs.Filled.{part-is}
 use Rattle.trac_space.proofs.filling.part_of.Goals as goal
 

@@ -1,5 +1,4 @@
-use Rattle.std.proofs.Common.{◌≡◌, ◌+◌, ◌-◌, length, sym, ◌∙◌, arith}
-use Rattle.std.proofs.lemmas.List.Edits.{length-between}
+use Rattle.trac_space.proofs.Words.{◌≡◌, ◌+◌, ◌-◌, length, sym, ◌∙◌, arith, length-between}
 use Rattle.trac_space.proofs.Stops.{none-more, front-of_part, get-of_part}
 use Rattle.trac_space.proofs.space.count_before.Goals as goal
 

@@ -1,6 +1,4 @@
-use Rattle.std.proofs.Common.{◌≡◌, take, false}
-use Rattle.std.specs.Prelude.{◌==◌}
-use Rattle.std.specs.List.{list_any}
+use Rattle.trac_space.proofs.Words.{◌≡◌, take, false, ◌==◌, list_any}
 use Rattle.trac_space.proofs.space.count_each.Given as goal
 
 -- the byte doesn't stand among those so far

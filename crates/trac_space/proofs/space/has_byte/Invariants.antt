@@ -1,6 +1,4 @@
-use Rattle.std.proofs.Common.{◌≡◌, take}
-use Rattle.std.specs.Prelude.{◌==◌}
-use Rattle.std.specs.List.{list_any}
+use Rattle.trac_space.proofs.Words.{◌≡◌, take, ◌==◌, list_any}
 use Rattle.trac_space.proofs.space.has_byte.Given as goal
 
 -- whether the byte stands among those so far

@@ -1,11 +1,4 @@
-use Rattle.std.proofs.Common.{◌≡◌, ℕ, ◌+◌, ◌-◌, ◌≤◌, List, ◌++◌, length, take, drop, slice_range, sym, ap, ◌∙◌, arith, rules}
-use Rattle.std.proofs.Math.Seq.{take-add}
-use Rattle.std.proofs.lemmas.List.{places, same_lists, map-append, length-map, length-take-le}
-use Rattle.std.proofs.lemmas.List.Edits.{length-between}
-use borrow.Rule.Slice.PartMut.{put_mid}
-use Rattle.trac_space.specs.declared.cell.Cell.{Cell}
-use Rattle.trac_space.specs.declared.cell.Cell.TheVariants.{Byte}
-use Rattle.trac_space.specs.Cells.{bytes, written_up_to}
+use Rattle.trac_space.proofs.Words.{◌≡◌, ℕ, ◌+◌, ◌-◌, ◌≤◌, List, ◌++◌, length, take, drop, slice_range, sym, ap, ◌∙◌, arith, rules, take-add, places, same_lists, map-append, length-map, length-take-le, length-between, put_mid, Cell, Byte, bytes, written_up_to}
 use Rattle.trac_space.proofs.space.write_blocks.Goals as goal
 
 -- cells in the middle of a list whose front is another

@@ -1,5 +1,4 @@
-use Rattle.std.proofs.Common.{◌≡◌, ◌≤◌, ◌-◌, ◌+◌, length}
-use Rattle.trac_space.specs.Cells.{written_up_to}
+use Rattle.trac_space.proofs.Words.{◌≡◌, ◌≤◌, ◌-◌, ◌+◌, length, written_up_to}
 use Rattle.trac_space.proofs.space.write_blocks.Given as goal
 
 -- the bytes so far are written

@@ -1,8 +1,4 @@
-use Rattle.std.proofs.Common.{◌≡◌, ℕ, ◌+◌, ◌<◌, List, [], ◌∷◌, ◌++◌, length, take, drop, set, get_or, ◌∙◌, arith}
-use Rattle.std.proofs.lemmas.List.{drop_more, take_more, map-append, set_at, append_assoc, length-map, length-take-le}
-use Rattle.trac_space.specs.declared.cell.Cell.{Cell}
-use Rattle.trac_space.specs.declared.cell.Cell.TheVariants.{Byte}
-use Rattle.trac_space.specs.Cells.{bytes, written_up_to}
+use Rattle.trac_space.proofs.Words.{◌≡◌, ℕ, ◌+◌, ◌<◌, List, [], ◌∷◌, ◌++◌, length, take, drop, set, get_or, ◌∙◌, arith, drop_more, take_more, map-append, set_at, append_assoc, length-map, length-take-le, Cell, Byte, bytes, written_up_to}
 use Rattle.trac_space.proofs.space.write_byte.Goals as goal
 
 -- one byte more is written

@@ -1,4 +1,4 @@
-use Rattle.trac_space.specs.declared.cell.Cell.TheVariants.{Byte}
+use Rattle.trac_store.proofs.Words.{Byte}
 use Rattle.trac_store.proofs.Parted.{first-four}
 use Rattle.trac_store.proofs.arguments.before_comma.Goals as goal
 

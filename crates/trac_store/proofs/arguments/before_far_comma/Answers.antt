@@ -1,5 +1,4 @@
-use Rattle.std.proofs.Common.{◌≡◌, ◌+◌, ◌-◌, ◌≤◌, length, slice_range, arith, rules}
-use Rattle.std.proofs.lemmas.List.Edits.{length-between}
+use Rattle.trac_store.proofs.Words.{◌≡◌, ◌+◌, ◌-◌, ◌≤◌, length, slice_range, arith, rules, length-between}
 use Rattle.trac_store.proofs.Parted.{before_comma-within, before-eight}
 use Rattle.trac_store.proofs.arguments.before_far_comma.Goals as goal
 

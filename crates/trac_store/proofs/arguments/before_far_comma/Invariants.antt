@@ -1,5 +1,4 @@
-use Rattle.std.proofs.Common.{◌≡◌, ◌≤◌, ◌+◌, ◌-◌, drop, length}
-use Rattle.trac_store.specs.Arguments.{before_comma}
+use Rattle.trac_store.proofs.Words.{◌≡◌, ◌≤◌, ◌+◌, ◌-◌, drop, length, before_comma}
 use Rattle.trac_store.proofs.arguments.before_far_comma.Given as goal
 
 -- no comma mark stands among the cells so far

@@ -1,6 +1,4 @@
-use Rattle.std.proofs.Common.{◌≡◌, ℕ, suc, ◌+◌, ◌-◌, ◌<◌, List, ◌∷◌, drop, get_or, ap, sym, ◌∙◌, arith}
-use Rattle.std.proofs.lemmas.List.{drop-drop, get_or-drop}
-use Rattle.trac_store.specs.Arguments.{parts_between, numbered_part}
+use Rattle.trac_store.proofs.Words.{◌≡◌, ℕ, suc, ◌+◌, ◌-◌, ◌<◌, List, ◌∷◌, drop, get_or, ap, sym, ◌∙◌, arith, drop-drop, get_or-drop, parts_between, numbered_part}
 use Rattle.trac_store.proofs.Parted.{found-comma, part-fits, parts-first}
 use Rattle.trac_store.proofs.arguments.find_part.Goals as goal
 

@@ -1,5 +1,4 @@
-use Rattle.std.proofs.Common.{◌≡◌, ◌-◌, drop}
-use Rattle.trac_store.specs.Arguments.{parts_between}
+use Rattle.trac_store.proofs.Words.{◌≡◌, ◌-◌, drop, parts_between}
 use Rattle.trac_store.proofs.arguments.find_part.Given as goal
 
 -- the parts from the place on are those behind so many

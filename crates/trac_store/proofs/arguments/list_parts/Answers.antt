@@ -1,5 +1,4 @@
-use Rattle.std.proofs.Common.{◌≡◌, ◌+◌, ◌≤◌, length, ap, arith}
-use Rattle.trac_space.specs.Lists.{Lists}
+use Rattle.trac_store.proofs.Words.{◌≡◌, ◌+◌, ◌≤◌, length, ap, arith, Lists}
 use Rattle.trac_store.proofs.Parted.{lists-more, found-comma, part-fits}
 use Rattle.trac_store.proofs.arguments.list_parts.Goals as goal
 

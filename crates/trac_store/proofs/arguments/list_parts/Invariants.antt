@@ -1,4 +1,4 @@
-use Rattle.std.proofs.Common.{◌+◌, ◌-◌}
+use Rattle.trac_store.proofs.Words.{◌+◌, ◌-◌}
 use Rattle.trac_store.proofs.Parted.{ListsUpTo}
 use Rattle.trac_store.proofs.arguments.list_parts.Given as goal
 

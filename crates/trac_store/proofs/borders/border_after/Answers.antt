@@ -1,5 +1,4 @@
-use Rattle.std.proofs.Common.{map}
-use Rattle.trac_space.specs.Texts.{character_of}
+use Rattle.trac_store.proofs.Words.{map, character_of}
 use Rattle.trac_store.proofs.BorderLists.{character-in}
 use Rattle.trac_store.proofs.TextBorders.{longest-more}
 use Rattle.trac_store.proofs.borders.border_after.Goals as goal

@@ -1,8 +1,4 @@
-use Rattle.std.proofs.Common.{map, subst, arith}
-use Rattle.std.proofs.lemmas.List.{length-map}
-use Rattle.trac_space.specs.declared.cell.Cell.TheVariants.{Byte, Comma}
-use Rattle.trac_space.specs.Texts.{character_of}
-use Rattle.trac_store.specs.Borders.{IsNextBorder}
+use Rattle.trac_store.proofs.Words.{map, subst, arith, length-map, Byte, Comma, character_of, IsNextBorder}
 use Rattle.trac_store.proofs.BorderLists.{any-default}
 use Rattle.trac_store.proofs.TextBorders.{searched-next, searched-found, searched-all, next-within}
 use Rattle.trac_store.proofs.borders.first_by_borders.Goals as goal

@@ -1,5 +1,4 @@
-use Rattle.std.proofs.Common.{◌<◌, length, map}
-use Rattle.trac_space.specs.Texts.{character_of}
+use Rattle.trac_store.proofs.Words.{◌<◌, length, map, character_of}
 use Rattle.trac_store.proofs.TextBorders.{Searched}
 use Rattle.trac_store.proofs.borders.first_by_borders.Given as goal
 

@@ -1,10 +1,4 @@
-use Rattle.std.proofs.Common.{◌≡◌, ◌+◌, ◌-◌, length, map, take, slice_range, sym, ap, subst, ◌∙◌, arith}
-use Rattle.std.proofs.lemmas.List.{length-map, length-take-le}
-use Rattle.trac_space.specs.Cells.{seen}
-use Rattle.trac_space.specs.Lists.{Lists}
-use Rattle.trac_space.specs.Texts.{character_of}
-use Rattle.trac_store.specs.Borders.{AreBorders, IsLongestBorder}
-use Rattle.trac_store.specs.Parts.{part_text}
+use Rattle.trac_store.proofs.Words.{◌≡◌, ◌+◌, ◌-◌, length, map, take, slice_range, sym, ap, subst, ◌∙◌, arith, length-map, length-take-le, seen, Lists, character_of, AreBorders, IsLongestBorder, part_text}
 use Rattle.trac_store.proofs.BorderLists.{front-part, borders-next}
 use Rattle.trac_store.proofs.Gaps.{bytes-seen}
 use Rattle.trac_store.proofs.borders.list_borders.Goals as goal

@@ -1,5 +1,4 @@
-use Rattle.std.proofs.Common.{◌-◌}
-use Rattle.trac_store.specs.Parts.{part_text}
+use Rattle.trac_store.proofs.Words.{◌-◌, part_text}
 use Rattle.trac_store.proofs.BorderLists.{BordersUpTo}
 use Rattle.trac_store.proofs.borders.list_borders.Given as goal
 

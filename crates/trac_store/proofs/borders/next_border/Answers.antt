@@ -1,6 +1,4 @@
-use Rattle.std.proofs.Common.{◌<◌, length, map, ap, ◌∙◌, sym, arith}
-use Rattle.trac_space.specs.Texts.{character_of}
-use Rattle.trac_store.specs.Gaps.{is_byte}
+use Rattle.trac_store.proofs.Words.{◌<◌, length, map, ap, ◌∙◌, sym, arith, character_of, is_byte}
 use Rattle.trac_store.proofs.TextBorders.{up-to-next, table-border, byte-in}
 use Rattle.trac_store.proofs.borders.next_border.Goals as goal
 

@@ -1,5 +1,4 @@
-use Rattle.std.proofs.Common.{map}
-use Rattle.trac_space.specs.Texts.{character_of}
+use Rattle.trac_store.proofs.Words.{map, character_of}
 use Rattle.trac_store.proofs.TextBorders.{GoesUpTo}
 use Rattle.trac_store.proofs.borders.next_border.Given as goal
 

@@ -1,7 +1,4 @@
-use Rattle.std.proofs.Common.{arith}
-use Rattle.std.proofs.lemmas.List.Edits.{length-remove}
-use Rattle.trac_store.specs.Parts.{part_text}
-use Rattle.trac_store.specs.Stored.{forms_in}
+use Rattle.trac_store.proofs.Words.{arith, length-remove, part_text, forms_in}
 use Rattle.trac_store.proofs.Stores.{without-at, without-none}
 use Rattle.trac_store.proofs.define.remove_found.Goals as goal
 

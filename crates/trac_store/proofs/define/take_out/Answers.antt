@@ -1,9 +1,4 @@
-use Rattle.std.proofs.Common.{◌≡◌, ◌<◌, length, sym, ap, ◌∙◌, subst, arith}
-use Rattle.std.specs.List.{remove}
-use Rattle.trac_space.specs.Lists.{Lists}
-use Rattle.trac_store.specs.FlatForms.{flat_forms}
-use Rattle.trac_store.specs.Stored.{forms_in}
-use Rattle.trac_store.specs.Index.{IsIndexed}
+use Rattle.trac_store.proofs.Words.{◌≡◌, ◌<◌, length, sym, ap, ◌∙◌, subst, arith, remove, Lists, flat_forms, forms_in, IsIndexed}
 use Rattle.trac_store.proofs.Places.{stands, removed-lists}
 use Rattle.trac_store.proofs.define.take_out.Goals as goal
 

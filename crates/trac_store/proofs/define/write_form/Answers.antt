@@ -1,9 +1,4 @@
-use Rattle.std.proofs.Common.{◌≡◌, ℕ, ◌+◌, ◌-◌, List, ◌∷◌, ◌++◌, length, take, drop, set, slice_range, ap, arith, rules}
-use Rattle.std.proofs.lemmas.List.{places, same_lists}
-use Rattle.std.proofs.lemmas.List.Edits.{length-between}
-use Rattle.trac_space.specs.declared.cell.Cell.{Cell}
-use Rattle.trac_space.specs.declared.cell.Cell.TheVariants.{Head}
-use Rattle.trac_space.proofs.BlockChanges.{reads}
+use Rattle.trac_store.proofs.Words.{◌≡◌, ℕ, ◌+◌, ◌-◌, List, ◌∷◌, ◌++◌, length, take, drop, set, slice_range, ap, arith, rules, places, same_lists, length-between, Cell, Head, reads}
 use Rattle.trac_store.proofs.FlatLemmas.{flat_form_of}
 use Rattle.trac_store.proofs.define.write_form.Goals as goal
 

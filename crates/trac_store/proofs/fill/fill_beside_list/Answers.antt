@@ -1,11 +1,4 @@
-use Rattle.std.proofs.Common.{◌≡◌, ◌+◌, ◌∙◌, length, slice_range, subst, sym, ap, arith}
-use Rattle.std.proofs.lemmas.List.{length-drop, length-map}
-use Rattle.trac_space.specs.declared.cell.Cell.TheVariants.{Byte}
-use Rattle.trac_space.specs.Cells.{NoCall}
-use Rattle.trac_space.specs.Filled.{filled, ListsParts}
-use Rattle.trac_space.specs.Lists.{Lists}
-use Rattle.trac_space.specs.Texts.{flat_text}
-use Rattle.trac_store.specs.Arguments.{filled_cells, parts_between}
+use Rattle.trac_store.proofs.Words.{◌≡◌, ◌+◌, ◌∙◌, length, slice_range, subst, sym, ap, arith, length-drop, length-map, Byte, NoCall, filled, ListsParts, Lists, flat_text, filled_cells, parts_between}
 use Rattle.trac_store.proofs.FilledParts.{parts-listed, filled-flat, filled-no_call, list-gone}
 use Rattle.trac_store.proofs.fill.fill_beside_list.Goals as goal
 use Rattle.trac_store.proofs.fill.fill_beside_list.Goals.{After-list_parts-listed}

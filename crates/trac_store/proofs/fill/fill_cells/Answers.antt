@@ -1,10 +1,4 @@
-use Rattle.std.proofs.Common.{◌≡◌, ℕ, ◌+◌, ◌-◌, ◌≤◌, [], length, slice_range, refl, sym, ap, ◌∙◌, arith, subst, ⊎_elim}
-use Rattle.std.proofs.lemmas.Bool.{false≢true, cases_lt}
-use Rattle.std.proofs.lemmas.List.Edits.{length-between}
-use Rattle.trac_language.specs.Text.{Text}
-use Rattle.trac_space.specs.Lists.{Lists, used}
-use Rattle.trac_space.specs.Texts.{byte_cell_at}
-use Rattle.trac_store.specs.Arguments.{filled_cells, texts_between, numbered_part, parts_between}
+use Rattle.trac_store.proofs.Words.{◌≡◌, ℕ, ◌+◌, ◌-◌, ◌≤◌, [], length, slice_range, refl, sym, ap, ◌∙◌, arith, subst, ⊎_elim, false≢true, cases_lt, length-between, Text, Lists, used, byte_cell_at, filled_cells, texts_between, numbered_part, parts_between}
 use Rattle.trac_store.proofs.Filling.{Filled, Argument, filled-store, filled-none, filled-whole, filled-fits, way-left, run-put, character-full, argument-of}
 use Rattle.trac_store.proofs.fill.fill_cells.Goals as goal
 use Rattle.trac_store.proofs.fill.fill_cells.Goals.{After-put_characters-count, Then-gap-stop, After-argument-part}

@@ -1,6 +1,4 @@
-use Rattle.std.proofs.Common.{◌≡◌, ◌+◌, ◌≤◌, ◌-◌, length, slice_range}
-use Rattle.trac_space.specs.Lists.{used}
-use Rattle.trac_store.specs.Arguments.{texts_between}
+use Rattle.trac_store.proofs.Words.{◌≡◌, ◌+◌, ◌≤◌, ◌-◌, length, slice_range, used, texts_between}
 use Rattle.trac_store.proofs.Filling.{filled, Filled}
 use Rattle.trac_store.proofs.fill.fill_cells.Given as goal
 

@@ -1,6 +1,4 @@
-use Rattle.std.proofs.Common.{All, slice_range, subst, rules}
-use Rattle.trac_space.specs.Texts.{IsByte}
-use Rattle.trac_store.specs.Arguments.{texts_between}
+use Rattle.trac_store.proofs.Words.{All, slice_range, subst, rules, IsByte, texts_between}
 use Rattle.trac_store.proofs.Filling.{plain-flat, plain-length}
 use Rattle.trac_store.proofs.fill.fill_items.Goals as goal
 use Rattle.trac_store.proofs.fill.fill_items.Goals.{Then-gap-stop}

@@ -1,13 +1,5 @@
-use Rattle.std.proofs.Common.{◌≡◌, ℕ, ◌+◌, ◌-◌, ◌≤◌, ◌++◌, List, [], Option, Some, None, MatchOption, true, nat_le, length, map, All, slice_range, refl, sym, ap, ◌∙◌, subst, arith}
-use Rattle.trac_space.specs.Lists.{Lists, used, with_way}
-use Rattle.trac_language.specs.declared.item.Item.{Item}
-use Rattle.std.proofs.lemmas.List.{length-map}
-use Rattle.std.proofs.lemmas.List.Elements.{All-nil}
-use Rattle.std.proofs.lemmas.List.Edits.{length-between}
-use Rattle.trac_space.specs.Texts.{flat_text, IsByte}
-use Rattle.trac_language.specs.Form.{text_of, is_character}
-use Rattle.trac_store.specs.Loading.{AreCharacters}
-use Rattle.trac_store.specs.Stored.{item_of}
+use Rattle.trac_store.proofs.Words.{◌≡◌, ℕ, ◌+◌, ◌-◌, ◌≤◌, ◌++◌, List, [], Option, Some, None, MatchOption, true, nat_le, length, map, All, slice_range, refl, sym, ap, ◌∙◌, subst, arith, Lists, used, with_way, Item, length-map, All-nil, length-between, flat_text, IsByte, text_of, is_character}
+use Rattle.trac_store.proofs.Words.{AreCharacters, item_of}
 use Rattle.trac_store.proofs.Filling.{AreItems, items, plain-items, plain-text}
 use Rattle.trac_store.proofs.fill.load_form.Goals as goal
 use Rattle.trac_store.proofs.fill.load_form.Goals.{After-heads_of-name}

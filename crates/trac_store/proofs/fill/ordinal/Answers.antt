@@ -1,11 +1,4 @@
-use Rattle.std.proofs.Common.{◌≡◌, ℕ, ◌+◌, ◌<◌, ◌≤◌, List, length, map, get_or, slice_range, Some, refl, sym, ap, ◌∙◌, arith}
-use Rattle.std.proofs.lemmas.List.{length-map, get_or-map}
-use Rattle.std.proofs.lemmas.List.Edits.{length-between, get_or-between}
-use Rattle.std.proofs.lemmas.Option.{slice_get-get_or}
-use Rattle.trac_space.specs.declared.cell.Cell.{Cell}
-use Rattle.trac_space.specs.declared.cell.Cell.TheVariants.{Byte, Call, Comma, Gap, Head}
-use Rattle.trac_space.specs.Cells.{seen}
-use Rattle.trac_store.specs.Gaps.{gap_number, gap_ordinal}
+use Rattle.trac_store.proofs.Words.{◌≡◌, ℕ, ◌+◌, ◌<◌, ◌≤◌, List, length, map, get_or, slice_range, Some, refl, sym, ap, ◌∙◌, arith, length-map, get_or-map, length-between, get_or-between, slice_get-get_or, Cell, Byte, Call, Comma, Gap, Head, seen, gap_number, gap_ordinal}
 use Rattle.trac_store.proofs.fill.ordinal.Goals as goal
 
 number-seen : (cell : Cell) → gap_number (Some (seen cell)) ≡ gap_number (Some cell)

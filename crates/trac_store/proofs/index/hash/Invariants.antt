@@ -1,6 +1,4 @@
-use Rattle.std.proofs.Common.{◌≡◌, ◌<◌, ◌≤◌, ◌^◌, length, drop}
-use Rattle.trac_space.specs.Texts.{text_of_cells}
-use Rattle.trac_store.specs.Index.{mixed}
+use Rattle.trac_store.proofs.Words.{◌≡◌, ◌<◌, ◌≤◌, ◌^◌, length, drop, text_of_cells, mixed}
 use Rattle.trac_store.proofs.index.hash.Given as goal
 
 abbrev pub invariant-loop-left : goal.invariant-loop-left

@@ -1,5 +1,4 @@
-use Rattle.std.proofs.Common.{length, ap, arith}
-use Rattle.trac_store.specs.Stored.{forms_in}
+use Rattle.trac_store.proofs.Words.{length, ap, arith, forms_in}
 use Rattle.trac_store.proofs.FlatLemmas.{count-le}
 use Rattle.trac_store.proofs.index.index_fitting.Goals as goal
 

@@ -1,9 +1,4 @@
-use Rattle.std.proofs.Common.{◌≡◌, ◌+◌, ◌/◌, ◌<◌, length, take, slice_range, sym, ap, ◌∙◌, subst, arith, All}
-use Rattle.trac_space.specs.Lists.{Lists}
-use Rattle.trac_space.specs.Texts.{text_of_cells, IsByte}
-use Rattle.trac_store.specs.Forms.{form_at}
-use Rattle.trac_store.specs.Stored.{forms_in}
-use Rattle.trac_store.specs.Index.{hash, IsIndex, IsOpenFor}
+use Rattle.trac_store.proofs.Words.{◌≡◌, ◌+◌, ◌/◌, ◌<◌, length, take, slice_range, sym, ap, ◌∙◌, subst, arith, All, Lists, text_of_cells, IsByte, form_at, forms_in, hash, IsIndex, IsOpenFor}
 use Rattle.trac_store.proofs.Finding.{bytes-of-seen, bytes-flat}
 use Rattle.trac_store.proofs.Gaps.{bytes-seen}
 use Rattle.trac_store.proofs.FlatLemmas.{character_of-Byte}

@@ -1,8 +1,4 @@
-use Rattle.std.proofs.Common.{ℕ, ◌≡◌, ◌+◌, length, take, ap, ◌∙◌, subst, arith}
-use Rattle.trac_space.specs.Lists.{Lists}
-use Rattle.trac_store.specs.Forms.{form_at}
-use Rattle.trac_store.specs.Stored.{forms_in, head_at}
-use Rattle.trac_store.specs.Index.{IsIndexed}
+use Rattle.trac_store.proofs.Words.{ℕ, ◌≡◌, ◌+◌, length, take, ap, ◌∙◌, subst, arith, Lists, form_at, forms_in, head_at, IsIndexed}
 use Rattle.trac_store.proofs.Places.{Stands, stands}
 use Rattle.trac_store.proofs.index.index_from.Goals as goal
 use Rattle.trac_store.proofs.index.index_from.Goals.{After-index_form}

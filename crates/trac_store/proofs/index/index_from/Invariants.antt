@@ -1,6 +1,4 @@
-use Rattle.std.proofs.Common.{◌≡◌, take}
-use Rattle.trac_store.specs.Stored.{forms_in, start_of}
-use Rattle.trac_store.specs.Index.{IsIndexed}
+use Rattle.trac_store.proofs.Words.{◌≡◌, take, forms_in, start_of, IsIndexed}
 use Rattle.trac_store.proofs.index.index_from.Given as goal
 
 -- the forms so far are in the table

@@ -1,7 +1,4 @@
-use Rattle.std.proofs.Common.{◌+◌, slice_range, sym, ap, ◌∙◌, arith}
-use Rattle.std.proofs.lemmas.List.{length-map}
-use Rattle.trac_space.specs.Cells.{seen}
-use Rattle.trac_space.specs.Texts.{text_of_cells, flat_text}
+use Rattle.trac_store.proofs.Words.{◌+◌, slice_range, sym, ap, ◌∙◌, arith, length-map, seen, text_of_cells, flat_text}
 use Rattle.trac_store.proofs.Finding.{bytes-of-seen, seen-text, part-length}
 use Rattle.trac_store.proofs.Gaps.{bytes-seen}
 use Rattle.trac_store.proofs.index.is_name.Goals as goal

@@ -1,13 +1,4 @@
-use Rattle.std.proofs.Common.{◌≡◌, ℕ, ◌+◌, ◌-◌, ◌*◌, ◌/◌, ◌<◌, List, length, map, get_or, sym, ap, ◌∙◌, arith, ⊎_elim}
-use Rattle.std.specs.Prelude.{bit_and}
-use Rattle.std.proofs.lemmas.Bool.{cases_lt}
-use Rattle.trac_space.specs.declared.cell.Cell.{Cell}
-use Rattle.trac_space.specs.declared.cell.Cell.TheVariants.{Byte, Head}
-use Rattle.trac_space.specs.Cells.{seen}
-use Rattle.trac_space.specs.Texts.{text_of_cells}
-use Rattle.trac_store.specs.Forms.{name_at}
-use Rattle.trac_store.specs.Stored.{forms_in}
-use Rattle.trac_store.specs.Index.{hash, slot, cell_at, is_blank}
+use Rattle.trac_store.proofs.Words.{◌≡◌, ℕ, ◌+◌, ◌-◌, ◌*◌, ◌/◌, ◌<◌, List, length, map, get_or, sym, ap, ◌∙◌, arith, ⊎_elim, bit_and, cases_lt, Cell, Byte, Head, seen, text_of_cells, name_at, forms_in, hash, slot, cell_at, is_blank}
 use Rattle.trac_store.proofs.TableChanges.{slot-within}
 use Rattle.trac_store.proofs.Finding.{head-seen, bytes-of-seen}
 use Rattle.trac_store.proofs.Gaps.{bytes-seen}

@@ -1,10 +1,4 @@
-use Rattle.std.proofs.Common.{◌≡◌, ◌≢◌, ℕ, ◌<◌, length, map}
-use Rattle.trac_space.specs.declared.cell.Cell.TheVariants.{Head}
-use Rattle.trac_space.specs.Cells.{seen}
-use Rattle.trac_space.specs.Texts.{text_of_cells}
-use Rattle.trac_store.specs.Forms.{name_at}
-use Rattle.trac_store.specs.Stored.{forms_in}
-use Rattle.trac_store.specs.Index.{cell_at, slot, hash}
+use Rattle.trac_store.proofs.Words.{◌≡◌, ◌≢◌, ℕ, ◌<◌, length, map, Head, seen, text_of_cells, name_at, forms_in, cell_at, slot, hash}
 use Rattle.trac_store.proofs.index.look_up.Given as goal
 
 -- no slot that was looked at holds a form of the name

@@ -1,6 +1,4 @@
-use Rattle.std.proofs.Common.{◌≡◌, ℕ, ◌<◌, false, map}
-use Rattle.trac_space.specs.Cells.{seen}
-use Rattle.trac_store.specs.Index.{cell_at, slot, is_blank}
+use Rattle.trac_store.proofs.Words.{◌≡◌, ℕ, ◌<◌, false, map, seen, cell_at, slot, is_blank}
 use Rattle.trac_store.proofs.index.open_slot.Given as goal
 
 -- no slot that was looked at is blank

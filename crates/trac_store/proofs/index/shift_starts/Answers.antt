@@ -1,8 +1,4 @@
-use Rattle.std.proofs.Common.{◌≡◌, ◌+◌, ◌-◌, ◌<◌, length, sym, ap, ◌∙◌, subst, refl, arith}
-use Rattle.std.proofs.lemmas.List.{length-set}
-use Rattle.trac_space.specs.declared.cell.Cell.TheVariants.{Head}
-use Rattle.trac_space.specs.Lists.{Lists}
-use Rattle.trac_store.specs.Index.{IsIndexBut, start_place, start_in, earlier, started}
+use Rattle.trac_store.proofs.Words.{◌≡◌, ◌+◌, ◌-◌, ◌<◌, length, sym, ap, ◌∙◌, subst, refl, arith, length-set, Head, Lists, IsIndexBut, start_place, start_in, earlier, started}
 use Rattle.trac_store.proofs.FormTables.{index-started, start-there, index-earlier, index-unmoved}
 use Rattle.trac_store.proofs.index.shift_starts.Goals as goal
 

@@ -1,6 +1,4 @@
-use Rattle.std.proofs.Common.{◌≡◌, ℕ, length}
-use Rattle.trac_language.specs.Text.{Text}
-use Rattle.trac_store.specs.Index.{IsIndexBut, started}
+use Rattle.trac_store.proofs.Words.{◌≡◌, ℕ, length, Text, IsIndexBut, started}
 use Rattle.trac_store.proofs.index.shift_starts.Given as goal
 
 -- the forms so far begin earlier

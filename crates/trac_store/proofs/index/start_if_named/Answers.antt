@@ -1,14 +1,5 @@
-use Rattle.std.proofs.Common.{◌≡◌, ℕ, ◌+◌, ◌-◌, ◌*◌, ◌/◌, ◌<◌, ◌≤◌, List, length, map, get_or, slice_range, All, Some, sym, ap, ◌∙◌, subst, arith}
-use Rattle.std.proofs.lemmas.Bool.{both_ways}
-use Rattle.std.proofs.lemmas.List.{length-map, get_or-map}
-use Rattle.trac_space.specs.declared.cell.Cell.{Cell}
-use Rattle.trac_space.specs.declared.cell.Cell.TheVariants.{Byte, Head}
-use Rattle.trac_space.specs.Cells.{seen}
-use Rattle.trac_space.specs.Texts.{IsByte, flat_text, text_of_cells}
-use Rattle.trac_store.specs.Forms.{name_at}
-use Rattle.trac_store.specs.FlatForms.{flat_forms}
-use Rattle.trac_store.specs.Stored.{forms_in, start_of, head_number}
-use Rattle.trac_store.specs.Index.{cell_at, IsIndex}
+use Rattle.trac_store.proofs.Words.{◌≡◌, ℕ, ◌+◌, ◌-◌, ◌*◌, ◌/◌, ◌<◌, ◌≤◌, List, length, map, get_or, slice_range, All, Some, sym, ap, ◌∙◌, subst, arith, both_ways, length-map, get_or-map, Cell, Byte, Head, seen, IsByte, flat_text, text_of_cells, name_at, flat_forms, forms_in, start_of}
+use Rattle.trac_store.proofs.Words.{head_number, cell_at, IsIndex}
 use Rattle.trac_store.proofs.Finding.{begins_at, number_is, bytes-flat}
 use Rattle.trac_store.proofs.HeadCells.{is_head, number-seen}
 use Rattle.trac_store.proofs.FlatLemmas.{Byte-character_of, character_of-Byte}

@@ -1,8 +1,4 @@
-use Rattle.std.proofs.Common.{◌≡◌, ◌+◌, ◌-◌, ◌<◌, length, sym, ap, ◌∙◌, subst, arith}
-use Rattle.trac_space.specs.Lists.{Lists}
-use Rattle.trac_store.specs.Forms.{name_at}
-use Rattle.trac_store.specs.Stored.{forms_in, start_of}
-use Rattle.trac_store.specs.Index.{IsIndexBut, buried, forward, start_in, home_in, slots}
+use Rattle.trac_store.proofs.Words.{◌≡◌, ◌+◌, ◌-◌, ◌<◌, length, sym, ap, ◌∙◌, subst, arith, Lists, name_at, forms_in, start_of, IsIndexBut, buried, forward, start_in, home_in, slots}
 use Rattle.trac_store.proofs.Places.{stands}
 use Rattle.trac_store.proofs.FormTables.{names_now, starts_now, home-within, index-buried, index-gap, next-home, next-start, index-forward, index-removed}
 use Rattle.trac_store.proofs.index.unindex.Goals as goal

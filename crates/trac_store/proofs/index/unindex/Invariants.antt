@@ -1,6 +1,4 @@
-use Rattle.std.proofs.Common.{◌≡◌, ◌-◌, length}
-use Rattle.trac_store.specs.Stored.{forms_in}
-use Rattle.trac_store.specs.Index.{IsIndexBut}
+use Rattle.trac_store.proofs.Words.{◌≡◌, ◌-◌, length, forms_in, IsIndexBut}
 use Rattle.trac_store.proofs.FormTables.{names_now, starts_now}
 use Rattle.trac_store.proofs.index.unindex.Given as goal
 

@@ -1,9 +1,4 @@
-use Rattle.std.proofs.Common.{◌≡◌, ◌+◌, ◌-◌, length, take, sym, ap, ◌∙◌, subst, arith}
-use Rattle.std.proofs.lemmas.List.{length-set}
-use Rattle.trac_space.specs.declared.cell.Cell.TheVariants.{Comma}
-use Rattle.trac_space.specs.Lists.{Lists}
-use Rattle.trac_store.specs.Stored.{forms_in}
-use Rattle.trac_store.specs.Index.{IsIndex, buried, home_in}
+use Rattle.trac_store.proofs.Words.{◌≡◌, ◌+◌, ◌-◌, length, take, sym, ap, ◌∙◌, subst, arith, length-set, Comma, Lists, forms_in, IsIndex, buried, home_in}
 use Rattle.trac_store.proofs.FormTables.{index-cut}
 use Rattle.trac_store.proofs.index.unindex_from.Goals as goal
 

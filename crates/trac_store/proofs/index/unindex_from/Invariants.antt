@@ -1,6 +1,4 @@
-use Rattle.std.proofs.Common.{◌≡◌, ◌<◌, length, take, ◌≤◌}
-use Rattle.trac_store.specs.Stored.{forms_in}
-use Rattle.trac_store.specs.Index.{IsIndexed}
+use Rattle.trac_store.proofs.Words.{◌≡◌, ◌<◌, length, take, ◌≤◌, forms_in, IsIndexed}
 use Rattle.trac_store.proofs.index.unindex_from.Given as goal
 
 -- the forms before are in the table

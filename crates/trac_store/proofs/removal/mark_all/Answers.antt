@@ -1,10 +1,4 @@
-use Rattle.std.proofs.Common.{◌≡◌, ◌+◌, slice_range, sym, ap, ◌∙◌, subst, arith}
-use Rattle.trac_space.specs.Lists.{Lists}
-use Rattle.trac_store.specs.Arguments.{before_comma, texts_between, AreParted}
-use Rattle.trac_store.specs.Parts.{IsTextPart, part_texts}
-use Rattle.trac_store.specs.FlatForms.{flat_forms}
-use Rattle.trac_store.specs.Removal.{with_marks}
-use Rattle.trac_store.specs.Stored.{forms_in}
+use Rattle.trac_store.proofs.Words.{◌≡◌, ◌+◌, slice_range, sym, ap, ◌∙◌, subst, arith, Lists, before_comma, texts_between, AreParted, IsTextPart, part_texts, flat_forms, with_marks, forms_in}
 use Rattle.trac_store.proofs.Parted.{found-comma, parts-none}
 use Rattle.trac_store.proofs.Removals.{marks-none, part-within, first-part, left-parted, marked-first, marked-alone}
 use Rattle.trac_store.proofs.removal.mark_all.Goals as goal

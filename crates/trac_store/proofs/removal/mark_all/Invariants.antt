@@ -1,7 +1,4 @@
-use Rattle.std.proofs.Common.{◌≡◌, ◌+◌, ◌-◌}
-use Rattle.trac_store.specs.Arguments.{AreParted, texts_between}
-use Rattle.trac_store.specs.Removal.{IsFormed, IsMarkedFrom, with_marks}
-use Rattle.trac_store.specs.Stored.{forms_in}
+use Rattle.trac_store.proofs.Words.{◌≡◌, ◌+◌, ◌-◌, AreParted, texts_between, IsFormed, IsMarkedFrom, with_marks, forms_in}
 use Rattle.trac_store.proofs.removal.mark_all.Given as goal
 
 -- the forms with the marks so far, those of the names that are left marked too, are the forms with all marks

@@ -1,8 +1,4 @@
-use Rattle.std.proofs.Common.{sym, ap, ◌∙◌, arith, subst}
-use Rattle.trac_store.specs.Parts.{part_text}
-use Rattle.trac_store.specs.FlatForms.{flat_forms}
-use Rattle.trac_store.specs.Removal.{IsMarkedFrom}
-use Rattle.trac_store.specs.Stored.{forms_in}
+use Rattle.trac_store.proofs.Words.{sym, ap, ◌∙◌, arith, subst, part_text, flat_forms, IsMarkedFrom, forms_in}
 use Rattle.trac_store.proofs.Places.{stands}
 use Rattle.trac_store.proofs.Removals.{mark-none, marked-lists, marked-read, marked-from}
 use Rattle.trac_store.proofs.removal.mark_named.Goals as goal

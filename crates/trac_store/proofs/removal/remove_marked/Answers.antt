@@ -1,7 +1,4 @@
-use Rattle.std.proofs.Common.{◌≡◌, ◌+◌, ◌<◌, ◌≤◌, length, true, false, sym, ap, ◌∙◌, arith, ◌==◌}
-use Rattle.trac_store.specs.Forms.{form_at}
-use Rattle.trac_store.specs.Removal.{is_marked, mark}
-use Rattle.trac_store.specs.Stored.{forms_in}
+use Rattle.trac_store.proofs.Words.{◌≡◌, ◌+◌, ◌<◌, ◌≤◌, length, true, false, sym, ap, ◌∙◌, arith, ◌==◌, form_at, is_marked, mark, forms_in}
 use Rattle.trac_store.proofs.Sweeping.{swept-name, swept-body, swept-pointer, swept-end, swept-more, swept-gone, swept-first}
 use Rattle.trac_store.proofs.removal.remove_marked.Goals.{then-pointer, else-pointer}
 use Rattle.trac_store.proofs.removal.remove_marked.Goals as goal

@@ -1,8 +1,4 @@
-use Rattle.std.proofs.Common.{◌≡◌, length, take, sym, ap, ◌∙◌, subst, arith}
-use Rattle.trac_space.specs.Lists.{Lists}
-use Rattle.trac_store.specs.Index.{IsIndexed}
-use Rattle.trac_store.specs.Removal.{unmarked}
-use Rattle.trac_store.specs.Stored.{forms_in, IsPlace}
+use Rattle.trac_store.proofs.Words.{◌≡◌, length, take, sym, ap, ◌∙◌, subst, arith, Lists, IsIndexed, unmarked, forms_in, IsPlace}
 use Rattle.trac_store.proofs.Removals.{unmarked-read, unmarked-whole, unmarked-shorter}
 use Rattle.trac_store.proofs.Sweeping.{first-stay, place-stays}
 use Rattle.trac_store.proofs.removal.take_out_marked.Goals as goal

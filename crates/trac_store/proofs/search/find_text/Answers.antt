@@ -1,11 +1,4 @@
-use Rattle.std.proofs.Common.{length, map, slice_range, sym, ap, subst, ◌∙◌, ◌-◌}
-use Rattle.std.proofs.lemmas.List.{length-map}
-use Rattle.trac_space.specs.Cells.{seen}
-use Rattle.trac_space.specs.Lists.{Lists}
-use Rattle.trac_space.specs.Texts.{character_of}
-use Rattle.trac_store.specs.Borders.{AreBorders}
-use Rattle.trac_store.specs.Parts.{part_text}
-use Rattle.trac_store.specs.Gaps.{text_cells_at}
+use Rattle.trac_store.proofs.Words.{length, map, slice_range, sym, ap, subst, ◌∙◌, ◌-◌, length-map, seen, Lists, character_of, AreBorders, part_text, text_cells_at}
 use Rattle.trac_store.proofs.BorderLists.{front-part}
 use Rattle.trac_store.proofs.Gaps.{bytes-seen}
 use Rattle.trac_store.proofs.Searches.{first-agrees, texts-seen}

@@ -1,5 +1,4 @@
-use Rattle.trac_store.specs.Search.{NonePasses}
-use Rattle.trac_space.specs.Texts.{byte_cell_at}
+use Rattle.trac_store.proofs.Words.{NonePasses, byte_cell_at}
 use Rattle.trac_store.proofs.search.first_character.Given as goal
 
 abbrev pub invariant-loop-i : goal.invariant-loop-i

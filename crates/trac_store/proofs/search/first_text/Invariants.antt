@@ -1,7 +1,4 @@
-use Rattle.std.proofs.Common.{map}
-use Rattle.trac_space.specs.Texts.{character_of}
-use Rattle.trac_store.specs.Search.{NonePasses}
-use Rattle.trac_store.specs.Gaps.{text_cells_at}
+use Rattle.trac_store.proofs.Words.{map, character_of, NonePasses, text_cells_at}
 use Rattle.trac_store.proofs.search.first_text.Given as goal
 
 abbrev pub invariant-loop-i : goal.invariant-loop-i

@@ -1,5 +1,4 @@
-use Rattle.std.proofs.Common.{◌≡◌, ℕ, ◌<◌, ◌≤◌, false}
-use Rattle.trac_space.specs.Texts.{byte_cell_at}
+use Rattle.trac_store.proofs.Words.{◌≡◌, ℕ, ◌<◌, ◌≤◌, false, byte_cell_at}
 use Rattle.trac_store.proofs.search.last_character.Given as goal
 
 abbrev pub invariant-loop-end : goal.invariant-loop-end

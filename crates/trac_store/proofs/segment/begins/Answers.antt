@@ -1,9 +1,4 @@
-use Rattle.std.proofs.Common.{◌≡◌, ℕ, ◌<◌, false, List, length, drop, map, get_or, sym, ◌∙◌, arith}
-use Rattle.std.proofs.lemmas.List.{drop_more, length-map}
-use Rattle.trac_space.specs.declared.cell.Cell.{Cell}
-use Rattle.trac_space.specs.declared.cell.Cell.TheVariants.{Byte}
-use Rattle.trac_space.specs.Texts.{character_of}
-use Rattle.trac_store.specs.Gaps.{is_byte, begins_cells}
+use Rattle.trac_store.proofs.Words.{◌≡◌, ℕ, ◌<◌, false, List, length, drop, map, get_or, sym, ◌∙◌, arith, drop_more, length-map, Cell, Byte, character_of, is_byte, begins_cells}
 use Rattle.trac_store.proofs.Gaps.{begins-few}
 use Rattle.trac_store.proofs.segment.begins.Goals as goal
 

@@ -1,6 +1,4 @@
-use Rattle.std.proofs.Common.{◌≡◌, ◌≤◌, length, drop, map}
-use Rattle.trac_space.specs.Texts.{character_of}
-use Rattle.trac_store.specs.Gaps.{begins_cells}
+use Rattle.trac_store.proofs.Words.{◌≡◌, ◌≤◌, length, drop, map, character_of, begins_cells}
 use Rattle.trac_store.proofs.segment.begins.Given as goal
 
 abbrev pub invariant-loop-i : goal.invariant-loop-i

@@ -1,13 +1,5 @@
-use Rattle.std.proofs.Common.{◌≡◌, ℕ, ◌+◌, ◌-◌, ◌<◌, ◌≤◌, Bool, true, List, [], ◌++◌, length, take, drop, map, set, get_or, slice_range, refl, subst, sym, ap, ◌∙◌, arith}
-use Rattle.std.proofs.lemmas.List.{length-map, length-set, length-append, length-take-le, drop-set-lt, drop-drop, get_or-drop}
-use Rattle.std.proofs.lemmas.List.Edits.{length-between, between_none}
-use Rattle.std.proofs.lemmas.List.Elements.{All-set, All-get_or}
-use Rattle.trac_space.specs.declared.cell.Cell.{Cell}
-use Rattle.trac_space.specs.declared.cell.Cell.TheVariants.{Byte, Gap}
-use Rattle.trac_space.specs.Cells.{IsNoCall, NoCall}
-use Rattle.trac_space.specs.Lists.{Lists}
-use Rattle.trac_space.specs.Texts.{character_of}
-use Rattle.trac_store.specs.Gaps.{begins_cells, segment_cells}
+use Rattle.trac_store.proofs.Words.{◌≡◌, ℕ, ◌+◌, ◌-◌, ◌<◌, ◌≤◌, Bool, true, List, [], ◌++◌, length, take, drop, map, set, get_or, slice_range, refl, subst, sym, ap, ◌∙◌, arith, length-map, length-set, length-append, length-take-le, drop-set-lt, drop-drop, get_or-drop, length-between}
+use Rattle.trac_store.proofs.Words.{between_none, All-set, All-get_or, Cell, Byte, Gap, IsNoCall, NoCall, Lists, character_of, begins_cells, segment_cells}
 use Rattle.trac_store.proofs.Gaps.{begins-length, written-gap, written-other}
 use Rattle.trac_store.proofs.segment.make_gaps.Goals as goal
 use Rattle.trac_store.proofs.segment.make_gaps.Goals.{then-stands_at, else-stands_at}

@@ -1,7 +1,4 @@
-use Rattle.std.proofs.Common.{◌≡◌, ◌-◌, ◌≤◌, ◌++◌, length, take, drop, map, slice_range}
-use Rattle.trac_space.specs.Cells.{NoCall}
-use Rattle.trac_space.specs.Texts.{character_of}
-use Rattle.trac_store.specs.Gaps.{segment_cells}
+use Rattle.trac_store.proofs.Words.{◌≡◌, ◌-◌, ◌≤◌, ◌++◌, length, take, drop, map, slice_range, NoCall, character_of, segment_cells}
 use Rattle.trac_store.proofs.segment.make_gaps.Given as goal
 
 abbrev pub invariant-loop-read : goal.invariant-loop-read

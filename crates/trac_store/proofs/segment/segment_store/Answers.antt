@@ -1,8 +1,4 @@
-use Rattle.std.proofs.Common.{◌≡◌, ◌<◌, ◌++◌, length, take, drop, slice_range, sym, ◌∙◌, arith}
-use Rattle.std.proofs.lemmas.List.{append_assoc, length-map, nil_from_length}
-use Rattle.std.proofs.lemmas.List.Edits.{length-between, split_between}
-use Rattle.trac_space.specs.Texts.{character_of}
-use Rattle.trac_store.specs.Parts.{part_text}
+use Rattle.trac_store.proofs.Words.{◌≡◌, ◌<◌, ◌++◌, length, take, drop, slice_range, sym, ◌∙◌, arith, append_assoc, length-map, nil_from_length, length-between, split_between, character_of, part_text}
 use Rattle.trac_store.proofs.Segments.{segmented-some}
 use Rattle.trac_store.proofs.segment.segment_store.Goals as goal
 

@@ -1,9 +1,4 @@
-use Rattle.std.proofs.Common.{◌<◌, length, map, ap, sym, ◌∙◌, arith}
-use Rattle.std.proofs.lemmas.List.{length-map}
-use Rattle.std.proofs.lemmas.List.Edits.{length-between}
-use Rattle.trac_space.specs.Cells.{seen}
-use Rattle.trac_space.specs.Texts.{character_of}
-use Rattle.trac_store.specs.Gaps.{begins_cells}
+use Rattle.trac_store.proofs.Words.{◌<◌, length, map, ap, sym, ◌∙◌, arith, length-map, length-between, seen, character_of, begins_cells}
 use Rattle.trac_store.proofs.Gaps.{begins-seen, begins-other}
 use Rattle.trac_store.proofs.segment.stands_at.Goals as goal
 

@@ -1,5 +1,4 @@
-use Rattle.std.proofs.Common.{arith}
-use Rattle.std.proofs.lemmas.Grind.{common_steps}
+use Rattle.trac_store.proofs.Words.{arith, common_steps}
 use Rattle.trac_store.proofs.store.find_named.Goals as goal
 
 pub returns-then-count-ge-MANY : goal.returns-then-count-ge-MANY

@@ -1,8 +1,4 @@
-use Rattle.std.proofs.Common.{◌≡◌, ℕ, ◌+◌, List, [], ◌∷◌, refl, length, map, get_or, ap, ◌∙◌, arith}
-use Rattle.trac_space.specs.declared.cell.Cell.TheVariants.{Byte}
-use Rattle.trac_space.specs.Cells.{seen}
-use Rattle.trac_store.specs.Stored.{forms_in}
-use Rattle.trac_store.specs.Forms.{form_at}
+use Rattle.trac_store.proofs.Words.{◌≡◌, ℕ, ◌+◌, List, [], ◌∷◌, refl, length, map, get_or, ap, ◌∙◌, arith, Byte, seen, forms_in, form_at}
 use Rattle.trac_store.proofs.Finding.{Begins, begins_at, number_is}
 use Rattle.trac_store.proofs.HeadCells.{is_head}
 use Rattle.trac_store.proofs.Stores.{NoneNamed-more}

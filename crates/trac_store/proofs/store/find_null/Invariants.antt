@@ -1,7 +1,4 @@
-use Rattle.std.proofs.Common.{◌≡◌, [], map, take}
-use Rattle.trac_language.specs.Store.{NoneNamed}
-use Rattle.trac_space.specs.Cells.{seen}
-use Rattle.trac_store.specs.Stored.{forms_in, start_of}
+use Rattle.trac_store.proofs.Words.{◌≡◌, [], map, take, NoneNamed, seen, forms_in, start_of}
 use Rattle.trac_store.proofs.store.find_null.Given as goal
 
 abbrev pub invariant-loop-k : goal.invariant-loop-k

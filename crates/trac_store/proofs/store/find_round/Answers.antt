@@ -1,7 +1,4 @@
-use Rattle.std.proofs.Common.{map}
-use Rattle.trac_space.specs.Cells.{seen}
-use Rattle.trac_space.specs.Texts.{text_of_cells}
-use Rattle.trac_store.specs.Stored.{forms_in}
+use Rattle.trac_store.proofs.Words.{map, seen, text_of_cells, forms_in}
 use Rattle.trac_store.proofs.Stores.{found-round}
 use Rattle.trac_store.proofs.store.find_round.Goals as goal
 

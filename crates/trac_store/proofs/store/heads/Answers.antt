@@ -1,5 +1,4 @@
-use Rattle.std.proofs.Common.{◌≡◌, ◌+◌, ap, ◌∙◌, arith}
-use Rattle.trac_store.specs.Stored.{head_at}
+use Rattle.trac_store.proofs.Words.{◌≡◌, ◌+◌, ap, ◌∙◌, arith, head_at}
 use Rattle.trac_store.proofs.HeadCells.{number-in-part}
 use Rattle.trac_store.proofs.store.heads.Goals as goal
 

@@ -1,10 +1,4 @@
-use Rattle.std.proofs.Common.{◌≡◌, ◌+◌, ◌≤◌, length, ap, ◌∙◌, arith}
-use Rattle.std.proofs.lemmas.List.{length-map}
-use Rattle.std.proofs.lemmas.List.Edits.{length-between}
-use Rattle.trac_space.specs.Cells.{seen}
-use Rattle.trac_store.specs.Arguments.{IsHeadAt}
-use Rattle.trac_store.specs.Forms.{form_at}
-use Rattle.trac_store.specs.Stored.{forms_in, head_at}
+use Rattle.trac_store.proofs.Words.{◌≡◌, ◌+◌, ◌≤◌, length, ap, ◌∙◌, arith, length-map, length-between, seen, IsHeadAt, form_at, forms_in, head_at}
 use Rattle.trac_store.proofs.HeadCells.{number-in-part, head-in-part, is-head-at}
 use Rattle.trac_store.proofs.Places.{stands, head_cells}
 use Rattle.trac_store.proofs.store.heads_of.Goals as goal

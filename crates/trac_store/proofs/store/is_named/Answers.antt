@@ -1,12 +1,4 @@
-use Rattle.std.proofs.Common.{◌≡◌, ℕ, ◌+◌, List, All, length, map, slice_range}
-use Rattle.std.proofs.Common.{sym, ap, ◌∙◌, subst, arith}
-use Rattle.trac_language.specs.Text.{Text}
-use Rattle.trac_space.specs.declared.cell.Cell.{Cell}
-use Rattle.trac_space.specs.declared.cell.Cell.TheVariants.{Byte}
-use Rattle.trac_space.specs.Cells.{seen}
-use Rattle.trac_space.specs.Texts.{text_of_cells, IsByte}
-use Rattle.trac_store.specs.Forms.{form_at}
-use Rattle.trac_store.specs.Stored.{forms_in}
+use Rattle.trac_store.proofs.Words.{◌≡◌, ℕ, ◌+◌, List, All, length, map, slice_range, sym, ap, ◌∙◌, subst, arith, Text, Cell, Byte, seen, text_of_cells, IsByte, form_at, forms_in}
 use Rattle.trac_store.proofs.Finding.{Begins, begins_at, number_is, bytes-flat, bytes-of-seen}
 use Rattle.trac_store.proofs.FlatLemmas.{character_of-Byte}
 use Rattle.trac_store.proofs.Gaps.{bytes-seen}

@@ -1,5 +1,4 @@
-use Rattle.std.proofs.Common.{◌≡◌, take}
-use Rattle.trac_space.specs.Texts.{text_of_cells}
+use Rattle.trac_store.proofs.Words.{◌≡◌, take, text_of_cells}
 use Rattle.trac_store.proofs.store.is_text.Given as goal
 
 -- the characters so far are the same

@@ -1,10 +1,4 @@
-use Rattle.std.proofs.Common.{◌≡◌, ℕ, ◌+◌, ◌-◌, ◌<◌, ◌≤◌, List, length, map, get_or, slice_range, sym, ap, ◌∙◌, subst, arith}
-use Rattle.std.proofs.lemmas.Bool.{false≢true}
-use Rattle.std.proofs.lemmas.List.{length-map, get_or-map}
-use Rattle.trac_space.specs.declared.cell.Cell.{Cell}
-use Rattle.trac_space.specs.declared.cell.Cell.TheVariants.{Byte}
-use Rattle.trac_space.specs.Cells.{seen}
-use Rattle.trac_space.specs.Texts.{character_of, text_of_cells, flat_text, IsByte}
+use Rattle.trac_store.proofs.Words.{◌≡◌, ℕ, ◌+◌, ◌-◌, ◌<◌, ◌≤◌, List, length, map, get_or, slice_range, sym, ap, ◌∙◌, subst, arith, false≢true, length-map, get_or-map, Cell, Byte, seen, character_of, text_of_cells, flat_text, IsByte}
 use Rattle.trac_store.proofs.Finding.{byte-seen, bytes-of-seen, seen-text, part-last, part-length}
 use Rattle.trac_store.proofs.Gaps.{bytes-seen, character_of-seen}
 use Rattle.trac_store.proofs.store.is_text_at.Goals as goal

@@ -1,5 +1,4 @@
-use Rattle.std.proofs.Common.{◌≡◌, ◌≤◌, length, drop}
-use Rattle.trac_space.specs.Texts.{text_of_cells}
+use Rattle.trac_store.proofs.Words.{◌≡◌, ◌≤◌, length, drop, text_of_cells}
 use Rattle.trac_store.proofs.store.is_text_back.Given as goal
 
 -- the characters from a place on are the same

@@ -1,12 +1,4 @@
-use Rattle.std.proofs.Common.{ℕ, ◌≡◌, ◌+◌, ◌-◌, length, map, All, slice_range, get_or, Some, sym, ap, ◌∙◌, subst, arith}
-use Rattle.std.proofs.lemmas.Bool.{both_ways}
-use Rattle.trac_language.specs.Form.{Form}
-use Rattle.trac_language.specs.Store.{NoneNamed}
-use Rattle.trac_space.specs.declared.cell.Cell.TheVariants.{Byte, Head}
-use Rattle.trac_space.specs.Cells.{seen}
-use Rattle.trac_space.specs.Texts.{flat_text, text_of_cells, IsByte}
-use Rattle.trac_store.specs.Stored.{forms_in, head_number, start_of}
-use Rattle.trac_store.specs.Forms.{form_at}
+use Rattle.trac_store.proofs.Words.{ℕ, ◌≡◌, ◌+◌, ◌-◌, length, map, All, slice_range, get_or, Some, sym, ap, ◌∙◌, subst, arith, both_ways, Form, NoneNamed, Byte, Head, seen, flat_text, text_of_cells, IsByte, forms_in, head_number, start_of, form_at}
 use Rattle.trac_store.proofs.Finding.{Begins, begins_at, number_is, bytes-flat}
 use Rattle.trac_store.proofs.HeadCells.{is_head}
 use Rattle.trac_store.proofs.FlatLemmas.{Byte-character_of, character_of-Byte}

@@ -1,8 +1,4 @@
-use Rattle.std.proofs.Common.{◌≡◌, ◌+◌, ◌-◌, ◌≤◌, map, slice_range}
-use Rattle.trac_language.specs.Store.{NoneNamed}
-use Rattle.trac_space.specs.Cells.{seen}
-use Rattle.trac_space.specs.Texts.{text_of_cells}
-use Rattle.trac_store.specs.Stored.{forms_in, start_of}
+use Rattle.trac_store.proofs.Words.{◌≡◌, ◌+◌, ◌-◌, ◌≤◌, map, slice_range, NoneNamed, seen, text_of_cells, forms_in, start_of}
 use Rattle.trac_store.proofs.store.search_some.Given as goal
 
 -- the name of the form that is next begins at the place, and no form before it has the name

@@ -1,5 +1,4 @@
-use Rattle.std.proofs.Common.{arith}
-use Rattle.trac_store.specs.Stored.{forms_in}
+use Rattle.trac_store.proofs.Words.{arith, forms_in}
 use Rattle.trac_store.proofs.Places.{stands}
 use Rattle.trac_store.proofs.store.walk.Goals as goal
 

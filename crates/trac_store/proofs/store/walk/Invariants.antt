@@ -1,5 +1,4 @@
-use Rattle.std.proofs.Common.{◌≡◌}
-use Rattle.trac_store.specs.Stored.{forms_in, start_of}
+use Rattle.trac_store.proofs.Words.{◌≡◌, forms_in, start_of}
 use Rattle.trac_store.proofs.store.walk.Given as goal
 
 abbrev pub invariant-loop-form : goal.invariant-loop-form

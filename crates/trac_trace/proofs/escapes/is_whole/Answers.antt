@@ -1,4 +1,4 @@
-use Rattle.std.proofs.Common.{◌∙◌, arith}
+use Rattle.trac_trace.proofs.Words.{◌∙◌, arith}
 use Rattle.trac_trace.proofs.Shows.{utf8_test, whole_is, whole_no}
 use Rattle.trac_trace.proofs.escapes.is_whole.Goals as goal
 

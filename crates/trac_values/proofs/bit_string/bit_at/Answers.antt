@@ -1,9 +1,4 @@
-use Rattle.std.proofs.Common.{◌/◌, length, sym, ◌∙◌, false, arith}
-use Rattle.std.proofs.lemmas.List.{get_or_past}
-use Rattle.std.proofs.lemmas.Bool.{le-ltb}
-use Rattle.trac_language.specs.BitString.{is_octal}
-use Rattle.trac_space.specs.Texts.{text_of_cells}
-use Rattle.trac_values.specs.Digits.{bits_of_cells}
+use Rattle.trac_values.proofs.Words.{◌/◌, length, sym, ◌∙◌, false, arith, get_or_past, le-ltb, is_octal, text_of_cells, bits_of_cells}
 use Rattle.trac_values.proofs.Texts.{length-text, read_at, read_passes}
 use Rattle.trac_values.proofs.OctalDigits.{length-bits_of}
 use Rattle.trac_values.proofs.DigitBits.{bit_read}

@@ -1,10 +1,4 @@
-use Rattle.std.proofs.Common.{◌≡◌, ◌*◌, length, pos, ap, ◌∙◌, arith}
-use Rattle.std.specs.Prelude.{flat_map, slice_get}
-use Rattle.std.specs.Int.{int_rem_euclid}
-use Rattle.trac_language.specs.BitString.{bits_of_digit, octal, rotated}
-use Rattle.trac_language.specs.Number.{number}
-use Rattle.trac_space.specs.Texts.{text_of_cells}
-use Rattle.trac_values.specs.Digits.{bits_of_cells}
+use Rattle.trac_values.proofs.Words.{◌≡◌, ◌*◌, length, pos, ap, ◌∙◌, arith, flat_map, slice_get, int_rem_euclid, bits_of_digit, octal, rotated, number, text_of_cells, bits_of_cells}
 use Rattle.trac_values.proofs.Texts.{length-text}
 use Rattle.trac_values.proofs.OctalDigits.{length-bits_of}
 use Rattle.trac_values.proofs.Shifts.{rotation_same}

@@ -1,9 +1,4 @@
-use Rattle.std.proofs.Common.{ap, ◌∙◌, arith}
-use Rattle.std.specs.Prelude.{flat_map, slice_get}
-use Rattle.trac_language.specs.BitString.{bits_of_digit, octal, shifted}
-use Rattle.trac_language.specs.Number.{number}
-use Rattle.trac_space.specs.Texts.{text_of_cells}
-use Rattle.trac_values.specs.Digits.{bits_of_cells}
+use Rattle.trac_values.proofs.Words.{ap, ◌∙◌, arith, flat_map, slice_get, bits_of_digit, octal, shifted, number, text_of_cells, bits_of_cells}
 use Rattle.trac_values.proofs.Texts.{length-text}
 use Rattle.trac_values.proofs.OctalDigits.{length-bits_of}
 use Rattle.trac_values.proofs.Shifts.{shift_same}

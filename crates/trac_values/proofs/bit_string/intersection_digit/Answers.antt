@@ -1,6 +1,4 @@
-use Rattle.std.proofs.Common.{◌≡◌, ◌+◌, ◌-◌, length, get_or, sym, ap, ◌∙◌, arith}
-use Rattle.trac_language.specs.BitString.{is_octal}
-use Rattle.trac_space.specs.Texts.{text_of_cells}
+use Rattle.trac_values.proofs.Words.{◌≡◌, ◌+◌, ◌-◌, length, get_or, sym, ap, ◌∙◌, arith, is_octal, text_of_cells}
 use Rattle.trac_values.proofs.Texts.{length-text, read_at, read_passes}
 use Rattle.trac_values.proofs.DigitBits.{intersection_at, intersection_past}
 use Rattle.trac_values.proofs.bit_string.intersection_digit.Goals as goal

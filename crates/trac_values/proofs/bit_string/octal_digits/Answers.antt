@@ -1,6 +1,4 @@
-use Rattle.std.proofs.Common.{◌≡◌, sym, subst, length, get_or, true, ◌<◌, ℕ}
-use Rattle.trac_language.specs.BitString.{is_octal}
-use Rattle.trac_space.specs.Texts.{text_of_cells}
+use Rattle.trac_values.proofs.Words.{◌≡◌, sym, subst, length, get_or, true, ◌<◌, ℕ, is_octal, text_of_cells}
 use Rattle.trac_values.proofs.SuffixCells.{back_passes}
 use Rattle.trac_values.proofs.bit_string.octal_digits.Goals as goal
 

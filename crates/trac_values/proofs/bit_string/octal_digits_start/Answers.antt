@@ -1,5 +1,4 @@
-use Rattle.std.proofs.Common.{ap, sym, ◌∙◌, arith}
-use Rattle.trac_language.specs.BitString.{is_octal}
+use Rattle.trac_values.proofs.Words.{ap, sym, ◌∙◌, arith, is_octal}
 use Rattle.trac_values.proofs.Suffixes.{suffix_more, suffix_stops}
 use Rattle.trac_values.proofs.bit_string.octal_digits_start.Goals as goal
 

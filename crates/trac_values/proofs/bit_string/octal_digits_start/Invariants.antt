@@ -1,7 +1,4 @@
-use Rattle.std.proofs.Common.{◌≡◌, length, ◌+◌, ◌≤◌, take}
-use Rattle.std.specs.List.{suffix_len}
-use Rattle.trac_language.specs.BitString.{is_octal}
-use Rattle.trac_space.specs.Texts.{text_of_cells}
+use Rattle.trac_values.proofs.Words.{◌≡◌, length, ◌+◌, ◌≤◌, take, suffix_len, is_octal, text_of_cells}
 use Rattle.trac_values.proofs.bit_string.octal_digits_start.Given as goal
 
 -- the cells from start on are octal digits

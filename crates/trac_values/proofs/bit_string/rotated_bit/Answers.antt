@@ -1,6 +1,4 @@
-use Rattle.std.proofs.Common.{◌*◌, ◌+◌, length, sym, ap, ◌∙◌, false, get_or, arith}
-use Rattle.std.proofs.Math.Nat.{mod-eq_of_lt}
-use Rattle.trac_values.specs.Digits.{bits_of_cells}
+use Rattle.trac_values.proofs.Words.{◌*◌, ◌+◌, length, sym, ap, ◌∙◌, false, get_or, arith, mod-eq_of_lt, bits_of_cells}
 use Rattle.trac_values.proofs.Shifts.{wrapped}
 use Rattle.trac_values.proofs.bit_string.rotated_bit.Goals as goal
 

@@ -1,8 +1,4 @@
-use Rattle.std.proofs.Common.{◌≡◌, ◌*◌, ◌+◌, ◌%◌, ℕ, length, pos, false, get_or, sym, ap, ◌∙◌, Some, arith}
-use Rattle.std.specs.Prelude.{◌+ℤ◌}
-use Rattle.std.specs.Int.{int_rem_euclid}
-use Rattle.trac_language.specs.BitString.{bit_at}
-use Rattle.trac_values.specs.Digits.{bits_of_cells}
+use Rattle.trac_values.proofs.Words.{◌≡◌, ◌*◌, ◌+◌, ◌%◌, ℕ, length, pos, false, get_or, sym, ap, ◌∙◌, Some, arith, ◌+ℤ◌, int_rem_euclid, bit_at, bits_of_cells}
 use Rattle.trac_values.proofs.Texts.{length-text}
 use Rattle.trac_values.proofs.OctalDigits.{length-bits_of}
 use Rattle.trac_values.proofs.Shifts.{by_digit, by_past}

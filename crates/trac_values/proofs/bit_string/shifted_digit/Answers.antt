@@ -1,7 +1,4 @@
-use Rattle.std.proofs.Common.{length, pos, sym, ap, ◌∙◌, Some, arith}
-use Rattle.std.specs.Prelude.{◌+ℤ◌}
-use Rattle.trac_language.specs.BitString.{bit_at}
-use Rattle.trac_values.specs.Digits.{bits_of_cells, signed}
+use Rattle.trac_values.proofs.Words.{length, pos, sym, ap, ◌∙◌, Some, arith, ◌+ℤ◌, bit_at, bits_of_cells, signed}
 use Rattle.trac_values.proofs.Texts.{length-text}
 use Rattle.trac_values.proofs.OctalDigits.{length-bits_of}
 use Rattle.trac_values.proofs.Shifts.{by_digit, by_past}

@@ -1,7 +1,4 @@
-use Rattle.std.proofs.Common.{◌≡◌}
-use Rattle.std.specs.Ordering.{nat_cmp}
-use Rattle.trac_space.specs.Texts.{text_of_cells}
-use Rattle.trac_values.specs.Digits.{value_upto}
+use Rattle.trac_values.proofs.Words.{◌≡◌, nat_cmp, text_of_cells, value_upto}
 use Rattle.trac_values.proofs.number.compare_digits.Given as goal
 
 -- the numbers up to the place are in this order

@@ -1,5 +1,4 @@
-use Rattle.std.proofs.Common.{ap, sym, ◌∙◌, arith}
-use Rattle.std.specs.Char.{is_ascii_digit}
+use Rattle.trac_values.proofs.Words.{ap, sym, ◌∙◌, arith, is_ascii_digit}
 use Rattle.trac_values.proofs.Suffixes.{suffix_more, suffix_stops}
 use Rattle.trac_values.proofs.number.digits_start.Goals as goal
 

@@ -1,7 +1,4 @@
-use Rattle.std.proofs.Common.{◌≡◌, length, ◌+◌, ◌≤◌, take}
-use Rattle.std.specs.List.{suffix_len}
-use Rattle.std.specs.Char.{is_ascii_digit}
-use Rattle.trac_space.specs.Texts.{text_of_cells}
+use Rattle.trac_values.proofs.Words.{◌≡◌, length, ◌+◌, ◌≤◌, take, suffix_len, is_ascii_digit, text_of_cells}
 use Rattle.trac_values.proofs.number.digits_start.Given as goal
 
 -- the cells from start on are digits

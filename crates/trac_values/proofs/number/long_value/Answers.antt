@@ -1,13 +1,5 @@
-use Rattle.std.proofs.Common.{◌≡◌, ℕ, ◌+◌, ◌-◌, ◌*◌, ◌^◌, ◌<◌, ◌≤◌, List, ◌++◌, length, take, drop, Some, pos, sym, ap, ◌∙◌, arith}
-use Rattle.std.specs.Char.{is_ascii_digit}
-use Rattle.std.specs.List.{slice_index}
-use Rattle.std.specs.Str.Parse.{digits_value}
-use Rattle.std.proofs.Math.Seq.{take-add}
-use Rattle.std.proofs.lemmas.List.{take-map, drop-map, get_or-take, get_or-drop, length-map, length-take-le, length-drop}
-use Rattle.trac_language.specs.Number.{if_in_range}
-use Rattle.trac_space.specs.declared.cell.Cell.{Cell}
-use Rattle.trac_space.specs.Texts.{character_of, text_of_cells}
-use Rattle.trac_values.specs.Digits.{IsDecimal}
+use Rattle.trac_values.proofs.Words.{◌≡◌, ℕ, ◌+◌, ◌-◌, ◌*◌, ◌^◌, ◌<◌, ◌≤◌, List, ◌++◌, length, take, drop, Some, pos, sym, ap, ◌∙◌, arith, is_ascii_digit, slice_index, digits_value, take-add, take-map, drop-map, get_or-take, get_or-drop, length-map, length-take-le, length-drop, if_in_range, Cell}
+use Rattle.trac_values.proofs.Words.{character_of, text_of_cells, IsDecimal}
 use Rattle.trac_values.proofs.DigitsFromEnd.{value-append}
 use Rattle.trac_values.proofs.number.long_value.Goals as goal
 

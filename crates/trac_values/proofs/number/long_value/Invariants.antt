@@ -1,7 +1,4 @@
-use Rattle.std.proofs.Common.{◌≡◌, ◌-◌, ◌≤◌, Some, pos, length, take}
-use Rattle.std.specs.Str.Parse.{digits_value}
-use Rattle.trac_language.specs.Number.{if_in_range}
-use Rattle.trac_space.specs.Texts.{text_of_cells}
+use Rattle.trac_values.proofs.Words.{◌≡◌, ◌-◌, ◌≤◌, Some, pos, length, take, digits_value, if_in_range, text_of_cells}
 use Rattle.trac_values.proofs.number.long_value.Given as goal
 
 -- the value of the digits so far

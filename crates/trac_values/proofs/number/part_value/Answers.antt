@@ -1,10 +1,4 @@
-use Rattle.std.proofs.Common.{◌≡◌, ◌<◌, ◌^◌, length, true, sym, ap, ◌∙◌, refl, arith, rules}
-use Rattle.std.proofs.lemmas.List.{length-map, get_or-map, take_all}
-use Rattle.std.specs.Str.Parse.{digits_value}
-use Rattle.std.specs.Char.{is_ascii_digit}
-use Rattle.trac_space.specs.declared.cell.Cell.{Cell}
-use Rattle.trac_space.specs.declared.cell.Cell.TheVariants.{Byte, Call, Comma, Gap, Head}
-use Rattle.trac_space.specs.Texts.{character_of, text_of_cells, IsByte}
+use Rattle.trac_values.proofs.Words.{◌≡◌, ◌<◌, ◌^◌, length, true, sym, ap, ◌∙◌, refl, arith, rules, length-map, get_or-map, take_all, digits_value, is_ascii_digit, Cell, Byte, Call, Comma, Gap, Head, character_of, text_of_cells, IsByte}
 use Rattle.trac_values.proofs.DigitsFromEnd.{fits_before}
 use Rattle.trac_values.proofs.Suffixes.{digit_at, value_more, within_text}
 use Rattle.trac_values.proofs.number.part_value.Goals as goal

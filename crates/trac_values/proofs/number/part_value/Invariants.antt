@@ -1,6 +1,4 @@
-use Rattle.std.proofs.Common.{◌≡◌, ◌<◌, ◌^◌, take}
-use Rattle.std.specs.Str.Parse.{digits_value}
-use Rattle.trac_space.specs.Texts.{text_of_cells}
+use Rattle.trac_values.proofs.Words.{◌≡◌, ◌<◌, ◌^◌, take, digits_value, text_of_cells}
 use Rattle.trac_values.proofs.number.part_value.Given as goal
 
 -- the value of the digits so far

@@ -1,6 +1,4 @@
-use Rattle.std.proofs.Common.{ap, sym, ◌∙◌, ◌≡◌, ◌+◌, ◌*◌, ◌-◌, ◌%◌, take}
-use Rattle.std.specs.Str.Parse.{digits_value}
-use Rattle.trac_space.specs.Texts.{text_of_cells}
+use Rattle.trac_values.proofs.Words.{ap, sym, ◌∙◌, ◌≡◌, ◌+◌, ◌*◌, ◌-◌, ◌%◌, take, digits_value, text_of_cells}
 use Rattle.trac_values.proofs.Suffixes.{digit_at, value_more, within_text}
 use Rattle.trac_values.proofs.LongNumbers.{rest_more}
 use Rattle.trac_values.proofs.number.remainder_of.Goals as goal

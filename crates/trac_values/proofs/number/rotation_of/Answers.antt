@@ -1,5 +1,4 @@
-use Rattle.std.proofs.Common.{arith, sym, ◌∙◌}
-use Rattle.trac_space.specs.Texts.{text_of_cells}
+use Rattle.trac_values.proofs.Words.{arith, sym, ◌∙◌, text_of_cells}
 use Rattle.trac_values.proofs.LongNumbers.{rotation_minus, rotation_plain, rotation_none}
 use Rattle.trac_values.proofs.number.rotation_of.Goals as goal
 use Rattle.trac_values.proofs.number.rotation_of.Goals.{else-rest-gt0-via-then-rest-gt0+else-ends_with, else-rest-gt0-via-else-rest-gt0}

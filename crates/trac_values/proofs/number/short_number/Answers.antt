@@ -1,10 +1,4 @@
-use Rattle.std.proofs.Common.{◌≡◌, ◌-◌, ◌*◌, ◌+◌, ◌<◌, ◌^◌, length, drop, sym, ap, ◌∙◌, subst, arith, get_or}
-use Rattle.std.proofs.lemmas.List.{length-map, get_or-map}
-use Rattle.std.specs.Char.{is_ascii_digit, digit_value}
-use Rattle.std.specs.Str.Parse.{digits_value}
-use Rattle.trac_language.specs.Number.{before_digits}
-use Rattle.trac_space.specs.declared.cell.Cell.TheVariants.{Byte}
-use Rattle.trac_space.specs.Texts.{character_of, text_of_cells}
+use Rattle.trac_values.proofs.Words.{◌≡◌, ◌-◌, ◌*◌, ◌+◌, ◌<◌, ◌^◌, length, drop, sym, ap, ◌∙◌, subst, arith, get_or, length-map, get_or-map, is_ascii_digit, digit_value, digits_value, before_digits, Byte, character_of, text_of_cells}
 use Rattle.trac_values.proofs.DigitsFromEnd.{value_before, fits_before}
 use Rattle.trac_values.proofs.Suffixes.{digit_facts, suffix_more, suffix_stops}
 use Rattle.trac_values.proofs.TailNumbers.{place}

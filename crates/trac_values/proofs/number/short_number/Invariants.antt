@@ -1,8 +1,4 @@
-use Rattle.std.proofs.Common.{◌≡◌, length, ◌+◌, ◌-◌, ◌<◌, ◌≤◌, ◌^◌, take, drop}
-use Rattle.std.specs.List.{suffix_len}
-use Rattle.std.specs.Char.{is_ascii_digit}
-use Rattle.std.specs.Str.Parse.{digits_value}
-use Rattle.trac_space.specs.Texts.{text_of_cells}
+use Rattle.trac_values.proofs.Words.{◌≡◌, length, ◌+◌, ◌-◌, ◌<◌, ◌≤◌, ◌^◌, take, drop, suffix_len, is_ascii_digit, digits_value, text_of_cells}
 use Rattle.trac_values.proofs.number.short_number.Given as goal
 
 -- the cells from start on are digits, and the value is theirs

@@ -1,6 +1,4 @@
-use Rattle.std.proofs.Common.{◌≡◌, sym, subst, length, get_or, true, ◌<◌, ℕ}
-use Rattle.std.specs.Char.{is_ascii_digit}
-use Rattle.trac_space.specs.Texts.{text_of_cells}
+use Rattle.trac_values.proofs.Words.{◌≡◌, sym, subst, length, get_or, true, ◌<◌, ℕ, is_ascii_digit, text_of_cells}
 use Rattle.trac_values.proofs.SuffixCells.{back_passes}
 use Rattle.trac_values.proofs.number.split_digits.Goals as goal
 

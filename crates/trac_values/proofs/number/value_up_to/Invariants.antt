@@ -1,6 +1,4 @@
-use Rattle.std.proofs.Common.{◌≡◌, min, take}
-use Rattle.std.specs.Str.Parse.{digits_value}
-use Rattle.trac_space.specs.Texts.{text_of_cells}
+use Rattle.trac_values.proofs.Words.{◌≡◌, min, take, digits_value, text_of_cells}
 use Rattle.trac_values.proofs.number.value_up_to.Given as goal
 
 -- the value of the digits so far, up to the limit

@@ -1,5 +1,4 @@
-use Rattle.std.proofs.Common.{get_or, arith, sym, ap, ◌∙◌}
-use Rattle.std.proofs.lemmas.Bool.{false≢true}
+use Rattle.trac_values.proofs.Words.{get_or, arith, sym, ap, ◌∙◌, false≢true}
 use Rattle.trac_values.proofs.Texts.{read, same_more}
 use Rattle.trac_values.proofs.text.equal.Goals as goal
 

@@ -1,5 +1,4 @@
-use Rattle.std.proofs.Common.{◌≡◌, take}
-use Rattle.trac_space.specs.Texts.{text_of_cells}
+use Rattle.trac_values.proofs.Words.{◌≡◌, take, text_of_cells}
 use Rattle.trac_values.proofs.text.equal.Given as goal
 
 -- the texts are the same so far

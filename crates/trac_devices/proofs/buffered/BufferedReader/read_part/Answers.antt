@@ -1,7 +1,4 @@
-use Rattle.std.proofs.Common.{◌≡◌, ◌∙◌, ◌+◌, ◌++◌, [], ap, take, drop, length, sym, subst, arith, take_at, length-take, length-append, length-drop}
-use Rattle.std.specs.Prelude.{slice_range}
-use Rattle.std.specs.Io.KnownBytes.{Consumes, Keeps, IsAtEnd}
-use Rattle.trac_devices.specs.Buffered.{unread}
+use Rattle.trac_devices.proofs.Words.{◌≡◌, ◌∙◌, ◌+◌, ◌++◌, [], ap, take, drop, length, sym, subst, arith, take_at, length-take, length-append, length-drop, slice_range, Consumes, Keeps, IsAtEnd, unread}
 use Rattle.trac_devices.proofs.Bytes.{at_end, consumes_front, consumes_kept, part_split}
 use Rattle.trac_devices.proofs.buffered.BufferedReader.read_part.Goals as goal
 

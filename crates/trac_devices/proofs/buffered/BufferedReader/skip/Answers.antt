@@ -1,5 +1,4 @@
-use Rattle.std.proofs.Common.{◌+◌, ◌≤◌, ap, length, arith}
-use Rattle.std.proofs.lemmas.List.Edits.{length-between}
+use Rattle.trac_devices.proofs.Words.{◌+◌, ◌≤◌, ap, length, arith, length-between}
 use Rattle.trac_devices.proofs.Bytes.{input_skipped}
 use Rattle.trac_devices.proofs.buffered.BufferedReader.skip.Goals as goal
 

@@ -1,6 +1,4 @@
-use Rattle.std.proofs.Common.{◌≡◌, ◌∙◌, ◌+◌, ◌∷◌, ◌++◌, [], ap, sym, take, arith, get_or}
-use Rattle.std.proofs.Math.ListN.{set}
-use Rattle.std.specs.Prelude.{slice_range}
+use Rattle.trac_devices.proofs.Words.{◌≡◌, ◌∙◌, ◌+◌, ◌∷◌, ◌++◌, [], ap, sym, take, arith, get_or, set, slice_range}
 use Rattle.trac_devices.proofs.Bytes.{consumes_front, one_given, part_first}
 use Rattle.trac_devices.proofs.buffered.BufferedReaderRead.read.Goals as goal
 

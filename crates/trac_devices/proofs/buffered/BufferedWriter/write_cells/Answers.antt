@@ -1,10 +1,4 @@
-use Rattle.std.proofs.Common.{◌≡◌, ◌∙◌, take, length, sym, subst, arith, length-take}
-use Rattle.std.specs.Prelude.{slice_range}
-use Rattle.std.specs.Io.KnownBytes.{Keeps}
-use Rattle.std.specs.List.{take-map}
-use Rattle.std.proofs.lemmas.List.{length-map}
-use Rattle.trac_space.specs.Texts.{character_of, text_of_cells}
-use Rattle.trac_devices.specs.Buffered.{accepted}
+use Rattle.trac_devices.proofs.Words.{◌≡◌, ◌∙◌, take, length, sym, subst, arith, length-take, slice_range, Keeps, take-map, length-map, character_of, text_of_cells, accepted}
 use Rattle.trac_devices.proofs.Bytes.{appends_behind, appends_kept, part_appended}
 use Rattle.trac_devices.proofs.buffered.BufferedWriter.write_cells.Goals as goal
 

@@ -1,7 +1,4 @@
-use Rattle.std.proofs.Common.{◌≡◌, take, length, sym, subst, arith, length-take}
-use Rattle.std.specs.Prelude.{slice_range}
-use Rattle.std.specs.Io.KnownBytes.{Keeps}
-use Rattle.trac_devices.specs.Buffered.{accepted}
+use Rattle.trac_devices.proofs.Words.{◌≡◌, take, length, sym, subst, arith, length-take, slice_range, Keeps, accepted}
 use Rattle.trac_devices.proofs.Bytes.{appends_behind, appends_kept, part_appended}
 use Rattle.trac_devices.proofs.buffered.BufferedWriter.write_part.Goals as goal
 

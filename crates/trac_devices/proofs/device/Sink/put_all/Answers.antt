@@ -1,4 +1,4 @@
-use Rattle.trac_space.specs.Texts.{text_of_cells}
+use Rattle.trac_devices.proofs.Words.{text_of_cells}
 use Rattle.trac_devices.proofs.PutCells.{prints-err, breaks-cells}
 use Rattle.trac_devices.proofs.device.Sink.put_all.Goals as goal
 

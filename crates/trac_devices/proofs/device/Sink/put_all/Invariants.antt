@@ -1,5 +1,4 @@
-use Rattle.std.proofs.Common.{◌≡◌, ◌++◌, take}
-use Rattle.trac_space.specs.Texts.{text_of_cells}
+use Rattle.trac_devices.proofs.Words.{◌≡◌, ◌++◌, take, text_of_cells}
 use Rattle.trac_devices.proofs.device.Sink.put_all.Given as goal
 
 -- the characters so far were written

@@ -1,6 +1,4 @@
-use Rattle.std.proofs.Common.{take, refl, subst, sym}
-use Rattle.trac_devices.specs.Buffered.{unread}
-use Rattle.trac_devices.specs.Slices.{IfTells}
+use Rattle.trac_devices.proofs.Words.{take, refl, subst, sym, unread, IfTells}
 use Rattle.trac_devices.proofs.Bytes.{taken_known}
 use Rattle.trac_devices.proofs.input.InputSource.take_held.Goals as goal
 

@@ -1,13 +1,4 @@
-use Rattle.std.proofs.Common.{◌≡◌, ◌-◌, ◌≤◌, ◌++◌, length, take, drop, sym, ap, subst, ◌∙◌, arith, slice_range}
-use lib.Seq.{take-add, take-take}
-use Rattle.std.specs.Io.KnownBytes.{Appends}
-use Rattle.std.specs.List.{take-map}
-use Rattle.std.proofs.KnownBytes.{Appends-trans}
-use Rattle.std.proofs.lemmas.List.{take-append-drop, drop-map, length-map}
-use Rattle.std.proofs.lemmas.List.Edits.{length-between}
-use Rattle.trac_space.specs.Texts.{character_of, text_of_cells}
-use Rattle.std.specs.Prelude.{IsSome}
-use Rattle.trac_devices.specs.Buffered.{accepted}
+use Rattle.trac_devices.proofs.Words.{◌≡◌, ◌-◌, ◌≤◌, ◌++◌, length, take, drop, sym, ap, subst, ◌∙◌, arith, slice_range, take-add, take-take, Appends, take-map, Appends-trans, take-append-drop, drop-map, length-map, length-between, character_of, text_of_cells, IsSome, accepted}
 use Rattle.trac_devices.proofs.Bytes.{appended_known}
 use Rattle.trac_devices.proofs.output.OutputSink.put_all.Goals as goal
 

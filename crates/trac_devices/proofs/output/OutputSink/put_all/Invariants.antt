@@ -1,7 +1,4 @@
-use Rattle.std.proofs.Common.{◌≡◌, ◌≤◌, ◌-◌, take, length}
-use Rattle.std.specs.Io.KnownBytes.{Appends}
-use Rattle.trac_space.specs.Texts.{text_of_cells}
-use Rattle.trac_devices.specs.Buffered.{accepted}
+use Rattle.trac_devices.proofs.Words.{◌≡◌, ◌≤◌, ◌-◌, take, length, Appends, text_of_cells, accepted}
 use Rattle.trac_devices.proofs.output.OutputSink.put_all.Given as goal
 
 -- the characters so far were taken

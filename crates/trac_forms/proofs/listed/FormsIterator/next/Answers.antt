@@ -1,4 +1,4 @@
-use Rattle.std.proofs.Common.{ap, length, arith}
+use Rattle.trac_forms.proofs.Words.{ap, length, arith}
 use Rattle.trac_forms.proofs.Listing.{first-listed}
 use Rattle.trac_forms.proofs.listed.FormsIterator.next.Goals as goal
 

@@ -1,20 +1,7 @@
-use Rattle.std.proofs.Common.{◌+◌, ◌++◌, List, ◌∙◌, [], ◌≡◌, ◌∷◌, take, sym, subst, length, refl, ap, arith}
-use Rattle.std.proofs.lemmas.Bool.{false≢true}
-use Rattle.std.proofs.lemmas.List.{length_push, take_at}
-use Rattle.std.proofs.lemmas.List.Sums.{sum_by_push}
-use Rattle.trac_language.specs.Form.{Form}
-use Rattle.trac_language.specs.Store.{without, form_cells}
+use Rattle.trac_forms.proofs.Words.{◌+◌, ◌++◌, List, ◌∙◌, [], ◌≡◌, ◌∷◌, take, sym, subst, length, refl, ap, arith, false≢true, length_push, take_at, sum_by_push, Form, without, form_cells, Lists, part_text, new_form, forms_in, start_of, IsStored, flat_forms, IsIndexed, index-kept, forms_in-flat}
+use Rattle.trac_forms.proofs.Words.{count-le, length-flat, length-new_form, cells-without}
 use Rattle.trac_space.specs.Lists as lists
-use Rattle.trac_space.specs.Lists.{Lists}
-use Rattle.trac_store.specs.Parts.{part_text, new_form}
-use Rattle.trac_store.specs.Stored.{forms_in, start_of}
-use Rattle.trac_forms.specs.Stored.{IsStored}
-use Rattle.trac_store.specs.FlatForms.{flat_forms}
-use Rattle.trac_store.specs.Index.{IsIndexed}
-use Rattle.trac_store.proofs.Indexed.{index-kept}
-use Rattle.trac_store.proofs.FlatLemmas.{forms_in-flat, count-le, length-flat, length-new_form}
 use Rattle.trac_forms.proofs.Strings.{used-stored, shown-restored, redefined}
-use Rattle.trac_store.proofs.Stores.{cells-without}
 use Rattle.trac_forms.proofs.StoreChanges.{defined-stored}
 use Rattle.trac_forms.proofs.work.Work.define_form.Goals as goal
 use Rattle.trac_forms.proofs.work.Work.define_form.Goals.{After-store_form, After-index_last}

@@ -1,10 +1,5 @@
-use Rattle.std.proofs.Common.{◌≡◌, ◌+◌, ◌≤◌, length, true, arith}
-use Rattle.std.proofs.lemmas.List.{length-map}
-use Rattle.trac_space.specs.declared.cell.Cell.TheVariants.{Byte}
+use Rattle.trac_forms.proofs.Words.{◌≡◌, ◌+◌, ◌≤◌, length, true, arith, length-map, Byte, flat_text, filled_body, shown, IsStored}
 use Rattle.trac_space.specs.Lists.{used as cells_used}
-use Rattle.trac_space.specs.Texts.{flat_text}
-use Rattle.trac_forms.specs.Arguments.{filled_body}
-use Rattle.trac_forms.specs.Stored.{shown, IsStored}
 use Rattle.trac_forms.proofs.Strings.{used-stored, appended-or-kept}
 use Rattle.trac_forms.proofs.Copies.{string_cells-text}
 use Rattle.trac_forms.proofs.work.Work.fill_other.Goals as goal

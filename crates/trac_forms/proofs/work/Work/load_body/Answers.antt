@@ -1,20 +1,8 @@
-use Rattle.std.proofs.Common.{◌≡◌, ℕ, ◌+◌, ◌≤◌, ◌++◌, List, [], ◌∷◌, length, Option, Some, None, MatchOption, refl, sym, ap, subst, arith}
-use Rattle.std.proofs.lemmas.List.{length-map}
-use Rattle.trac_language.specs.declared.item.Item.{Item}
+use Rattle.trac_forms.proofs.Words.{◌≡◌, ℕ, ◌+◌, ◌≤◌, ◌++◌, List, [], ◌∷◌, length, Option, Some, None, MatchOption, refl, sym, ap, subst, arith, length-map, Item, text_of, Byte, Lists, with_way, flat_text, form_place, AreCharacters, called_part, IsLoaded, forms_in, shown, IsStored, bytes-flat}
+use Rattle.trac_forms.proofs.Words.{way-kept}
 use Rattle.trac_language.specs.declared.item.Item.TheVariants as item
-use Rattle.trac_language.specs.Form.{text_of}
-use Rattle.trac_space.specs.declared.cell.Cell.TheVariants.{Byte}
-use Rattle.trac_space.specs.Lists.{Lists, with_way}
 use Rattle.trac_space.specs.Lists as lists
-use Rattle.trac_space.specs.Texts.{flat_text}
-use Rattle.trac_forms.specs.Contents.{form_place}
-use Rattle.trac_store.specs.Loading.{AreCharacters, called_part}
-use Rattle.trac_forms.specs.Loading.{IsLoaded}
-use Rattle.trac_store.specs.Stored.{forms_in}
-use Rattle.trac_forms.specs.Stored.{shown, IsStored}
-use Rattle.trac_store.proofs.Finding.{bytes-flat}
 use Rattle.trac_forms.proofs.Strings.{used-stored, before-active}
-use Rattle.trac_store.proofs.Indexed.{way-kept}
 use Rattle.trac_forms.proofs.work.Work.load_body.Goals as goal
 
 -- the items stand before active, or all is as it was

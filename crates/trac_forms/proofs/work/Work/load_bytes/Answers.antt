@@ -1,13 +1,5 @@
-use Rattle.std.proofs.Common.{◌+◌, ◌≤◌, length, arith, refl}
-use Rattle.std.proofs.lemmas.List.{length-map}
-use Rattle.std.proofs.lemmas.List.Elements.{All-map}
-use Rattle.trac_space.specs.declared.cell.Cell.TheVariants.{Byte}
-use Rattle.trac_space.specs.Cells.{bytes}
-use Rattle.trac_space.specs.Lists.{Lists}
+use Rattle.trac_forms.proofs.Words.{◌+◌, ◌≤◌, length, arith, refl, length-map, All-map, Byte, bytes, Lists, IsByte, IsStored, way-kept}
 use Rattle.trac_space.specs.Lists as lists
-use Rattle.trac_space.specs.Texts.{IsByte}
-use Rattle.trac_forms.specs.Stored.{IsStored}
-use Rattle.trac_store.proofs.Indexed.{way-kept}
 use Rattle.trac_forms.proofs.Strings.{used-stored, before-active}
 use Rattle.trac_forms.proofs.work.Work.load_bytes.Goals as goal
 use Rattle.trac_forms.proofs.work.Work.load_bytes.Goals.{After-load_bytes}

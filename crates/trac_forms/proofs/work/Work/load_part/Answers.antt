@@ -1,7 +1,5 @@
-use Rattle.std.proofs.Common.{◌+◌, ◌≤◌, length, slice_range, refl, inl, arith}
-use Rattle.std.proofs.lemmas.List.Edits.{length-between}
+use Rattle.trac_forms.proofs.Words.{◌+◌, ◌≤◌, length, slice_range, refl, inl, arith, length-between, IsStored}
 use Rattle.trac_space.specs.Lists as lists
-use Rattle.trac_forms.specs.Stored.{IsStored}
 use Rattle.trac_forms.proofs.Strings.{used-stored, before-active}
 use Rattle.trac_forms.proofs.work.Work.load_part.Goals as goal
 use Rattle.trac_forms.proofs.work.Work.load_part.Goals.{After-load_from_neutral}

@@ -1,13 +1,6 @@
-use Rattle.std.proofs.Common.{◌+◌, ◌≤◌, length, take, true, arith}
-use Rattle.std.proofs.lemmas.List.{length-map, length-take-le}
-use Rattle.std.proofs.lemmas.List.Elements.{All-map}
-use Rattle.trac_space.specs.declared.cell.Cell.TheVariants.{Byte}
-use Rattle.trac_space.specs.Cells.{bytes}
+use Rattle.trac_forms.proofs.Words.{◌+◌, ◌≤◌, length, take, true, arith, length-map, length-take-le, All-map, Byte, bytes, IsStringCell, IsStored, way-kept}
 use Rattle.trac_space.specs.Lists as lists
-use Rattle.trac_forms.specs.Contents.{IsStringCell}
-use Rattle.trac_forms.specs.Stored.{IsStored}
 use Rattle.trac_forms.proofs.Strings.{used-stored, appended}
-use Rattle.trac_store.proofs.Indexed.{way-kept}
 use Rattle.trac_forms.proofs.work.Work.push_before.Goals as goal
 use Rattle.trac_forms.proofs.work.Work.push_before.Goals.{After-push_before}
 

@@ -1,10 +1,5 @@
-use Rattle.std.proofs.Common.{◌+◌, ◌≤◌, length, ap, ◌∙◌, arith}
-use Rattle.trac_forms.specs.Contents.{IsSound}
-use Rattle.trac_store.specs.Parts.{part_text}
-use Rattle.trac_store.specs.Stored.{forms_in}
+use Rattle.trac_forms.proofs.Words.{◌+◌, ◌≤◌, length, ap, ◌∙◌, arith, IsSound, part_text, forms_in, stands, defined-last}
 use Rattle.trac_forms.proofs.Strings.{used-stored}
-use Rattle.trac_store.proofs.Places.{stands}
-use Rattle.trac_store.proofs.Stores.{defined-last}
 use Rattle.trac_forms.proofs.work.Work.replace_last.Goals as goal
 
 pub write_body-requires-clause-same : goal.write_body-requires-clause-same

@@ -1,5 +1,4 @@
-use Rattle.std.proofs.Common.{◌+◌, ◌≤◌, [], length, refl, arith}
-use Rattle.trac_store.specs.Stored.{forms_in}
+use Rattle.trac_forms.proofs.Words.{◌+◌, ◌≤◌, [], length, refl, arith, forms_in}
 use Rattle.trac_forms.proofs.Listing.{stored-end, stored-form, stored-is_form}
 use Rattle.trac_forms.proofs.work.Work.stored.Goals as goal
 use Rattle.trac_forms.proofs.work.Work.stored.Goals.{After-heads-name}

@@ -1,9 +1,4 @@
-use Rattle.std.proofs.Common.{◌+◌, ◌-◌, length, ap, arith}
-use Rattle.std.proofs.lemmas.List.{length-set}
-use Rattle.trac_space.specs.declared.cell.Cell.TheVariants.{Head}
-use Rattle.trac_space.specs.Lists.{Lists}
-use Rattle.trac_store.specs.Stored.{forms_in}
-use Rattle.trac_store.proofs.Places.{stands}
+use Rattle.trac_forms.proofs.Words.{◌+◌, ◌-◌, length, ap, arith, length-set, Head, Lists, forms_in, stands}
 use Rattle.trac_forms.proofs.Strings.{shown-restored}
 use Rattle.trac_forms.proofs.StoreChanges.{rewritten-stored, written-long}
 use Rattle.trac_forms.proofs.work.Work.write_body.Goals as goal

@@ -1,6 +1,4 @@
-use Rattle.std.proofs.Common.{refl, sym, ap, ◌∙◌}
-use Rattle.trac_language.specs.Function.{function_named}
-use Rattle.trac_functions.specs.Calls.{texts_from}
+use Rattle.trac_functions.proofs.Words.{refl, sym, ap, ◌∙◌, function_named, texts_from}
 use Rattle.trac_functions.proofs.ArgumentLemmas.{first-read, behind-first, taken-rest, taken-left}
 use Rattle.trac_functions.proofs.arguments.Arguments.function.Goals as goal
 

@@ -1,5 +1,4 @@
-use Rattle.std.proofs.Common.{◌∙◌, map, ap, arith}
-use Rattle.trac_space.specs.Cells.{seen}
+use Rattle.trac_space.proofs.Words.{◌∙◌, map, ap, arith, seen}
 use Rattle.trac_space.proofs.BlockChanges.{sizes, maps, active-part}
 use Rattle.trac_space.proofs.space.Space.active_part.Goals as goal
 

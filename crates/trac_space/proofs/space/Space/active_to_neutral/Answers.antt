@@ -1,5 +1,4 @@
-use Rattle.std.proofs.Common.{◌++◌, ◌∙◌, take, arith, refl}
-use Rattle.std.proofs.lemmas.List.{map-append}
+use Rattle.trac_space.proofs.Words.{◌++◌, ◌∙◌, take, arith, refl, map-append}
 use Rattle.trac_space.proofs.BlockChanges.{parts_of, sizes, shown, laid-more, parts-to_neutral}
 use Rattle.trac_space.proofs.Seen.{seen-drop_active}
 use Rattle.trac_space.proofs.Runs.{front-seen}

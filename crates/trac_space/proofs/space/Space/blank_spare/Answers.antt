@@ -1,6 +1,4 @@
-use Rattle.std.proofs.Common.{◌≡◌, ◌-◌, ◌∙◌, length, take, drop, replicate, ap, arith, refl}
-use Rattle.std.proofs.lemmas.List.{length-take, length-drop, length-replicate}
-use Rattle.trac_space.specs.declared.cell.Cell.TheVariants.{Byte}
+use Rattle.trac_space.proofs.Words.{◌≡◌, ◌-◌, ◌∙◌, length, take, drop, replicate, ap, arith, refl, length-take, length-drop, length-replicate, Byte}
 use Rattle.trac_space.proofs.BlockChanges.{parts_of, sizes, shown, laid, parts-put_last}
 use Rattle.trac_space.proofs.Seen.{seen-other_spare, seen-blank}
 use Rattle.trac_space.proofs.space.Space.blank_spare.Goals as goal

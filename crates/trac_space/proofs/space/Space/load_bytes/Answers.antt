@@ -1,8 +1,4 @@
-use Rattle.std.proofs.Common.{◌++◌, ◌∙◌, length, map, take, ap, arith, refl}
-use Rattle.std.proofs.lemmas.List.{length-map}
-use Rattle.trac_space.specs.declared.cell.Cell.TheVariants.{Byte}
-use Rattle.trac_space.specs.Cells.{seen}
-use Rattle.trac_space.specs.Block.{seen_lists}
+use Rattle.trac_space.proofs.Words.{◌++◌, ◌∙◌, length, map, take, ap, arith, refl, length-map, Byte, seen, seen_lists}
 use Rattle.trac_space.proofs.BlockChanges.{parts_of, sizes, shown, laid, parts-load}
 use Rattle.trac_space.proofs.Seen.{seen-more_active, seen-bytes}
 use Rattle.trac_space.proofs.space.Space.load_bytes.Goals as goal

@@ -1,8 +1,4 @@
-use Rattle.std.proofs.Common.{◌≡◌, ◌+◌, ◌-◌, ◌++◌, ◌∙◌, ap, arith, refl, map, take, slice_range}
-use Rattle.std.specs.List.{copy_within}
-use Rattle.std.proofs.lemmas.List.Edits.{length-between}
-use Rattle.trac_space.specs.Block.{seen_lists}
-use Rattle.trac_space.specs.Cells.{seen}
+use Rattle.trac_space.proofs.Words.{◌≡◌, ◌+◌, ◌-◌, ◌++◌, ◌∙◌, ap, arith, refl, map, take, slice_range, copy_within, length-between, seen_lists, seen}
 use Rattle.trac_space.proofs.BlockChanges.{sizes, shown, maps, laid, parts-before, neutral-part, parts_of}
 use Rattle.trac_space.proofs.Seen.{seen-more_active}
 use Rattle.trac_space.proofs.space.Space.load_from_neutral.Goals as goal

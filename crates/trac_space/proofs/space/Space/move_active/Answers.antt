@@ -1,5 +1,4 @@
-use Rattle.std.proofs.Common.{◌-◌, ◌∙◌, length, drop, sym, ap, arith, refl}
-use Rattle.trac_space.specs.Block.{seen_lists}
+use Rattle.trac_space.proofs.Words.{◌-◌, ◌∙◌, length, drop, sym, ap, arith, refl, seen_lists}
 use Rattle.trac_space.proofs.BlockChanges.{parts_of, sizes, shown, laid, parts-move_active}
 use Rattle.trac_space.proofs.Seen.{seen-other_spare}
 use Rattle.trac_space.proofs.space.Space.move_active.Goals as goal

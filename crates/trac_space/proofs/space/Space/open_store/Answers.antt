@@ -1,6 +1,4 @@
-use Rattle.std.proofs.Common.{◌≡◌, ℕ, ◌+◌, ◌≤◌, List, length, ◌∙◌, take, drop, map, arith, rules, refl}
-use Rattle.std.proofs.lemmas.List.{length-map, places}
-use Rattle.trac_space.specs.Cells.{seen}
+use Rattle.trac_space.proofs.Words.{◌≡◌, ℕ, ◌+◌, ◌≤◌, List, length, ◌∙◌, take, drop, map, arith, rules, refl, length-map, places, seen}
 use Rattle.trac_space.proofs.BlockChanges.{sizes, shown, maps, laid, parts-open}
 use Rattle.trac_space.proofs.space.Space.open_store.Goals as goal
 

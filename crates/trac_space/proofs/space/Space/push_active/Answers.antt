@@ -1,4 +1,4 @@
-use Rattle.std.proofs.Common.{◌∙◌, arith, refl, ◌∷◌, []}
+use Rattle.trac_space.proofs.Words.{◌∙◌, arith, refl, ◌∷◌, []}
 use Rattle.trac_space.proofs.BlockChanges.{sizes, shown, laid, parts-push_active, parts_of}
 use Rattle.trac_space.proofs.Seen.{seen-more_active}
 use Rattle.trac_space.proofs.space.Space.push_active.Goals as goal

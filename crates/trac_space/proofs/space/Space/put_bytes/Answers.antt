@@ -1,8 +1,6 @@
-use Rattle.std.proofs.Common.{◌∙◌, arith, refl, length, ap}
+use Rattle.trac_space.proofs.Words.{◌∙◌, arith, refl, length, ap, length-map, Byte}
 use Rattle.trac_space.proofs.BlockChanges.{sizes, shown, maps, laid-more, parts-append}
 use Rattle.trac_space.proofs.Seen.{seen-bytes, no_call-bytes}
-use Rattle.std.proofs.lemmas.List.{length-map}
-use Rattle.trac_space.specs.declared.cell.Cell.TheVariants.{Byte}
 use Rattle.trac_space.proofs.space.Space.put_bytes.Goals as goal
 
 pub returns : goal.returns

@@ -1,5 +1,4 @@
-use Rattle.std.proofs.Common.{◌+◌, ◌-◌, ◌∙◌, slice_range, arith, refl}
-use Rattle.std.proofs.lemmas.List.{map-append}
+use Rattle.trac_space.proofs.Words.{◌+◌, ◌-◌, ◌∙◌, slice_range, arith, refl, map-append}
 use Rattle.trac_space.proofs.BlockChanges.{sizes, shown, laid-more, parts-put}
 use Rattle.trac_space.proofs.Characters.{part-seen, part-goes, part-bytes, part-stop}
 use Rattle.trac_space.proofs.space.Space.put_characters.Goals as goal

@@ -1,11 +1,4 @@
-use Rattle.std.proofs.Common.{◌≡◌, ◌+◌, ◌-◌, ◌++◌, List, length, drop, map, slice_range, refl, sym, ap, ◌∙◌, subst, arith}
-use Rattle.std.proofs.lemmas.Bool.{false≢true}
-use Rattle.std.proofs.lemmas.List.{length-map, map-append}
-use Rattle.trac_space.specs.declared.cell.Cell.{Cell}
-use Rattle.trac_space.specs.Block.{lists}
-use Rattle.trac_space.specs.Cells.{seen, NoCall}
-use Rattle.trac_space.specs.Filled.{filled}
-use Rattle.trac_space.specs.Lists.{Lists}
+use Rattle.trac_space.proofs.Words.{◌≡◌, ◌+◌, ◌-◌, ◌++◌, List, length, drop, map, slice_range, refl, sym, ap, ◌∙◌, subst, arith, false≢true, length-map, map-append, Cell, lists, seen, NoCall, filled, Lists}
 use Rattle.trac_space.proofs.BlockChanges.{sizes, shown, laid-more, laid, parts-more-to, parts-kept}
 use Rattle.trac_space.proofs.Filled.{list-stands, filled-seen}
 use Rattle.trac_space.proofs.space.Space.put_filled.Goals as goal

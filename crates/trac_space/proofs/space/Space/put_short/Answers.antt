@@ -1,5 +1,4 @@
-use Rattle.std.proofs.Common.{◌≡◌, ◌+◌, ◌-◌, ◌∙◌, arith, refl, slice_range}
-use Rattle.std.specs.List.{copy_within}
+use Rattle.trac_space.proofs.Words.{◌≡◌, ◌+◌, ◌-◌, ◌∙◌, arith, refl, slice_range, copy_within}
 use Rattle.trac_space.proofs.BlockChanges.{sizes, shown, maps, laid-more, parts-from_store, parts_of}
 use Rattle.trac_space.proofs.space.Space.put_short.Goals as goal
 use Rattle.trac_space.proofs.space.Space.put_short.Goals.{After-copy_behind}

@@ -1,5 +1,4 @@
-use Rattle.std.proofs.Common.{map, ap, ◌∙◌}
-use Rattle.trac_space.specs.Cells.{seen}
+use Rattle.trac_space.proofs.Words.{map, ap, ◌∙◌, seen}
 use Rattle.trac_space.proofs.BlockChanges.{maps, spare-part}
 use Rattle.trac_space.proofs.space.Space.spare_cells.Goals as goal
 
