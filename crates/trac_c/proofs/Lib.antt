@@ -3,8 +3,8 @@ mod Coding
 mod Blocks
 mod Further
 mod KeptLooks
-mod Laying
-mod Listing
-mod Telling
+mod Laid
+mod ListedForms
+mod TurnBytes
 mod Walking
 mod Words

@@ -1,6 +1,6 @@
 pub mod Command
 pub mod Failures
 pub mod LargestTold
-pub mod Shows
+pub mod Shown
 pub mod Texts
 mod Words

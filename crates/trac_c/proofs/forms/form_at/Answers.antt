@@ -1,5 +1,5 @@
 use Rattle.trac_c.proofs.Words.{◌≡◌, ◌∙◌, ap, arith, slice_get}
-use Rattle.trac_c.proofs.Listing.{left-then, given-at}
+use Rattle.trac_c.proofs.ListedForms.{left-then, given-at}
 use Rattle.trac_c.proofs.forms.form_at.Goals as goal
 
 pub loop-passed-preserved : goal.loop-passed-preserved

@@ -1,6 +1,6 @@
 use Rattle.trac_c.proofs.Words.{◌≡◌, ◌+◌, ◌∙◌, ◌++◌, [], ◌∷◌, take, get_or, sym, ap, arith, take_more, length-take-le, Byte, neutral_of, with_cell, laid, codes_of_neutral, cell_code, has_call, is_open_after}
 use Rattle.trac_functions.proofs.FlatLemmas.{neutral_of-push}
-use Rattle.trac_c.proofs.Laying.{laid-next}
+use Rattle.trac_c.proofs.Laid.{laid-next}
 use Rattle.trac_c.proofs.Coding.{codes-cell, call-cell, codes-count}
 use Rattle.trac_c.proofs.strings.lay_marks.Goals as goal
 

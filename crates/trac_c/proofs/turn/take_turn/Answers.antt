@@ -1,7 +1,7 @@
 use Rattle.trac_c.proofs.Words.{rules, [], ap, ◌∙◌, ending, stream_in}
 use Rattle.trac_c.proofs.Again.{told-again}
 use Rattle.trac_c.proofs.Further.{tells}
-use Rattle.trac_c.proofs.Telling.{told_turn, told_full}
+use Rattle.trac_c.proofs.TurnBytes.{told_turn, told_full}
 use Rattle.trac_c.proofs.turn.take_turn.Goals as goal
 
 pub returns : goal.returns
