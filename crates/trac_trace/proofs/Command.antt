@@ -1,9 +1,23 @@
 -- The command of the program: what its rules say.
-use Rattle.trac_trace.proofs.Words.{◌≡◌, ◌∙◌, ◌||◌, ◌<◌, ◌^◌, ap, refl, sym, ℕ, Bool, true, false, List, Option, Some, None, codes, option_map, pos, slice_get, option_map_or, bytes_eq, ExplainsUnsignedError, HasUnsignedDigitsIfOk, ParsesUnsigned, IsParsedFrom, is_simple_and_free, ReadsOne}
-use Rattle.trac_trace.proofs.Words.{found_of, one_text, App, filled, is_simple, matches_of, with_index, Rule, Text, one_of, rows_of, Command, ArgMatches, clap_on_literals, one_text-rows, cells_option, gives, has_flag, number, number_of, number_option, numbers_command, steps_option, HasDefaultAt}
-use Rattle.trac_trace.proofs.Words.{default_text, same_number, IsRead, flag_read, is_own_name, is_plain_app, option_text, signed_read, unsigned_read, calls_flag, flag_of, forms_flag, from_option, last_option, to_option, trace_command, views_command, warn_flag, width_option}
-use Rattle.clap.specs.Simple.{HasMatchesOf, app_of}
+use Rattle.std.proofs.Common.{◌≡◌, ◌∙◌, ◌||◌, ◌<◌, ◌^◌, ap, refl, sym, ℕ, Bool, true, false, List, Option, Some, None, codes}
+use Rattle.std.specs.Prelude.{option_map, pos, slice_get}
+use Rattle.std.specs.Option.{option_map_or}
+use Rattle.std.specs.Str.{bytes_eq}
+use Rattle.std.specs.Str.Parse.{ExplainsUnsignedError, HasUnsignedDigitsIfOk, ParsesUnsigned}
+use Rattle.clap.specs.Built.{IsParsedFrom}
+use Rattle.clap.specs.Faults.{is_simple_and_free}
+use Rattle.clap.specs.Matches.{ReadsOne, found_of, one_text}
+use Rattle.clap.specs.Simple.{App, HasMatchesOf, app_of, filled, is_simple, matches_of, with_index}
+use Rattle.clap.specs.Walk.{Rule, Text, one_of, rows_of}
+use Rattle.clap.specs.declared.builder.command.Command.{Command}
 use Rattle.clap.specs.declared.builder.value_parser.ValueParser.TheVariants as parser
+use Rattle.clap.specs.declared.parser.matches.ArgMatches.{ArgMatches}
+use Rattle.clap.proofs.OnLiterals.{clap_on_literals}
+use Rattle.clap.proofs.WalkLemmas.{one_text-rows}
+use Rattle.trac_words.specs.CommandLine.{cells_option, gives, has_flag, number, number_of, number_option, numbers_command, steps_option}
+use Rattle.trac_words.proofs.Commands.{HasDefaultAt, default_text, same_number}
+use Rattle.trac_words.proofs.PlaceReads.{IsRead, flag_read, is_own_name, is_plain_app, option_text, signed_read, unsigned_read}
+use Rattle.trac_trace.specs.CommandLine.{calls_flag, flag_of, forms_flag, from_option, last_option, to_option, trace_command, views_command, warn_flag, width_option}
 
 pub is_free : is_simple_and_free trace_command ≡ true
 unfolding clap_on_literals views_command numbers_command cells_option steps_option from_option to_option last_option width_option calls_flag forms_flag warn_flag

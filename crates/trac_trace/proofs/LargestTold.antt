@@ -1,5 +1,9 @@
 -- The lines of the largest forms, one more or no more.
-use Rattle.trac_trace.proofs.Words.{suc, ◌≡◌, ◌∙◌, ◌<◌, ◌+◌, ◌-◌, ◌++◌, ap, sym, ℕ, List, [], Option, Some, None, append_assoc, append-nil, arith, option_map_or, Form, SizedForm, form_at_text, largest_text, next_largest}
+use Rattle.std.proofs.Common.{suc, ◌≡◌, ◌∙◌, ◌<◌, ◌+◌, ◌-◌, ◌++◌, ap, sym, ℕ, List, [], Option, Some, None, append_assoc, append-nil, arith}
+use Rattle.std.specs.Option.{option_map_or}
+use Rattle.trac_language.specs.Form.{Form}
+use Rattle.trac_trace.specs.declared.largest.SizedForm.{SizedForm}
+use Rattle.trac_trace.specs.Largest.{form_at_text, largest_text, next_largest}
 
 module _ (width told : ℕ) (last : Option SizedForm) (forms : List Form) (whole now : List ℕ) (low : told < 5)
     (so_far : now ++ largest_text width (5 - told) last forms ≡ whole) where

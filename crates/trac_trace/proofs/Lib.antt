@@ -1,6 +1,5 @@
-pub mod Command
-pub mod Failures
-pub mod LargestTold
-pub mod Shown
 pub mod Texts
-mod Words
+pub mod Failures
+pub mod Command
+pub mod ShownTexts
+pub mod LargestTold

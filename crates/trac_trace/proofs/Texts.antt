@@ -1,5 +1,7 @@
 -- The texts of more cells, and of more bytes.
-use Rattle.trac_trace.proofs.Words.{◌≡◌, ◌∙◌, ◌<◌, ℕ, List, [], ◌∷◌, ◌++◌, length, take, ◌+◌, ap, sym, append_assoc, append-nil, get_or, Result, Ok, Err, OnOk, take_more}
+use Rattle.std.proofs.Common.{◌≡◌, ◌∙◌, ◌<◌, ℕ, List, [], ◌∷◌, ◌++◌, length, take, ◌+◌, ap, sym, append_assoc, append-nil, get_or, Result, Ok, Err}
+use Rattle.std.specs.Result.{OnOk}
+use Rattle.std.proofs.lemmas.List.{take_more}
 
 -- texts that are made one after the other
 module _ {X : Type 0} (one : X → List ℕ) (all : List X → List ℕ) (none : [] ≡ all []) (next : (x : X) (xs : List X) → all (x ∷ xs) ≡ one x ++ all xs) where

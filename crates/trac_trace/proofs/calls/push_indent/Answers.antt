@@ -1,4 +1,4 @@
-use Rattle.trac_trace.proofs.Shown.{indent_step}
+use Rattle.trac_trace.proofs.ShownTexts.{indent_step}
 use Rattle.trac_trace.proofs.calls.push_indent.Goals as goal
 
 pub loop-around-preserved : goal.loop-around-preserved

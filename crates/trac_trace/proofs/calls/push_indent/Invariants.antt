@@ -1,4 +1,5 @@
-use Rattle.trac_trace.proofs.Words.{◌≡◌, ◌++◌, ◌-◌, indent_text}
+use Rattle.std.proofs.Common.{◌≡◌, ◌++◌, ◌-◌}
+use Rattle.trac_trace.specs.Told.{indent_text}
 use Rattle.trac_trace.proofs.calls.push_indent.Given as goal
 
 -- the blanks so far and those that are left are the whole

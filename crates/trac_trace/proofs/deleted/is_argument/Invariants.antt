@@ -1,4 +1,6 @@
-use Rattle.trac_trace.proofs.Words.{◌≡◌, drop, text_of_cells, is_argument}
+use Rattle.std.proofs.Common.{◌≡◌, drop}
+use Rattle.trac_space.specs.Texts.{text_of_cells}
+use Rattle.trac_trace.specs.Told.{is_argument}
 use Rattle.trac_trace.proofs.deleted.is_argument.Given as goal
 
 -- the cells that are left decide

@@ -1,4 +1,6 @@
-use Rattle.trac_trace.proofs.Words.{◌≡◌, ◌++◌, flat_map, deleted_text}
+use Rattle.std.proofs.Common.{◌≡◌, ◌++◌}
+use Rattle.std.specs.List.{flat_map}
+use Rattle.trac_trace.specs.Told.{deleted_text}
 use Rattle.trac_trace.proofs.deleted.push_deleted.Given as goal
 
 -- the text so far and that of the forms that are left are the whole

@@ -1,5 +1,5 @@
-use Rattle.trac_trace.proofs.Words.{◌∙◌, arith}
-use Rattle.trac_trace.proofs.Shown.{utf8_test, whole_is, whole_no}
+use Rattle.std.proofs.Common.{◌∙◌, arith}
+use Rattle.trac_trace.proofs.ShownTexts.{utf8_test, whole_is, whole_no}
 use Rattle.trac_trace.proofs.escapes.is_whole.Goals as goal
 
 pub returns-then-bytes-len : goal.returns-then-bytes-len

@@ -1,4 +1,5 @@
-use Rattle.trac_trace.proofs.Words.{◌≡◌, ◌++◌, drop, text_of_cells}
+use Rattle.std.proofs.Common.{◌≡◌, ◌++◌, drop}
+use Rattle.trac_space.specs.Texts.{text_of_cells}
 use Rattle.trac_trace.proofs.escapes.push_characters.Given as goal
 
 -- the bytes so far and those of the cells that are left are the whole

@@ -1,4 +1,6 @@
-use Rattle.trac_trace.proofs.Words.{◌≡◌, ◌++◌, drop, flat_map, raw_cell}
+use Rattle.std.proofs.Common.{◌≡◌, ◌++◌, drop}
+use Rattle.std.specs.List.{flat_map}
+use Rattle.trac_trace.specs.Shown.{raw_cell}
 use Rattle.trac_trace.proofs.escapes.push_raw.Given as goal
 
 -- the bytes so far and those of the cells that are left are the whole

@@ -1,4 +1,5 @@
-use Rattle.trac_trace.proofs.Words.{◌≡◌, ◌++◌, drop, shown_from, shown_text}
+use Rattle.std.proofs.Common.{◌≡◌, ◌++◌, drop}
+use Rattle.trac_trace.specs.Shown.{shown_from, shown_text}
 use Rattle.trac_trace.proofs.escapes.push_text.Given as goal
 
 -- what stands in the line and what is left to be shown are the whole

@@ -1,4 +1,6 @@
-use Rattle.trac_trace.proofs.Words.{◌≡◌, ◌≤◌, take, count_by, is_call}
+use Rattle.std.proofs.Common.{◌≡◌, ◌≤◌, take}
+use Rattle.std.specs.Prelude.{count_by}
+use Rattle.trac_space.specs.Cells.{is_call}
 use Rattle.trac_trace.proofs.faults.calls_in.Given as goal
 
 -- the marks among the cells so far, which are no more than these

@@ -1,4 +1,6 @@
-use Rattle.trac_trace.proofs.Words.{◌≡◌, ◌∙◌, ◌++◌, ap, codes, List, ℕ, cut_text, opening_text, raw_cell, flat_map}
+use Rattle.std.proofs.Common.{◌≡◌, ◌∙◌, ◌++◌, ap, codes, List, ℕ}
+use Rattle.trac_trace.specs.Shown.{cut_text, opening_text, raw_cell}
+use Rattle.std.specs.List.{flat_map}
 use Rattle.trac_trace.proofs.Texts.{after, on_ok}
 use Rattle.trac_trace.proofs.faults.push_open_call.Goals as goal
 

@@ -1,4 +1,5 @@
-use Rattle.trac_trace.proofs.Words.{◌≡◌, ◌++◌, drop, opened_text}
+use Rattle.std.proofs.Common.{◌≡◌, ◌++◌, drop}
+use Rattle.trac_trace.specs.Told.{opened_text}
 use Rattle.trac_trace.proofs.faults.push_opened.Given as goal
 
 -- the lines so far and those of the cells that are left are the whole

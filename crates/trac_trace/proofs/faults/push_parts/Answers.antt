@@ -1,4 +1,5 @@
-use Rattle.trac_trace.proofs.Words.{◌≡◌, ◌++◌, codes, decimal}
+use Rattle.std.proofs.Common.{◌≡◌, ◌++◌, codes}
+use Rattle.std.specs.Prelude.{decimal}
 use Rattle.trac_trace.proofs.Texts.{after, on_ok}
 use Rattle.trac_trace.proofs.faults.push_parts.Goals as goal
 

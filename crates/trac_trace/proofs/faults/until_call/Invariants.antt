@@ -1,4 +1,6 @@
-use Rattle.trac_trace.proofs.Words.{◌≡◌, ◌+◌, drop, position_or_len, is_call}
+use Rattle.std.proofs.Common.{◌≡◌, ◌+◌, drop}
+use Rattle.std.specs.List.{position_or_len}
+use Rattle.trac_space.specs.Cells.{is_call}
 use Rattle.trac_trace.proofs.faults.until_call.Given as goal
 
 -- no call mark stands among the cells so far

@@ -1,4 +1,6 @@
-use Rattle.trac_trace.proofs.Words.{◌≡◌, ◌++◌, flat_map, form_line}
+use Rattle.std.proofs.Common.{◌≡◌, ◌++◌}
+use Rattle.std.specs.List.{flat_map}
+use Rattle.trac_trace.specs.Told.{form_line}
 use Rattle.trac_trace.proofs.forms.push_forms.Given as goal
 
 -- the lines so far and those of the forms that are left are the whole

@@ -1,4 +1,5 @@
-use Rattle.trac_trace.proofs.Words.{◌≡◌, None, next_largest}
+use Rattle.std.proofs.Common.{◌≡◌, None}
+use Rattle.trac_trace.specs.Largest.{next_largest}
 use Rattle.trac_trace.proofs.largest.next_largest.Given as goal
 
 -- what is found among the forms that are left is what is found

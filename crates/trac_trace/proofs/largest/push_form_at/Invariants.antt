@@ -1,4 +1,5 @@
-use Rattle.trac_trace.proofs.Words.{◌≡◌, form_at_text}
+use Rattle.std.proofs.Common.{◌≡◌}
+use Rattle.trac_trace.specs.Largest.{form_at_text}
 use Rattle.trac_trace.proofs.largest.push_form_at.Given as goal
 
 -- nothing is told yet, and the form is among those that are left

@@ -1,4 +1,5 @@
-use Rattle.trac_trace.proofs.Words.{◌∙◌, ◌++◌, ap, sym, None, form_at_text, next_largest}
+use Rattle.std.proofs.Common.{◌∙◌, ◌++◌, ap, sym, None}
+use Rattle.trac_trace.specs.Largest.{form_at_text, next_largest}
 use Rattle.trac_trace.proofs.LargestTold.{told_all, told_one}
 use Rattle.trac_trace.proofs.largest.push_largest_forms.Goals as goal
 

@@ -1,4 +1,5 @@
-use Rattle.trac_trace.proofs.Words.{◌≡◌, ◌++◌, ◌-◌, None, largest_text}
+use Rattle.std.proofs.Common.{◌≡◌, ◌++◌, ◌-◌, None}
+use Rattle.trac_trace.specs.Largest.{largest_text}
 use Rattle.trac_trace.proofs.largest.push_largest_forms.Given as goal
 
 -- the lines so far and those of the forms that are left are the whole

@@ -1,4 +1,5 @@
-use Rattle.trac_trace.proofs.Words.{ap, ◌∙◌, ◌++◌, get_or, refl, byte_text, bytes_text}
+use Rattle.std.proofs.Common.{ap, ◌∙◌, ◌++◌, get_or, refl}
+use Rattle.trac_trace.specs.Lines.{byte_text, bytes_text}
 use Rattle.trac_trace.proofs.Texts.{text-more}
 use Rattle.trac_trace.proofs.lines.push_bytes.Goals as goal
 

@@ -1,4 +1,5 @@
-use Rattle.trac_trace.proofs.Words.{◌≡◌, ◌++◌, take, bytes_text}
+use Rattle.std.proofs.Common.{◌≡◌, ◌++◌, take}
+use Rattle.trac_trace.specs.Lines.{bytes_text}
 use Rattle.trac_trace.proofs.lines.push_bytes.Given as goal
 
 -- the bytes so far stand in the line

@@ -1,4 +1,6 @@
-use Rattle.trac_trace.proofs.Words.{ap, ◌∙◌, ◌++◌, get_or, refl, Byte, cell_text, cells_text}
+use Rattle.std.proofs.Common.{ap, ◌∙◌, ◌++◌, get_or, refl}
+use Rattle.trac_space.specs.declared.cell.Cell.TheVariants.{Byte}
+use Rattle.trac_trace.specs.Lines.{cell_text, cells_text}
 use Rattle.trac_trace.proofs.Texts.{text-more}
 use Rattle.trac_trace.proofs.lines.push_cells.Goals as goal
 

@@ -1,4 +1,5 @@
-use Rattle.trac_trace.proofs.Words.{◌≡◌, ◌++◌, take, cells_text}
+use Rattle.std.proofs.Common.{◌≡◌, ◌++◌, take}
+use Rattle.trac_trace.specs.Lines.{cells_text}
 use Rattle.trac_trace.proofs.lines.push_cells.Given as goal
 
 -- the cells so far stand in the line

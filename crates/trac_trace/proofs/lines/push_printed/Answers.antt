@@ -1,4 +1,5 @@
-use Rattle.trac_trace.proofs.Words.{◌≡◌, ◌++◌, codes, bytes_text}
+use Rattle.std.proofs.Common.{◌≡◌, ◌++◌, codes}
+use Rattle.trac_trace.specs.Lines.{bytes_text}
 use Rattle.trac_trace.proofs.Texts.{after, on_ok}
 use Rattle.trac_trace.proofs.lines.push_printed.Goals as goal
 

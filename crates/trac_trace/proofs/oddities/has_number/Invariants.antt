@@ -1,4 +1,6 @@
-use Rattle.trac_trace.proofs.Words.{◌≡◌, drop, false, text_of_cells, has_number}
+use Rattle.std.proofs.Common.{◌≡◌, drop, false}
+use Rattle.trac_space.specs.Texts.{text_of_cells}
+use Rattle.trac_trace.specs.Odd.{has_number}
 use Rattle.trac_trace.proofs.oddities.has_number.Given as goal
 
 -- the cells that are left decide

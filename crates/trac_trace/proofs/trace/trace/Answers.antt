@@ -1,4 +1,5 @@
-use Rattle.trac_trace.proofs.Words.{◌∙◌, ap, arith, MachineState}
+use Rattle.std.proofs.Common.{◌∙◌, ap, arith}
+use Rattle.trac_core.specs.Machine.{MachineState}
 use Rattle.trac_trace.proofs.Failures.{last-failures}
 use Rattle.trac_trace.proofs.trace.trace.Goals as goal
 

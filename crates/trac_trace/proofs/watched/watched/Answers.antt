@@ -1,4 +1,4 @@
-use Rattle.trac_trace.proofs.Words.{arith}
+use Rattle.std.proofs.Common.{arith}
 use Rattle.trac_trace.proofs.Failures.{last-failures}
 use Rattle.trac_trace.proofs.watched.watched.Goals as goal
 

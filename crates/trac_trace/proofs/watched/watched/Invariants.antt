@@ -1,4 +1,4 @@
-use Rattle.trac_trace.proofs.Words.{◌≡◌, ◌-◌, None}
+use Rattle.std.proofs.Common.{◌≡◌, ◌-◌, None}
 use Rattle.trac_trace.proofs.watched.watched.Given as goal
 
 -- the run is not over, and no device has failed

@@ -1,5 +1,13 @@
-use Rattle.trac_trace.proofs.Words.{◌≡◌, ◌∙◌, ap, ap₂, codes, subst, pos, ℤ, Some, IfOk-weaker, app_of_fields, NarrowsTo, rule_of, with_rule, Arg, ValueParser, number_option, calls_flag, forms_flag, from_option, last_option, to_option, views_command, warn_flag, width_option}
+use Rattle.std.proofs.Common.{◌≡◌, ◌∙◌, ap, ap₂, codes, subst}
+use Rattle.std.specs.Prelude.{pos, ℤ, Some}
+use Rattle.std.proofs.lemmas.Result.{IfOk-weaker}
+use Rattle.clap.specs.Simple.{app_of_fields}
+use Rattle.clap.specs.Words.{NarrowsTo, rule_of, with_rule}
+use Rattle.clap.specs.declared.builder.arg.Arg.{Arg}
+use Rattle.clap.specs.declared.builder.value_parser.ValueParser.{ValueParser}
 use Rattle.clap.specs.declared.builder.value_parser.ValueParser.TheVariants as parser
+use Rattle.trac_words.specs.CommandLine.{number_option}
+use Rattle.trac_trace.specs.CommandLine.{calls_flag, forms_flag, from_option, last_option, to_option, views_command, warn_flag, width_option}
 use Rattle.trac_trace.proofs.words.command.Goals as goal
 
 -- the numbers that `u64` can hold, narrowed to a range

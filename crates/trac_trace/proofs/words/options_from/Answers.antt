@@ -1,4 +1,8 @@
-use Rattle.trac_trace.proofs.Words.{◌≡◌, ◌∙◌, ap, ap₂, sym, subst, map, true, string_bytes, Result, Ok, Err, IfErr, IsErrAnd, refl, arith, FailsBy, HasKind, HasMatchesOf, Kinds, app_of, fault_of, takes, Error, is_simple_and_free, trace_command}
+use Rattle.std.proofs.Common.{◌≡◌, ◌∙◌, ap, ap₂, sym, subst, map, true, string_bytes, Result, Ok, Err, IfErr, IsErrAnd, refl, arith}
+use Rattle.clap.specs.Words.{FailsBy, HasKind, HasMatchesOf, Kinds, app_of, fault_of, takes}
+use Rattle.clap.specs.declared.error.Error.{Error}
+use Rattle.clap.specs.Faults.{is_simple_and_free}
+use Rattle.trac_trace.specs.CommandLine.{trace_command}
 use Rattle.trac_trace.proofs.Command.{calls_rule, cells_rule, flag_by_default, flag_is, forms_rule, from_rule, is_free, last_rule, long_read, number_by_default, number_is, short_read, steps_rule, to_rule, warn_rule, width_rule}
 use Rattle.trac_trace.proofs.words.options_from.Goals as goal
 

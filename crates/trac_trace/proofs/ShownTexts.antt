@@ -1,5 +1,11 @@
 -- What is left of texts, of blanks and of items, one step on.
-use Rattle.trac_trace.proofs.Words.{suc, ◌≡◌, ◌∙◌, ◌<◌, ◌≤◌, ◌+◌, ◌-◌, ◌++◌, ap, sym, refl, ℕ, Bool, true, false, List, length, take, append_assoc, codes, Result, Ok, Err, arith, is_ok, MatchResult, IsUtf8, is_utf8, le-leb, lt-leb, IsUtf8-from_is_utf8, is_utf8-from_IsUtf8, is_whole, indent_text}
+use Rattle.std.proofs.Common.{suc, ◌≡◌, ◌∙◌, ◌<◌, ◌≤◌, ◌+◌, ◌-◌, ◌++◌, ap, sym, refl, ℕ, Bool, true, false, List, length, take, append_assoc, codes, Result, Ok, Err, arith}
+use Rattle.std.specs.Prelude.{is_ok, MatchResult}
+use Rattle.std.specs.Str.{IsUtf8, is_utf8}
+use Rattle.std.proofs.lemmas.Bool.{le-leb, lt-leb}
+use Rattle.std.proofs.lemmas.Str.{IsUtf8-from_is_utf8, is_utf8-from_IsUtf8}
+use Rattle.trac_trace.specs.Shown.{is_whole}
+use Rattle.trac_trace.specs.Told.{indent_text}
 
 -- fewer bytes are not so many bytes of UTF-8
 pub whole_no : (n : ℕ) (bytes : List ℕ) → length bytes < n → false ≡ is_whole n bytes
