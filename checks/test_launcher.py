@@ -21,7 +21,7 @@ LIBRARIES = os.path.join('packaging', 'libraries.py')
 NOBODY = 65534
 AS_NOBODY = {'user': NOBODY, 'group': NOBODY} if os.getuid() == 0 else {}
 FIRST = ('trac: building the program, and proving it: '
-         'some eight minutes on four idle cores ..\n')
+         'some ten minutes on four idle cores ..\n')
 AGAIN = 'trac: building the program again, and proving what changed ..\n'
 RT = """#!/bin/sh
 echo "$1 ${{PWD##*/}}" >>'{calls}'
