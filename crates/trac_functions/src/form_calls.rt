@@ -188,7 +188,7 @@ fn next_form(work: &mut Work, arguments: &mut Arguments) -> Option<FormId>
     ensures found { let name = argument (texts work.old arguments.old) 0 in
         MatchOption result
         (NoneNamed name work.old.forms)
-        (λ form. IsNamedAt work.old.forms name form.0) }
+        (λ form. IsNamedAt work.old.forms name (form_place form)) }
     ensures same { work.new ≡ work.old }
     ensures rest { texts work.old arguments.new ≡ drop 1 (texts work.old arguments.old) }
     ensures left { AreArguments work.old arguments.new }

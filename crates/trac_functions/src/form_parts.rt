@@ -99,14 +99,14 @@ fn take_character(work: &mut Work, form: FormId, default: (u32, u32)) -> Made
 
 /// Takes the character at a place of the body; the pointer goes behind it.
 fn take_one(work: &mut Work, form: FormId, place: u32) -> Made
-    requires known { form.0 < length work.old.forms }
-    requires within { place < length (body_at work.old.forms form.0) }
-    requires character { character_at (body_at work.old.forms form.0) place ≡ true }
+    requires known { form_place form < length work.old.forms }
+    requires within { place < length (body_at work.old.forms (form_place form)) }
+    requires character { character_at (body_at work.old.forms (form_place form)) place ≡ true }
     requires sound { IsSound work.old }
     ensures takes { (z : Text) →
-        let body = body_at work.old.forms form.0 in
+        let body = body_at work.old.forms (form_place form) in
         let taken = part_between body (place, place + 1) (place + 1) in
-        TakesPart (Some taken) z form.0 work.old result work.new }
+        TakesPart (Some taken) z (form_place form) work.old result work.new }
     ensures unmade { result ≡ Made.Full → work.new.forms ≡ work.old.forms }
     ensures keeps { KeepsRoom work.old work.new }
 {
@@ -120,14 +120,14 @@ fn take_one(work: &mut Work, form: FormId, place: u32) -> Made
 /// Puts the character at a place of the body at the end of the neutral string, if there is a cell
 /// for it.
 fn copy_character(work: &mut Work, form: FormId, place: u32) -> bool
-    requires known { form.0 < length work.old.forms }
-    requires within { place < length (body_at work.old.forms form.0) }
-    requires character { character_at (body_at work.old.forms form.0) place ≡ true }
+    requires known { form_place form < length work.old.forms }
+    requires within { place < length (body_at work.old.forms (form_place form)) }
+    requires character { character_at (body_at work.old.forms (form_place form)) place ≡ true }
     requires sound { IsSound work.old }
-    ensures put { let body = body_at work.old.forms form.0 in
+    ensures put { let body = body_at work.old.forms (form_place form) in
         let text = characters_between body place (place + 1) in
         IsTrue result ↔ (used work.old + length text ≤ work.old.room) }
-    ensures last { let body = body_at work.old.forms form.0 in
+    ensures last { let body = body_at work.old.forms (form_place form) in
         let text = characters_between body place (place + 1) in
         OnTrue result
         (work.new ≡ record work.old { neutral = work.old.neutral ++ flat_text text }) }
@@ -217,12 +217,12 @@ fn take_backward(work: &mut Work, form: FormId, count: u32, default: (u32, u32))
 
 /// The place after the next so many characters, or after all of them where there are fewer.
 fn place_after(work: &Work, form: FormId, from: u32, count: u32) -> u32
-    requires known { form.0 < length work.now.forms }
-    requires within { from ≤ length (body_at work.now.forms form.0) }
-    ensures place { let items = drop from (body_at work.now.forms form.0) in
+    requires known { form_place form < length work.now.forms }
+    requires within { from ≤ length (body_at work.now.forms (form_place form)) }
+    ensures place { let items = drop from (body_at work.now.forms (form_place form)) in
         let least = min count (length (text_of items)) in
         result ≡ from + length (first_characters least items) }
-    ensures end { result ≤ length (body_at work.now.forms form.0) }
+    ensures end { result ≤ length (body_at work.now.forms (form_place form)) }
 {
     prove!(from <= work.body_len(form));
     let mut place = from;
@@ -238,9 +238,9 @@ fn place_after(work: &Work, form: FormId, from: u32, count: u32) -> u32
 /// The place of the first of the last so many characters before a
 /// place, or of the first of all of them where there are fewer.
 fn place_before(work: &Work, form: FormId, to: u32, count: u32) -> u32
-    requires known { form.0 < length work.now.forms }
-    requires within { to ≤ length (body_at work.now.forms form.0) }
-    ensures { let items = take to (body_at work.now.forms form.0) in
+    requires known { form_place form < length work.now.forms }
+    requires within { to ≤ length (body_at work.now.forms (form_place form)) }
+    ensures { let items = take to (body_at work.now.forms (form_place form)) in
         let least = min count (length (text_of items)) in
         result + length (first_characters least (reverse items)) ≡ to }
 {
@@ -256,14 +256,14 @@ fn place_before(work: &Work, form: FormId, to: u32, count: u32) -> u32
 
 /// Takes the characters of a part of the body, and moves the pointer.
 fn take_part(work: &mut Work, form: FormId, part: (u32, u32), pointer: u32) -> Made
-    requires known { form.0 < length work.old.forms }
+    requires known { form_place form < length work.old.forms }
     requires order { part.0 ≤ part.1 }
-    requires within { part.1 ≤ length (body_at work.old.forms form.0) }
-    requires pointer { pointer ≤ length (body_at work.old.forms form.0) }
+    requires within { part.1 ≤ length (body_at work.old.forms (form_place form)) }
+    requires pointer { pointer ≤ length (body_at work.old.forms (form_place form)) }
     requires sound { IsSound work.old }
     ensures takes { (z : Text) →
-        let taken = part_between (body_at work.old.forms form.0) part pointer in
-        TakesPart (Some taken) z form.0 work.old result work.new }
+        let taken = part_between (body_at work.old.forms (form_place form)) part pointer in
+        TakesPart (Some taken) z (form_place form) work.old result work.new }
     ensures unmade { result ≡ Made.Full → work.new.forms ≡ work.old.forms }
     ensures keeps { KeepsRoom work.old work.new }
 {
@@ -306,10 +306,10 @@ pub fn copy_characters(work: &mut Work, form: FormId, from: u32, to: u32) -> boo
 
 /// The place of the first character from one place up to another, or that other place.
 fn character_or(work: &Work, form: FormId, from: u32, to: u32) -> u32
-    requires known { form.0 < length work.now.forms }
+    requires known { form_place form < length work.now.forms }
     requires order { from ≤ to }
-    requires within { to ≤ length (body_at work.now.forms form.0) }
-    ensures { IsFirstOr (character_at (body_at work.now.forms form.0)) from to result }
+    requires within { to ≤ length (body_at work.now.forms (form_place form)) }
+    ensures { IsFirstOr (character_at (body_at work.now.forms (form_place form))) from to result }
 {
     match work.next_char(form, from) {
         Some(place) => place.min(to),
@@ -319,10 +319,10 @@ fn character_or(work: &Work, form: FormId, from: u32, to: u32) -> u32
 
 /// The place of the first gap from one place up to another, or that other place.
 fn gap_or(work: &Work, form: FormId, from: u32, to: u32) -> u32
-    requires known { form.0 < length work.now.forms }
+    requires known { form_place form < length work.now.forms }
     requires order { from ≤ to }
-    requires within { to ≤ length (body_at work.now.forms form.0) }
-    ensures { IsFirstOr (gap_at (body_at work.now.forms form.0)) from to result }
+    requires within { to ≤ length (body_at work.now.forms (form_place form)) }
+    ensures { IsFirstOr (gap_at (body_at work.now.forms (form_place form))) from to result }
 {
     prove!(to <= work.body_len(form));
     for place in from..to {
