@@ -1,7 +1,7 @@
 -- Lists of forms, and what the functions that change them make of a call.
-use Rattle.trac_functions.proofs.Words.{◌≡◌, ℕ, zero, suc, ◌+◌, ◌<◌, ◌≤◌, Bool, true, false, List, [], ◌∷◌, ◌++◌, length, drop, set, slice_range, subst, ◌-◌, refl, sym, ap, ◌∙◌, arith, Some, ⊎_elim, if◌then◌else◌, flat_map, filter, bytes_eq, not, ◌||◌, list_any, cases_lt, append-nil, length-map}
+use Rattle.trac_functions.proofs.Words.{◌≡◌, ℕ, zero, suc, ◌+◌, ◌<◌, ◌≤◌, Bool, true, false, List, [], ◌∷◌, ◌++◌, length, drop, set, slice_range, subst, ◌-◌, refl, sym, ap, ◌∙◌, arith, Some, ⊎_elim, if◌then◌else◌, flat_map, filter, bytes_eq, not, ◌||◌, list_any, cases_lt, append-nil}
 use Rattle.trac_functions.proofs.Words.{drop_more, drop_all, get_or-set_same, set-set, set-get_or, bytes_eq-Decides, length-between, All-nil, All-cons, Function, Text, Form, segment_by, IsStore, NoneNamed, is_named, without, World, meaning_of, built, value_length, argument, Cell, Byte, Call, Comma}
-use Rattle.trac_functions.proofs.Words.{Gap, Head, character_of, Contents, IsSound, form_at, name_at, body_at, pointer_at, IsTextPart, part_text, AreTextParts, part_texts, before_comma, parts_between, texts_between, AreParted, without-none, parts-first, parts-none, Arguments, texts_of, in_first}
+use Rattle.trac_functions.proofs.Words.{Gap, Head, Contents, IsSound, form_at, name_at, body_at, pointer_at, IsTextPart, AreTextParts, part_texts, before_comma, parts_between, texts_between, AreParted, without-none, parts-first, parts-none, Arguments, texts_of, in_first}
 use Rattle.trac_functions.proofs.Words.{with_first, Means, IsValue, AreArguments, texts}
 use Rattle.trac_functions.proofs.ArgumentLemmas.{none-left, texts_from-some, taken-part, taken-text, taken-rest, taken-left}
 use Rattle.trac_functions.proofs.FlatLemmas.{texts_of-some}
@@ -18,10 +18,6 @@ null-value f args old new sound means built_is same =
 
 pub unchanged : (f : Function) (args : List Text) (old new : Contents) → IsSound old → Means f args old.forms [] false old.forms → ((w : World) → built (Some f) args w ≡ value_length (meaning_of f args w)) → new ≡ old → IsValue f args old new false []
 unchanged f args old new sound means built_is same = rw same (null-value f args old old sound means built_is refl)
-
--- how many characters a part of neutral has
-pub length-part : (neutral : List Cell) (a b : ℕ) → IsTextPart neutral a b → length (part_text neutral a b) ≡ b - a
-length-part neutral a b part = length-map (slice_range neutral a b) character_of ∙ length-between neutral a b part.within
 
 -- each form's name behind a text
 abbrev pub names : Text → List Form → Text

@@ -1,6 +1,7 @@
 -- A value that is put at the end of the neutral string part by part.
-use Rattle.trac_functions.proofs.Words.{◌≡◌, ℕ, ◌+◌, ◌-◌, ◌<◌, ◌≤◌, false, List, [], ◌++◌, length, take, drop, slice_range, refl, sym, ap, ◌∙◌, arith, append_assoc, ⊎_elim, cases_lt, append-nil, length-map, length-append, map-append, take-append-le, drop-append-le, length-drop, Function, Text, Cell}
+use Rattle.trac_functions.proofs.Words.{◌≡◌, ℕ, ◌+◌, ◌<◌, ◌≤◌, false, List, [], ◌++◌, length, slice_range, refl, sym, ap, ◌∙◌, arith, append_assoc, append-nil, length-map, length-append, map-append, Function, Text}
 use Rattle.trac_functions.proofs.Words.{Byte, flat_text, Contents, used, IsSound, IsTextPart, part_text, Valued, IsValue}
+use Rattle.trac_functions.proofs.CellRanges.{part-append}
 
 -- of a whole text this much is left, and the rest stands at the end of neutral
 pub record HasPut (old now : Contents) (whole left : Text) : Type 0 where
@@ -52,19 +53,9 @@ put-all f args old now whole put valued =
 pub forms-kept : (old now : Contents) (whole left : Text) → HasPut old now whole left → now.forms ≡ old.forms
 forms-kept old now whole left put = ap (λ (w : Contents). w.forms) put.stands
 
--- a part of neutral stays while cells are put behind it
-range-kept : (cells more : List Cell) (a b : ℕ) → b ≤ length cells → slice_range (cells ++ more) a b ≡ slice_range cells a b
-range-kept cells more a b within =
-    ⊎_elim
-    (λ past. let none : b - a ≡ 0 = omega arith in rw none refl)
-    (λ order.
-    let first : a ≤ length cells = omega arith in
-    ap (take (b - a)) (drop-append-le a cells more first) ∙ take-append-le (b - a) (drop a cells) more (omega (arith, length-drop a cells)))
-    (cases_lt b a)
-
 module _ (old now : Contents) (whole left : Text) (put : HasPut old now whole left) where
-  kept : (a b : ℕ) → b ≤ length old.neutral → slice_range now.neutral a b ≡ slice_range old.neutral a b
-  kept a b within = ap (λ (w : Contents). slice_range w.neutral a b) put.stands ∙ range-kept old.neutral (flat_text put.done) a b within
+  kept : (a b : ℕ) → IsTextPart old.neutral a b → slice_range now.neutral a b ≡ slice_range old.neutral a b
+  kept a b part = ap (λ (w : Contents). slice_range w.neutral a b) put.stands ∙ part-append old.neutral (flat_text put.done) a b part.order part.within
 
   longer : length old.neutral ≤ length now.neutral
   longer = omega (arith, ap (λ (w : Contents). length w.neutral) put.stands, length-append old.neutral (flat_text put.done))
@@ -72,7 +63,7 @@ module _ (old now : Contents) (whole left : Text) (put : HasPut old now whole le
   pub part-kept : (a b : ℕ) → IsTextPart old.neutral a b → IsTextPart now.neutral a b
   part-kept a b part =
       let within = part.within in
-      record { order = part.order; within = omega (arith, longer); bytes = rw (kept a b part.within) part.bytes }
+      record { order = part.order; within = omega (arith, longer); bytes = rw (kept a b part) part.bytes }
 
   pub text-kept : (a b : ℕ) → IsTextPart old.neutral a b → part_text now.neutral a b ≡ part_text old.neutral a b
-  text-kept a b part = rw (kept a b part.within) refl
+  text-kept a b part = rw (kept a b part) refl

@@ -1,5 +1,5 @@
 -- Characters and gaps among the items of a form.
-use Rattle.trac_functions.proofs.Words.{◌≡◌, ℕ, zero, suc, ◌+◌, ◌-◌, ◌<◌, ◌≤◌, min, Bool, true, false, List, [], ◌∷◌, ◌++◌, length, take, drop, reverse, All, slice_range, get_or, refl, sym, ap, ◌∙◌, arith, append_assoc, append-nil, length-append, length-take, length-drop, length-reverse, get_or-drop}
+use Rattle.trac_functions.proofs.Words.{◌≡◌, ℕ, zero, suc, ◌+◌, ◌-◌, ◌<◌, ◌≤◌, min, true, false, List, [], ◌∷◌, ◌++◌, length, take, drop, reverse, All, slice_range, get_or, refl, sym, ap, ◌∙◌, arith, append_assoc, append-nil, length-append, length-take, length-drop, length-reverse, get_or-drop}
 use Rattle.trac_functions.proofs.Words.{get_or-reverse, get_or-take, drop-drop, drop-take, take-append-drop, reverse-append, reverse-reverse, take-take, map-append, length-map, take-append_seam, take-add, drop-append_seam, length-between, Item, Text, is_character, text_of, first_characters}
 use Rattle.trac_functions.proofs.Words.{flat_text, Contents, used, character_at, gap_at, NonePasses, IsFirst, IsLast, characters-between, IsFirstOr}
 use Rattle.trac_language.specs.declared.item.Item.TheVariants.{Byte, Gap}
