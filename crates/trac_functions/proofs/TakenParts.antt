@@ -3,7 +3,8 @@ use Rattle.trac_functions.proofs.Words.{◌≡◌, ◌≢◌, ℕ, zero, suc, �
 use Rattle.trac_functions.proofs.Words.{if◌then◌else◌, int_lt, unsigned_abs, pos, prefix_len, cases_lt, lt-ltb, le-ltb, length-take, length-drop, length-reverse, get_or-drop, drop-drop, drop_of_length-le, sum_by-cons, Item, Function, Text, Form, is_character, text_of, after_pointer, before_pointer}
 use Rattle.trac_functions.proofs.Words.{begins, place_of, form_named, changed, cells, form_cells, NoneNamed, Input, Part, characters, first_characters, segment_from, next_segment, unless_null, forward, backward, next_characters, previous_characters, up_to, initial_part, World, on_form, silent}
 use Rattle.trac_functions.proofs.Words.{with_form, take_part, meaning_of, value_length, built, number, flat_text, signed, character_at, is_gap, gap_at, text_at, NonePasses, IsFirst, Contents, form_at, IsNamedAt, IsSound, part_text, form_named-at, form_named-none, changed-at, Made, Full, Value}
-use Rattle.trac_functions.proofs.Words.{Placed, Defined, Over, world, Valued, Makes, part_value, moved, TakesPart}
+use Rattle.trac_functions.proofs.Words.{Placed, Defined, Over, world, Valued, Makes, Performs, Arguments, AreArguments, argument, texts, part_value, moved, TakesPart, TakesOrDefault}
+use Rattle.trac_functions.proofs.FormLemmas.{null-value}
 use Rattle.trac_language.specs.declared.item.Item.TheVariants.{Byte, Gap}
 use Rattle.trac_functions.proofs.CountLimits.{counted}
 use Rattle.trac_functions.proofs.MadeValues.{valued-of}
@@ -12,40 +13,19 @@ use Rattle.trac_functions.proofs.TakenItems.{first-character, forward-all, forwa
 -- ---- what a call makes of the part that it takes
 
 -- a call of this function takes a part of the form that its first argument names
-pub record TakesBy (f : Function) (args : List Text) (name : Text) (part : Form → Option Part) (z : Text) : Type 0 where
-  pub means : (w : World) → meaning_of f args w ≡ on_form (form_named name w.forms) (λ form. take_part name (part form) z w) w
-  pub builds : (w : World) → built (Some f) args w ≡ value_length (meaning_of f args w)
-
-module _ (f : Function) (args : List Text) (name : Text) (part : Form → Option Part) (z : Text) (by : TakesBy f args name part z) (scanned : Bool) where
-  -- no form has the name
-  pub makes-none : (old new : Contents) → IsSound old → NoneNamed name old.forms → new ≡ old → Makes f args scanned old Value new
-  makes-none old new sound none same =
-      let fits = sound.fits in
-      let at : Contents → Type 0 = λ w. Makes f args scanned old Value w in
-      subst at (sym same) (
-        [],
-        record {
-          valued = valued-of f args old.forms old.forms [] false
-              (λ meta input. by.means (world old.forms meta input)
-              ∙ ap (λ o. on_form o (λ form. take_part name (part form) z (world old.forms meta input)) (world old.forms meta input)) (form_named-none name old.forms none))
-              by.builds;
-          fits = omega arith;
-          stands = ap (λ n. record old { neutral = n }) (sym (append-nil old.neutral));
-        },
-      )
-
+module _ (f : Function) (args : List Text) (name : Text) (part : Form → Option Part) (z : Text) (scanned : Bool) (means : (w : World) → meaning_of f args w ≡ on_form (form_named name w.forms) (λ form. take_part name (part form) z w) w) (built_is : (w : World) → built (Some f) args w ≡ value_length (meaning_of f args w)) where
   -- what the form at a place gives
-  pub makes-part : (old new : Contents) (k : ℕ) (made : Made) → IsSound old → IsNamedAt old.forms name k → TakesPart (part (form_at old.forms k)) z k old made new → Makes f args scanned old made new
+  makes-part : (old new : Contents) (k : ℕ) (made : Made) → IsSound old → IsNamedAt old.forms name k → TakesPart (part (form_at old.forms k)) z k old made new → Makes f args scanned old made new
   makes-part old new k made sound at takes = go (part (form_at old.forms k)) refl made takes
     where
       means-at : (o : Option Part) → part (form_at old.forms k) ≡ o → (meta : ℕ) (input : Input) → meaning_of f args (world old.forms meta input) ≡ take_part name o z (world old.forms meta input)
       means-at o e meta input =
-          by.means (world old.forms meta input)
+          means (world old.forms meta input)
           ∙ ap (λ o. on_form o (λ form. take_part name (part form) z (world old.forms meta input)) (world old.forms meta input)) (form_named-at name old.forms k sound.forms at)
           ∙ ap (λ o. take_part name o z (world old.forms meta input)) e
 
       go : (o : Option Part) → part (form_at old.forms k) ≡ o → (made : Made) → TakesPart o z k old made new → Makes f args scanned old made new
-      go o e Full takes = λ meta input. let size = by.builds (world old.forms meta input) ∙ ap value_length (means-at o e meta input) ∙ long o (world old.forms meta input) in omega arith
+      go o e Full takes = λ meta input. let size = built_is (world old.forms meta input) ∙ ap value_length (means-at o e meta input) ∙ long o (world old.forms meta input) in omega arith
         where
           long : (o : Option Part) (w : World) → value_length (take_part name o z w) ≡ length (part_value o z)
           long None w = refl
@@ -56,7 +36,7 @@ module _ (f : Function) (args : List Text) (name : Text) (part : Form → Option
             (
               true,
               record {
-                valued = subst (λ fs. Valued f args old.forms z true fs) (sym forms) (valued-of f args old.forms old.forms z true (means-at None e) by.builds);
+                valued = subst (λ fs. Valued f args old.forms z true fs) (sym forms) (valued-of f args old.forms old.forms z true (means-at None e) built_is);
                 goes = refl;
                 long = takes.long;
                 fits = takes.fits;
@@ -69,7 +49,7 @@ module _ (f : Function) (args : List Text) (name : Text) (part : Form → Option
           let changes : changed name (λ form. record form { pointer = p.pointer }) old.forms ≡ moved old.forms k p.pointer = changed-at name (λ form. record form { pointer = p.pointer }) old.forms k sound.forms at in (
             p.text,
             record {
-              valued = subst (λ fs. Valued f args old.forms p.text false fs) (changes ∙ sym forms) (valued-of f args old.forms (changed name (λ form. record form { pointer = p.pointer }) old.forms) p.text false (means-at (Some p) e) by.builds);
+              valued = subst (λ fs. Valued f args old.forms p.text false fs) (changes ∙ sym forms) (valued-of f args old.forms (changed name (λ form. record form { pointer = p.pointer }) old.forms) p.text false (means-at (Some p) e) built_is);
               fits = takes.fits;
               stands = takes.stands ∙ ap (λ fs. record old { forms = fs; neutral = old.neutral ++ flat_text p.text }) (sym forms);
             },
@@ -81,57 +61,34 @@ module _ (f : Function) (args : List Text) (name : Text) (part : Form → Option
       go None e (Over fate) takes = absurd takes
       go (Some p) e (Over fate) takes = absurd takes
 
-  -- the same, by what the code knows
-  pub makes-found : (old found new : Contents) (k : ℕ) (made : Made) (named : Text) (a b : ℕ) → IsSound old → found ≡ old → IsNamedAt old.forms named k → named ≡ name → TakesPart (part (form_at found.forms k)) (part_text found.neutral a b) k found made new → part_text old.neutral a b ≡ z → Makes f args scanned old made new
-  makes-found old found new k made named a b sound same at is takes text =
-      let here = subst (λ (w : Contents). TakesPart (part (form_at w.forms k)) (part_text w.neutral a b) k w made new) same takes in
-      makes-part old new k made sound (subst (λ n. IsNamedAt old.forms n k) is at) (subst (λ t. TakesPart (part (form_at old.forms k)) t k old made new) text here)
+-- the same, by what the code knows
+pub makes-found : (f : Function) (part : List Text → Form → Option Part) (other : ℕ) (old found new : Contents) (a : Arguments) (k : ℕ) (made : Made) (name : Text) (z : ℕ × ℕ) → ((title : Text) (w : World) → meaning_of f (title ∷ texts old a) w ≡ on_form (form_named (argument (texts old a) 0) w.forms) (λ form. take_part (argument (texts old a) 0) (part (texts old a) form) (argument (texts old a) other) w) w) → ((title : Text) (w : World) → built (Some f) (title ∷ texts old a) w ≡ value_length (meaning_of f (title ∷ texts old a) w)) → AreArguments old a → found ≡ old → IsNamedAt old.forms name k → name ≡ argument (texts old a) 0 → TakesOrDefault (part (texts old a)) k z found made new → part_text old.neutral z.0 z.1 ≡ argument (texts old a) other → Performs f old a made new
+makes-found f part other old found new a k made name z means built_is are same at is takes text = λ title.
+    let here = subst (λ (w : Contents). TakesOrDefault (part (texts old a)) k z w made new) same takes in
+    makes-part f (title ∷ texts old a) (argument (texts old a) 0) (part (texts old a)) (argument (texts old a) other) a.scanned (means title) (built_is title) old new k made are.sound
+    (subst (λ n. IsNamedAt old.forms n k) is at) (subst (λ t. TakesPart (part (texts old a) (form_at old.forms k)) t k old made new) text here)
 
-  pub makes-missing : (old found : Contents) (named : Text) → IsSound old → found ≡ old → NoneNamed named old.forms → named ≡ name → Makes f args scanned old Value found
-  makes-missing old found named sound same none is = makes-none old found sound (subst (λ n. NoneNamed n old.forms) is none) same
+-- a part that is there is taken, and else the text of z
+pub takes-some : {part : Part} {o : Option Part} (z : ℕ × ℕ) (k : ℕ) (old : Contents) (made : Made) (new : Contents) → Some part ≡ o → ((z : Text) → TakesPart (Some part) z k old made new) → TakesPart o (part_text old.neutral z.0 z.1) k old made new
+takes-some z k old made new e takes = subst (λ o. TakesPart o (part_text old.neutral z.0 z.1) k old made new) e (takes (part_text old.neutral z.0 z.1))
+
+pub takes-none : {o : Option Part} (z : ℕ × ℕ) (k : ℕ) (old : Contents) (made : Made) (new : Contents) → o ≡ None → ((k : ℕ) → TakesPart None (part_text old.neutral z.0 z.1) k old made new) → TakesPart o (part_text old.neutral z.0 z.1) k old made new
+takes-none z k old made new e takes = subst (λ o. TakesPart o (part_text old.neutral z.0 z.1) k old made new) (sym e) (takes k)
 
 -- ---- a form that is changed
 
 -- a call of this function changes the form that its first argument names
-pub record ChangesBy (f : Function) (args : List Text) (name : Text) (change : Form → Form) : Type 0 where
-  pub means : (w : World) → meaning_of f args w ≡ on_form (form_named name w.forms) (λ form. silent (with_form name change w)) w
-  pub builds : (w : World) → built (Some f) args w ≡ value_length (meaning_of f args w)
-
-module _ (f : Function) (args : List Text) (name : Text) (change : Form → Form) (by : ChangesBy f args name change) (scanned : Bool) where
-  pub changes-found : (old found new : Contents) (k : ℕ) (named : Text) → IsSound old → found ≡ old → IsNamedAt old.forms named k → named ≡ name → new ≡ record found { forms = set found.forms k (change (form_at found.forms k)) } → Makes f args scanned old Value new
-  changes-found old found new k named sound same at is changed_is =
-      let fits = sound.fits in
-      let here = subst (λ n. IsNamedAt old.forms n k) is at in
-      let new_is : new ≡ record old { forms = set old.forms k (change (form_at old.forms k)) } = changed_is ∙ ap (λ (w : Contents). record w { forms = set w.forms k (change (form_at w.forms k)) }) same in
-      let forms : new.forms ≡ set old.forms k (change (form_at old.forms k)) = ap (λ (w : Contents). w.forms) new_is in
-      let changes : changed name change old.forms ≡ set old.forms k (change (form_at old.forms k)) = changed-at name change old.forms k sound.forms here in (
-        [],
-        record {
-          valued = subst (λ fs. Valued f args old.forms [] false fs) (changes ∙ sym forms)
-              (valued-of f args old.forms (changed name change old.forms) [] false
-              (λ meta input. by.means (world old.forms meta input)
-              ∙ ap (λ o. on_form o (λ form. silent (with_form name change (world old.forms meta input))) (world old.forms meta input)) (form_named-at name old.forms k sound.forms here))
-              by.builds);
-          fits = omega arith;
-          stands = new_is ∙ ap (λ fs. record old { forms = fs }) (sym forms) ∙ ap (λ n. record old { forms = new.forms; neutral = n }) (sym (append-nil old.neutral));
-        },
-      )
-
-  pub changes-missing : (old found : Contents) (named : Text) → IsSound old → found ≡ old → NoneNamed named old.forms → named ≡ name → Makes f args scanned old Value found
-  changes-missing old found named sound same none is =
-      let fits = sound.fits in
-      let at : Contents → Type 0 = λ w. Makes f args scanned old Value w in
-      subst at (sym same) (
-        [],
-        record {
-          valued = valued-of f args old.forms old.forms [] false
-              (λ meta input. by.means (world old.forms meta input)
-              ∙ ap (λ o. on_form o (λ form. silent (with_form name change (world old.forms meta input))) (world old.forms meta input)) (form_named-none name old.forms (subst (λ n. NoneNamed n old.forms) is none)))
-              by.builds;
-          fits = omega arith;
-          stands = ap (λ n. record old { neutral = n }) (sym (append-nil old.neutral));
-        },
-      )
+pub changes-found : (f : Function) (change : Form → Form) (old found new : Contents) (a : Arguments) (k : ℕ) (name : Text) → ((title : Text) (w : World) → meaning_of f (title ∷ texts old a) w ≡ on_form (form_named (argument (texts old a) 0) w.forms) (λ form. silent (with_form (argument (texts old a) 0) change w)) w) → ((title : Text) (w : World) → built (Some f) (title ∷ texts old a) w ≡ value_length (meaning_of f (title ∷ texts old a) w)) → AreArguments old a → found ≡ old → IsNamedAt old.forms name k → name ≡ argument (texts old a) 0 → new ≡ record found { forms = set found.forms k (change (form_at found.forms k)) } → Performs f old a Value new
+changes-found f change old found new a k name means built_is are same at is changed_is = λ title.
+    let first = argument (texts old a) 0 in
+    let here = subst (λ n. IsNamedAt old.forms n k) is at in
+    let new_is : new ≡ record old { forms = set old.forms k (change (form_at old.forms k)) } = changed_is ∙ ap (λ (w : Contents). record w { forms = set w.forms k (change (form_at w.forms k)) }) same in
+    let forms : new.forms ≡ set old.forms k (change (form_at old.forms k)) = ap (λ (w : Contents). w.forms) new_is in
+    ([], null-value f (title ∷ texts old a) old new are.sound
+    (λ meta input. means title (world old.forms meta input)
+    ∙ ap (λ o. on_form o (λ form. silent (with_form first change (world old.forms meta input))) (world old.forms meta input)) (form_named-at first old.forms k are.sound.forms here)
+    ∙ ap (λ fs. silent (world fs meta input)) (changed-at first change old.forms k are.sound.forms here ∙ sym forms))
+    (built_is title) (new_is ∙ ap (λ fs. record old { forms = fs }) (sym forms)))
 
 -- ---- the parts
 

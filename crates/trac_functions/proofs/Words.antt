@@ -25,9 +25,9 @@ pub use Rattle.trac_forms.specs.Contents.{AreTextParts, Contents, IsNamedAt, IsS
 pub use Rattle.trac_forms.specs.Loading.{AreCharacters, IsLoaded, called_part}
 pub use Rattle.trac_forms.specs.Search.{IsFirst, IsLast, NonePasses, character_at, gap_at, is_gap, text_at}
 pub use Rattle.trac_functions.specs.BitResults.{AreDigits, AreFor, bits_at, bits_made}
-pub use Rattle.trac_functions.specs.Calls.{AreArguments, IsValue, Makes, Means, Valued, texts, texts_from, world}
+pub use Rattle.trac_functions.specs.Calls.{AreArguments, IsValue, Makes, Means, Performs, Valued, texts, texts_from, world}
 pub use Rattle.trac_functions.specs.Flat.{Neutral, arguments_at, in_first, memory_of, memory_with, mode_at, mode_of, neutral_of, no_neutral, texts_of, with_cell, with_cells, with_character, with_comma, with_first}
-pub use Rattle.trac_functions.specs.Taking.{IsFirstOr, TakesPart, moved, part_value}
+pub use Rattle.trac_functions.specs.Taking.{IsFirstOr, TakesOrDefault, TakesPart, moved, part_value}
 pub use Rattle.trac_functions.specs.declared.arguments.Arguments.{Arguments}
 pub use Rattle.trac_functions.specs.declared.arguments.Made.{Made}
 pub use Rattle.trac_functions.specs.declared.arguments.Made.TheVariants.{Defined, Full, Over, Placed, Value}
