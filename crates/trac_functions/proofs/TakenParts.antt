@@ -1,14 +1,14 @@
 -- The parts that calls take of a form.
-use Rattle.trac_functions.proofs.Words.{◌≡◌, ◌≢◌, ℕ, zero, suc, ◌+◌, ◌-◌, ◌<◌, ◌≤◌, min, Bool, true, false, List, [], ◌∷◌, ◌++◌, length, take, drop, reverse, set, slice_range, get_or, Option, Some, None, refl, sym, ap, ◌∙◌, subst, ⊎_elim, arith, append-nil, nat_lt, take_while, option_map}
-use Rattle.trac_functions.proofs.Words.{if◌then◌else◌, int_lt, unsigned_abs, pos, prefix_len, cases_lt, lt-ltb, le-ltb, length-take, length-drop, length-reverse, get_or-drop, drop-drop, drop_of_length-le, sum_by-cons, Item, Function, Text, Form, is_character, text_of, after_pointer, before_pointer}
-use Rattle.trac_functions.proofs.Words.{begins, place_of, form_named, changed, cells, form_cells, NoneNamed, Input, Part, characters, first_characters, segment_from, next_segment, unless_null, forward, backward, next_characters, previous_characters, up_to, initial_part, World, on_form, silent}
-use Rattle.trac_functions.proofs.Words.{with_form, take_part, meaning_of, value_length, built, number, flat_text, signed, character_at, is_gap, gap_at, text_at, NonePasses, IsFirst, Contents, form_at, IsNamedAt, IsSound, part_text, form_named-at, form_named-none, changed-at, Made, Full, Value}
+use Rattle.trac_functions.proofs.Words.{◌≡◌, ◌≢◌, ℕ, zero, suc, ◌+◌, ◌-◌, ◌<◌, ◌≤◌, min, Bool, true, false, List, [], ◌∷◌, ◌++◌, length, take, drop, reverse, set, slice_range, get_or, Option, Some, None, refl, sym, ap, ◌∙◌, subst, ⊎_elim, arith, nat_lt, take_while, option_map}
+use Rattle.trac_functions.proofs.Words.{if◌then◌else◌, int_lt, unsigned_abs, pos, prefix_len, cases_lt, lt-ltb, le-ltb, length-take, length-drop, length-reverse, nil_from_length, get_or-drop, drop-drop, drop_of_length-le, sum_by-cons, Item, Function, Text, Form, is_character, text_of, after_pointer, before_pointer}
+use Rattle.trac_functions.proofs.Words.{begins, place_of, form_named, changed, cells, form_cells, Input, Part, characters, first_characters, segment_from, next_segment, unless_null, forward, backward, next_characters, previous_characters, up_to, initial_part, World, on_form, silent}
+use Rattle.trac_functions.proofs.Words.{with_form, take_part, meaning_of, value_length, built, number, flat_text, signed, character_at, is_gap, gap_at, text_at, NonePasses, IsFirst, Contents, form_at, IsNamedAt, IsSound, part_text, form_named-at, changed-at, Made, Full, Value}
 use Rattle.trac_functions.proofs.Words.{Placed, Defined, Over, world, Valued, Makes, Performs, Arguments, AreArguments, argument, texts, part_value, moved, TakesPart, TakesOrDefault}
 use Rattle.trac_functions.proofs.FormLemmas.{null-value}
 use Rattle.trac_language.specs.declared.item.Item.TheVariants.{Byte, Gap}
 use Rattle.trac_functions.proofs.CountLimits.{counted}
 use Rattle.trac_functions.proofs.MadeValues.{valued-of}
-use Rattle.trac_functions.proofs.TakenItems.{first-character, forward-all, forward-last, forward-more, forward-none, length-text_of, text_of-first, taken-forward, taken-backward, length-text_of-reverse}
+use Rattle.trac_functions.proofs.TakenItems.{first_characters-none, first-character, forward-all, forward-last, forward-more, forward-none, length-text_of, text_of-first, taken-forward, taken-backward, length-text_of-reverse}
 
 -- ---- what a call makes of the part that it takes
 
@@ -95,13 +95,6 @@ changes-found f change old found new a k name means built_is are same at is chan
 abbrev pub a-part : Text → ℕ → Part
 a-part text pointer = record { text = text; pointer = pointer }
 
-null-first : (items : List Item) (n : ℕ) → length (first_characters n items) ≡ 0 → first_characters n items ≡ []
-null-first items n e = go (first_characters n items) e
-  where
-    go : (l : List Item) → length l ≡ 0 → l ≡ []
-    go [] e = refl
-    go (x ∷ xs) e = absurd (omega arith)
-
 some-part : (part : Part) → 0 < length part.text → unless_null part ≡ Some part
 some-part part some = ap (λ b. if b then Some part else None) (lt-ltb 0 (length part.text) some)
 
@@ -109,7 +102,7 @@ some-part part some = ap (λ b. if b then Some part else None) (lt-ltb 0 (length
 pub next-none : (form : Form) (n from to : ℕ) → from ≡ form.pointer → to ≡ from + length (first_characters (min n (length (text_of (drop from form.body)))) (drop from form.body)) → to ≡ from → next_characters n form ≡ None
 next-none form n from to from_is to_is same =
     let e : first_characters (min n (length (text_of (drop form.pointer form.body)))) (drop form.pointer form.body) ≡ [] =
-    null-first (drop form.pointer form.body) (min n (length (text_of (drop form.pointer form.body))))
+    nil_from_length (first_characters (min n (length (text_of (drop form.pointer form.body)))) (drop form.pointer form.body))
     (sym (ap (λ p. length (first_characters (min n (length (text_of (drop p form.body)))) (drop p form.body))) from_is) ∙ omega arith) in
     ap (forward form) e
 
@@ -122,17 +115,13 @@ next-some form n from to from_is within to_is other =
     let long = text_of-first (drop from form.body) m in
     let some : 0 < length (text_of u) = ⊎_elim
     (λ lt. lt)
-    (λ none. let zero_m : m ≡ 0 = omega arith in let nothing = ap (λ k. length (first_characters k (drop from form.body))) zero_m in absurd (other (let z = first-none (drop from form.body) in omega arith)))
+    (λ none. let zero_m : m ≡ 0 = omega arith in let nothing = ap (λ k. length (first_characters k (drop from form.body))) zero_m in absurd (other (let z = ap length (first_characters-none (drop from form.body)) in omega arith)))
     (cases_lt 0 (length (text_of u))) in
     let here : Part = record { text = text_of u; pointer = from + length u } in
     let same : Some here ≡ Some (record { text = text_of (slice_range form.body from to); pointer = to }) =
     ap (λ t. let r : Part = record { text = text_of t; pointer = from + length u } in Some r) part ∙ ap (λ k. let r : Part = record { text = text_of (slice_range form.body from to); pointer = k } in Some r) (sym to_is) in
     sym same ∙ sym (some-part here some)
     ∙ ap (λ p. let r : Part = record { text = text_of (first_characters (min n (length (text_of (drop p form.body)))) (drop p form.body)); pointer = p + length (first_characters (min n (length (text_of (drop p form.body)))) (drop p form.body)) } in unless_null r) from_is
-  where
-    first-none : (items : List Item) → length (first_characters 0 items) ≡ 0
-    first-none [] = refl
-    first-none (x ∷ xs) = refl
 
 -- the next character after the pointer
 pub one-none : (form : Form) (from : ℕ) → from ≡ form.pointer → from ≤ length form.body → NonePasses (character_at form.body) from (length form.body) → next_characters 1 form ≡ None
@@ -144,13 +133,13 @@ one-some form from place is within first =
     let above = first.above in
     let there = forward-more form.body from 0 from within (forward-none form.body from) place first in
     ap (λ t. let r : Part = record { text = t; pointer = place + 1 } in Some r) (sym (first-character form.body from place first))
-    ∙ next-some form 1 from (place + 1) is within (forward-all form.body from 1 (place + 1) within there 1 refl) (λ e. absurd (omega arith))
+    ∙ next-some form 1 from (place + 1) is within (forward-all form.body from 1 (place + 1) within there 1 (let some = there.there in omega arith)) (λ e. absurd (omega arith))
 
 -- the last characters before the pointer: none where none is passed
 pub previous-none : (form : Form) (n from to : ℕ) → to ≡ form.pointer → from + length (first_characters (min n (length (text_of (take to form.body)))) (reverse (take to form.body))) ≡ to → from ≡ to → previous_characters n form ≡ None
 previous-none form n from to to_is at same =
     let e : first_characters (min n (length (text_of (take form.pointer form.body)))) (reverse (take form.pointer form.body)) ≡ [] =
-    null-first (reverse (take form.pointer form.body)) (min n (length (text_of (take form.pointer form.body))))
+    nil_from_length (first_characters (min n (length (text_of (take form.pointer form.body)))) (reverse (take form.pointer form.body)))
     (sym (ap (λ p. length (first_characters (min n (length (text_of (take p form.body)))) (reverse (take p form.body)))) to_is) ∙ omega arith) in
     ap (λ u. backward form (reverse u)) e
 
@@ -167,7 +156,7 @@ previous-some form n from to to_is within at other =
     let u_long = length-reverse (first_characters m (reverse (take to form.body))) in
     let some : 0 < length (text_of u) = ⊎_elim
     (λ lt. lt)
-    (λ none. let zero_m : m ≡ 0 = omega arith in let nothing = ap (λ k. length (first_characters k (reverse (take to form.body)))) zero_m in absurd (other (let z = first-none (reverse (take to form.body)) in omega arith)))
+    (λ none. let zero_m : m ≡ 0 = omega arith in let nothing = ap (λ k. length (first_characters k (reverse (take to form.body)))) zero_m in absurd (other (let z = ap length (first_characters-none (reverse (take to form.body))) in omega arith)))
     (cases_lt 0 (length (text_of u))) in
     let place : to - length u ≡ from = omega arith in
     let here : Part = record { text = text_of u; pointer = to - length u } in
@@ -175,10 +164,6 @@ previous-some form n from to to_is within at other =
     ap (λ t. let r : Part = record { text = text_of t; pointer = to - length u } in Some r) part ∙ ap (λ k. let r : Part = record { text = text_of (slice_range form.body from to); pointer = k } in Some r) place in
     sym same ∙ sym (some-part here some)
     ∙ ap (λ p. let r : Part = record { text = text_of (reverse (first_characters (min n (length (text_of (take p form.body)))) (reverse (take p form.body)))); pointer = p - length (reverse (first_characters (min n (length (text_of (take p form.body)))) (reverse (take p form.body)))) } in unless_null r) to_is
-  where
-    first-none : (items : List Item) → length (first_characters 0 items) ≡ 0
-    first-none [] = refl
-    first-none (x ∷ xs) = refl
 
 -- no characters
 pub part-null : (form : Form) (p : ℕ) → p ≡ form.pointer → Some (a-part (text_of (slice_range form.body p p)) p) ≡ Some (a-part [] form.pointer)

@@ -1,5 +1,6 @@
-use Rattle.trac_functions.proofs.Words.{◌++◌, List, slice_range, ap, ◌∙◌, subst, arith, Item, text_of, flat_text, character_at, gap_at, Contents, body_at, IsFirstOr}
-use Rattle.trac_functions.proofs.TakenItems.{copied-more, length-part, used-copied}
+use Rattle.trac_functions.proofs.Words.{List, slice_range, ap, ◌∙◌, subst, arith, Item, text_of, character_at, gap_at, Contents, used, body_at, IsFirstOr}
+use Rattle.trac_functions.proofs.TakenItems.{copied-more, length-part}
+use Rattle.trac_functions.proofs.PutCharacters.{with_text, used-with}
 use Rattle.trac_functions.proofs.form_parts.copy_characters.Goals as goal
 
 pub returns-then-not-copy_body-clause-put : goal.returns-then-not-copy_body-clause-put
@@ -12,7 +13,7 @@ returns-then-not-copy_body-clause-put c =
     let first = subst (λ (b : List Item). IsFirstOr (character_at b) c.loop-place.place c.args.to c.character_or-start.result) same c.character_or-start.ensures in
     let last = subst (λ (b : List Item). IsFirstOr (gap_at b) c.character_or-start.result c.args.to c.gap_or-end.result) same c.gap_or-end.ensures in
     let part = length-part body c.args.from c.loop-place.place c.character_or-start.result c.gap_or-end.result c.args.to i.above c.requires.within first last in
-    let cells = used-copied old now (text_of (slice_range body c.args.from c.loop-place.place)) i.copied in
+    let cells = ap used i.copied ∙ used-with old (text_of (slice_range body c.args.from c.loop-place.place)) in
     let room = ap (λ (w : Contents). w.room) i.copied in
     (λ e. absurd cc, λ fits. c.if-not-copy_body.ensures.copied.1 (omega arith))
 
@@ -25,7 +26,7 @@ loop-place-preserved c =
     let same = ap (λ (w : Contents). body_at w.forms c.args.form.0) i.copied in
     let first = subst (λ (b : List Item). IsFirstOr (character_at b) c.loop-place.place c.args.to c.character_or-start.result) same c.character_or-start.ensures in
     let last = subst (λ (b : List Item). IsFirstOr (gap_at b) c.character_or-start.result c.args.to c.gap_or-end.result) same c.gap_or-end.ensures in
-    let put = c.if-not-copy_body.ensures.last ∙ ap (λ (b : List Item). record now { neutral = now.neutral ++ flat_text (text_of (slice_range b c.character_or-start.result c.gap_or-end.result)) }) same in
+    let put = c.if-not-copy_body.ensures.last ∙ ap (λ (b : List Item). with_text now (text_of (slice_range b c.character_or-start.result c.gap_or-end.result))) same in
     record {
       above = let a = first.above in let b = last.above in let d = i.above in omega arith;
       below = last.below;
