@@ -231,14 +231,16 @@ taken-backward body to place n within at =
     ∙ ap (λ t. drop place (take t body)) whole ∙ drop-take place (to - place) body
 
 -- a part is its beginning and what follows
-pub text_of-split : (body : List Item) (a b c : ℕ) → a ≤ b → b ≤ c → text_of (slice_range body a c) ≡ text_of (slice_range body a b) ++ text_of (slice_range body b c)
-text_of-split body a b c ab bc =
+pub range-split : (body : List Item) (a b c : ℕ) → a ≤ b → b ≤ c → slice_range body a c ≡ slice_range body a b ++ slice_range body b c
+range-split body a b c ab bc =
     let e : c - a ≡ (b - a) + (c - b) = omega arith in
     let d : a + (b - a) ≡ b = omega arith in
-    ap (λ n. text_of (take n (drop a body))) e
-    ∙ ap text_of (take-add (b - a) (c - b) (drop a body))
-    ∙ text_of-append (take (b - a) (drop a body)) (take (c - b) (drop (b - a) (drop a body)))
-    ∙ ap (λ t. text_of (slice_range body a b) ++ text_of (take (c - b) t)) (drop-drop (b - a) a body ∙ ap (λ n. drop n body) d)
+    ap (λ n. take n (drop a body)) e
+    ∙ take-add (b - a) (c - b) (drop a body)
+    ∙ ap (λ t. slice_range body a b ++ take (c - b) t) (drop-drop (b - a) a body ∙ ap (λ n. drop n body) d)
+
+pub text_of-split : (body : List Item) (a b c : ℕ) → a ≤ b → b ≤ c → text_of (slice_range body a c) ≡ text_of (slice_range body a b) ++ text_of (slice_range body b c)
+text_of-split body a b c ab bc = ap text_of (range-split body a b c ab bc) ∙ text_of-append (slice_range body a b) (slice_range body b c)
 
 range-at : (body : List Item) (a b k : ℕ) → k < b - a → get_or (slice_range body a b) k (Byte 0) ≡ get_or body (a + k) (Byte 0)
 range-at body a b k lt = get_or-take (b - a) (drop a body) k (Byte 0) lt ∙ get_or-drop a body k (Byte 0)
