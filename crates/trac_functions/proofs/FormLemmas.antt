@@ -16,14 +16,11 @@ null-value f args old new sound means built_is same =
       stands = same ∙ ap (λ cells. record old { forms = new.forms; neutral = cells }) (sym (append-nil old.neutral));
     }
 
-pub unchanged : (f : Function) (args : List Text) (old new : Contents) → IsSound old → Means f args old.forms [] false old.forms → ((w : World) → built (Some f) args w ≡ value_length (meaning_of f args w)) → new ≡ old → IsValue f args old new false []
-unchanged f args old new sound means built_is same = rw same (null-value f args old old sound means built_is refl)
-
--- the same of a call that does nothing where no form has the name that its first argument gives
+-- a call that does nothing where no form has the name that its first argument gives
 pub idle : (f : Function) (old new : Contents) (a : Arguments) (name : Text) → AreArguments old a → ((title : Text) (w : World) → form_named (argument (texts old a) 0) w.forms ≡ None → meaning_of f (title ∷ texts old a) w ≡ silent w) → ((title : Text) (w : World) → built (Some f) (title ∷ texts old a) w ≡ value_length (meaning_of f (title ∷ texts old a) w)) → new ≡ old → NoneNamed name old.forms → name ≡ argument (texts old a) 0 → Performs f old a Value new
 idle f old new a name are means built_is same none name_is = λ title.
     let gone = form_named-none (argument (texts old a) 0) old.forms (subst (λ n. NoneNamed n old.forms) name_is none) in
-    ([], unchanged f (title ∷ texts old a) old new are.sound (λ meta input. means title (world old.forms meta input) gone) (built_is title) same)
+    ([], rw same (null-value f (title ∷ texts old a) old old are.sound (λ meta input. means title (world old.forms meta input) gone) (built_is title) refl))
 
 -- each form's name behind a text
 abbrev pub names : Text → List Form → Text

@@ -1,9 +1,9 @@
 -- Characters and gaps among the items of a form.
 use Rattle.trac_functions.proofs.Words.{◌≡◌, ℕ, zero, suc, ◌+◌, ◌-◌, ◌<◌, ◌≤◌, min, true, false, List, [], ◌∷◌, ◌++◌, length, take, drop, reverse, All, slice_range, get_or, refl, sym, ap, ◌∙◌, arith, append-nil, length-append, length-take, length-drop, length-reverse, get_or-drop}
 use Rattle.trac_functions.proofs.Words.{get_or-reverse, get_or-take, drop-drop, drop-take, take-append-drop, reverse-append, reverse-reverse, take-take, take-append_seam, take-add, drop-append_seam, length-between, Item, is_character, text_of, first_characters}
-use Rattle.trac_functions.proofs.Words.{Contents, character_at, gap_at, NonePasses, IsFirst, IsLast, characters-between, IsFirstOr}
+use Rattle.trac_functions.proofs.Words.{used, body_at, Contents, character_at, gap_at, NonePasses, IsFirst, IsLast, characters-between, IsFirstOr}
 use Rattle.trac_language.specs.declared.item.Item.TheVariants.{Byte, Gap}
-use Rattle.trac_functions.proofs.PutCharacters.{with_text, with-both}
+use Rattle.trac_functions.proofs.PutCharacters.{with_text, used-with, with-both}
 
 pub first_characters-none : (items : List Item) → first_characters 0 items ≡ []
 first_characters-none [] = refl
@@ -261,10 +261,6 @@ length-characters body a b within all = all-characters (slice_range body a b) al
 
 -- ---- a run of characters
 
--- the characters of a run
-pub run-characters : (body : List Item) (start end to : ℕ) → end ≤ length body → IsFirstOr (gap_at body) start to end → All (λ item. is_character item ≡ true) (slice_range body start end)
-run-characters body start end to within last = characters-between body start end within last.before
-
 -- the text up to the first character is that character
 pub first-character : (body : List Item) (from place : ℕ) → IsFirst (character_at body) from (length body) place → text_of (slice_range body from (place + 1)) ≡ text_of (slice_range body place (place + 1))
 first-character body from place first =
@@ -272,27 +268,38 @@ first-character body from place first =
     let inside = first.within in
     text_of-split body from place (place + 1) above (omega arith) ∙ ap (λ t. t ++ text_of (slice_range body place (place + 1))) (text_of-gaps body from place (omega arith) first.before)
 
--- more of a part was copied
-pub copied-more : (old now new : Contents) (body : List Item) (from place start end to : ℕ) → from ≤ place → to ≤ length body → now ≡ with_text old (text_of (slice_range body from place)) → new ≡ with_text now (text_of (slice_range body start end)) → IsFirstOr (character_at body) place to start → IsFirstOr (gap_at body) start to end → new ≡ with_text old (text_of (slice_range body from end))
-copied-more old now new body from place start end to le within is put first last =
-    let a = first.above in
-    let b = last.above in
-    let below = first.below in
-    let gaps : text_of (slice_range body place start) ≡ [] = text_of-gaps body place start (omega arith) first.before in
-    let text : text_of (slice_range body from end) ≡ text_of (slice_range body from place) ++ text_of (slice_range body start end) =
-    text_of-split body from place end le (omega arith) ∙ ap (λ t. text_of (slice_range body from place) ++ t) (text_of-split body place start end a b ∙ ap (λ t. t ++ text_of (slice_range body start end)) gaps) in
-    put
-    ∙ ap (λ w. with_text w (text_of (slice_range body start end))) is
-    ∙ with-both old (text_of (slice_range body from place)) (text_of (slice_range body start end)) ∙ ap (with_text old) (sym text)
+-- a part of a form is copied run by run
+module _ (old now : Contents) (k from place start end to : ℕ) (le : from ≤ place) (within : to ≤ length (body_at old.forms k)) (is : now ≡ with_text old (text_of (slice_range (body_at old.forms k) from place))) (first_now : IsFirstOr (character_at (body_at now.forms k)) place to start) (last_now : IsFirstOr (gap_at (body_at now.forms k)) start to end) where
+  first : IsFirstOr (character_at (body_at old.forms k)) place to start
+  first = rw is at first_now
 
--- what is copied so far is no more than all
-pub length-part : (body : List Item) (from place start end to : ℕ) → from ≤ place → to ≤ length body → IsFirstOr (character_at body) place to start → IsFirstOr (gap_at body) start to end → length (text_of (slice_range body from place)) + (end - start) ≤ length (text_of (slice_range body from to))
-length-part body from place start end to le within first last =
-    let a = first.above in
-    let b = last.above in
-    let below = last.below in
-    let whole = ap length (text_of-split body from place to le (omega arith)) ∙ length-append (text_of (slice_range body from place)) (text_of (slice_range body place to)) in
-    let rest = ap length (text_of-split body place start to a (omega arith)) ∙ length-append (text_of (slice_range body place start)) (text_of (slice_range body start to)) in
-    let run = ap length (text_of-split body start end to b below) ∙ length-append (text_of (slice_range body start end)) (text_of (slice_range body end to)) in
-    let here = length-characters body start end (omega arith) (run-characters body start end to (omega arith) last) in
-    omega arith
+  last : IsFirstOr (gap_at (body_at old.forms k)) start to end
+  last = rw is at last_now
+
+  -- more of it was copied
+  pub copied-more : (new : Contents) → new ≡ with_text now (text_of (slice_range (body_at now.forms k) start end)) → new ≡ with_text old (text_of (slice_range (body_at old.forms k) from end))
+  copied-more new put =
+      let body = body_at old.forms k in
+      let a = first.above in
+      let b = last.above in
+      let below = first.below in
+      let gaps : text_of (slice_range body place start) ≡ [] = text_of-gaps body place start (omega arith) first.before in
+      let text : text_of (slice_range body from end) ≡ text_of (slice_range body from place) ++ text_of (slice_range body start end) =
+      text_of-split body from place end le (omega arith) ∙ ap (λ t. text_of (slice_range body from place) ++ t) (text_of-split body place start end a b ∙ ap (λ t. t ++ text_of (slice_range body start end)) gaps) in
+      put
+      ∙ ap (λ (w : Contents). with_text w (text_of (slice_range (body_at w.forms k) start end))) is
+      ∙ with-both old (text_of (slice_range body from place)) (text_of (slice_range body start end)) ∙ ap (with_text old) (sym text)
+
+  -- what is copied so far, with the next run, is no more than all
+  pub copied-fits : used now + (end - start) ≤ used old + length (text_of (slice_range (body_at old.forms k) from to))
+  copied-fits =
+      let body = body_at old.forms k in
+      let a = first.above in
+      let b = last.above in
+      let below = last.below in
+      let whole = ap length (text_of-split body from place to le (omega arith)) ∙ length-append (text_of (slice_range body from place)) (text_of (slice_range body place to)) in
+      let rest = ap length (text_of-split body place start to a (omega arith)) ∙ length-append (text_of (slice_range body place start)) (text_of (slice_range body start to)) in
+      let run = ap length (text_of-split body start end to b below) ∙ length-append (text_of (slice_range body start end)) (text_of (slice_range body end to)) in
+      let here = length-characters body start end (omega arith) (characters-between body start end (omega arith) last.before) in
+      let cells = ap used is ∙ used-with old (text_of (slice_range body from place)) in
+      omega arith

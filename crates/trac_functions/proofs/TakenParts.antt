@@ -1,6 +1,6 @@
 -- The parts that calls take of a form.
-use Rattle.trac_functions.proofs.Words.{◌≡◌, ◌≢◌, ℕ, zero, suc, ◌+◌, ◌-◌, ◌<◌, ◌≤◌, min, Bool, true, false, List, [], ◌∷◌, ◌++◌, length, take, drop, reverse, set, slice_range, get_or, Option, Some, None, refl, sym, ap, ◌∙◌, subst, ⊎_elim, arith, nat_lt, take_while, option_map}
-use Rattle.trac_functions.proofs.Words.{if◌then◌else◌, int_lt, unsigned_abs, pos, prefix_len, cases_lt, lt-ltb, le-ltb, length-take, length-drop, length-reverse, nil_from_length, get_or-drop, drop-drop, drop_of_length-le, sum_by-cons, Item, Function, Text, Form, is_character, text_of, after_pointer, before_pointer}
+use Rattle.trac_functions.proofs.Words.{◌≡◌, ◌≢◌, ℕ, zero, suc, ◌+◌, ◌-◌, ◌<◌, ◌≤◌, min, Bool, true, false, List, [], ◌∷◌, ◌++◌, length, take, drop, reverse, set, slice_range, get_or, Option, Some, None, refl, sym, ap, ◌∙◌, subst, arith, nat_lt, take_while, option_map}
+use Rattle.trac_functions.proofs.Words.{if◌then◌else◌, int_lt, unsigned_abs, pos, prefix_len, lt-ltb, le-ltb, length-take, length-drop, length-reverse, nil_from_length, get_or-drop, drop-drop, drop_of_length-le, sum_by-cons, Item, Function, Text, Form, is_character, text_of, after_pointer, before_pointer}
 use Rattle.trac_functions.proofs.Words.{begins, place_of, form_named, changed, cells, form_cells, Input, Part, characters, first_characters, segment_from, next_segment, unless_null, forward, backward, next_characters, previous_characters, up_to, initial_part, World, on_form, silent}
 use Rattle.trac_functions.proofs.Words.{with_form, take_part, meaning_of, value_length, built, number, flat_text, signed, character_at, is_gap, gap_at, text_at, NonePasses, IsFirst, Contents, form_at, IsNamedAt, IsSound, part_text, form_named-at, changed-at, Made, Full, Value}
 use Rattle.trac_functions.proofs.Words.{Placed, Defined, Over, world, Valued, Makes, Performs, Arguments, AreArguments, argument, texts, part_value, moved, TakesPart, TakesOrDefault}
@@ -106,33 +106,31 @@ next-none form n from to from_is to_is same =
     (sym (ap (λ p. length (first_characters (min n (length (text_of (drop p form.body)))) (drop p form.body))) from_is) ∙ omega arith) in
     ap (forward form) e
 
+-- some characters have a text
+some-taken : (items : List Item) (m : ℕ) → m ≤ length (text_of items) → length (first_characters m items) ≢ 0 → 0 < length (text_of (first_characters m items))
+some-taken items zero le some = absurd (some (ap length (first_characters-none items)))
+some-taken items (suc m) le some = omega (arith, text_of-first items (suc m))
+
 -- and else those up to a place
-pub next-some : (form : Form) (n from to : ℕ) → from ≡ form.pointer → from ≤ length form.body → to ≡ from + length (first_characters (min n (length (text_of (drop from form.body)))) (drop from form.body)) → to ≢ from → Some (record { text = text_of (slice_range form.body from to); pointer = to }) ≡ next_characters n form
+pub next-some : (form : Form) (n from to : ℕ) → from ≡ form.pointer → from ≤ length form.body → to ≡ from + length (first_characters (min n (length (text_of (drop from form.body)))) (drop from form.body)) → to ≢ from → Some (a-part (text_of (slice_range form.body from to)) to) ≡ next_characters n form
 next-some form n from to from_is within to_is other =
     let m = min n (length (text_of (drop from form.body))) in
     let u = first_characters m (drop from form.body) in
     let part : u ≡ slice_range form.body from to = taken-forward form.body from m within ∙ ap (λ k. slice_range form.body from k) (sym to_is) in
-    let long = text_of-first (drop from form.body) m in
-    let some : 0 < length (text_of u) = ⊎_elim
-    (λ lt. lt)
-    (λ none. let zero_m : m ≡ 0 = omega arith in let nothing = ap (λ k. length (first_characters k (drop from form.body))) zero_m in absurd (other (let z = ap length (first_characters-none (drop from form.body)) in omega arith)))
-    (cases_lt 0 (length (text_of u))) in
-    let here : Part = record { text = text_of u; pointer = from + length u } in
-    let same : Some here ≡ Some (record { text = text_of (slice_range form.body from to); pointer = to }) =
-    ap (λ t. let r : Part = record { text = text_of t; pointer = from + length u } in Some r) part ∙ ap (λ k. let r : Part = record { text = text_of (slice_range form.body from to); pointer = k } in Some r) (sym to_is) in
-    sym same ∙ sym (some-part here some)
-    ∙ ap (λ p. let r : Part = record { text = text_of (first_characters (min n (length (text_of (drop p form.body)))) (drop p form.body)); pointer = p + length (first_characters (min n (length (text_of (drop p form.body)))) (drop p form.body)) } in unless_null r) from_is
+    ap (λ t. Some (a-part (text_of t) to)) (sym part) ∙ ap (λ k. Some (a-part (text_of u) k)) to_is
+    ∙ sym (some-part (a-part (text_of u) (from + length u)) (some-taken (drop from form.body) m (omega arith) (λ e. other (omega arith))))
+    ∙ ap (λ p. unless_null (a-part (text_of (first_characters (min n (length (text_of (drop p form.body)))) (drop p form.body))) (p + length (first_characters (min n (length (text_of (drop p form.body)))) (drop p form.body))))) from_is
 
 -- the next character after the pointer
 pub one-none : (form : Form) (from : ℕ) → from ≡ form.pointer → from ≤ length form.body → NonePasses (character_at form.body) from (length form.body) → next_characters 1 form ≡ None
 one-none form from is within none =
     next-none form 1 from from is (forward-last form.body from 0 from within (forward-none form.body from) 1 (omega arith) none) refl
 
-pub one-some : (form : Form) (from place : ℕ) → from ≡ form.pointer → from ≤ length form.body → IsFirst (character_at form.body) from (length form.body) place → Some (record { text = text_of (slice_range form.body place (place + 1)); pointer = place + 1 }) ≡ next_characters 1 form
+pub one-some : (form : Form) (from place : ℕ) → from ≡ form.pointer → from ≤ length form.body → IsFirst (character_at form.body) from (length form.body) place → Some (a-part (text_of (slice_range form.body place (place + 1))) (place + 1)) ≡ next_characters 1 form
 one-some form from place is within first =
     let above = first.above in
     let there = forward-more form.body from 0 from within (forward-none form.body from) place first in
-    ap (λ t. let r : Part = record { text = t; pointer = place + 1 } in Some r) (sym (first-character form.body from place first))
+    ap (λ t. Some (a-part t (place + 1))) (sym (first-character form.body from place first))
     ∙ next-some form 1 from (place + 1) is within (forward-all form.body from 1 (place + 1) within there 1 (let some = there.there in omega arith)) (λ e. absurd (omega arith))
 
 -- the last characters before the pointer: none where none is passed
@@ -144,33 +142,26 @@ previous-none form n from to to_is at same =
     ap (λ u. backward form (reverse u)) e
 
 -- and else those from a place on
-pub previous-some : (form : Form) (n from to : ℕ) → to ≡ form.pointer → to ≤ length form.body → from + length (first_characters (min n (length (text_of (take to form.body)))) (reverse (take to form.body))) ≡ to → from ≢ to → Some (record { text = text_of (slice_range form.body from to); pointer = from }) ≡ previous_characters n form
+pub previous-some : (form : Form) (n from to : ℕ) → to ≡ form.pointer → to ≤ length form.body → from + length (first_characters (min n (length (text_of (take to form.body)))) (reverse (take to form.body))) ≡ to → from ≢ to → Some (a-part (text_of (slice_range form.body from to)) from) ≡ previous_characters n form
 previous-some form n from to to_is within at other =
     let m = min n (length (text_of (take to form.body))) in
     let back = reverse (take to form.body) in
     let u = reverse (first_characters m back) in
     let part : u ≡ slice_range form.body from to = taken-backward form.body to from m within at in
-    let long = text_of-first (reverse (take to form.body)) m in
     let total = length-text_of-reverse (take to form.body) in
-    let size = length-text_of-reverse (first_characters m (reverse (take to form.body))) in
-    let u_long = length-reverse (first_characters m (reverse (take to form.body))) in
-    let some : 0 < length (text_of u) = ⊎_elim
-    (λ lt. lt)
-    (λ none. let zero_m : m ≡ 0 = omega arith in let nothing = ap (λ k. length (first_characters k (reverse (take to form.body)))) zero_m in absurd (other (let z = ap length (first_characters-none (reverse (take to form.body))) in omega arith)))
-    (cases_lt 0 (length (text_of u))) in
-    let place : to - length u ≡ from = omega arith in
-    let here : Part = record { text = text_of u; pointer = to - length u } in
-    let same : Some here ≡ Some (record { text = text_of (slice_range form.body from to); pointer = from }) =
-    ap (λ t. let r : Part = record { text = text_of t; pointer = to - length u } in Some r) part ∙ ap (λ k. let r : Part = record { text = text_of (slice_range form.body from to); pointer = k } in Some r) place in
-    sym same ∙ sym (some-part here some)
-    ∙ ap (λ p. let r : Part = record { text = text_of (reverse (first_characters (min n (length (text_of (take p form.body)))) (reverse (take p form.body)))); pointer = p - length (reverse (first_characters (min n (length (text_of (take p form.body)))) (reverse (take p form.body)))) } in unless_null r) to_is
+    let u_long = length-reverse (first_characters m back) in
+    let some : 0 < length (text_of u) = omega (arith, length-text_of-reverse (first_characters m back), some-taken back m (omega arith) (λ e. other (omega arith))) in
+    let place : from ≡ to - length u = omega arith in
+    ap (λ t. Some (a-part (text_of t) from)) (sym part) ∙ ap (λ k. Some (a-part (text_of u) k)) place
+    ∙ sym (some-part (a-part (text_of u) (to - length u)) some)
+    ∙ ap (λ p. unless_null (a-part (text_of (reverse (first_characters (min n (length (text_of (take p form.body)))) (reverse (take p form.body))))) (p - length (reverse (first_characters (min n (length (text_of (take p form.body)))) (reverse (take p form.body))))))) to_is
 
 -- no characters
 pub part-null : (form : Form) (p : ℕ) → p ≡ form.pointer → Some (a-part (text_of (slice_range form.body p p)) p) ≡ Some (a-part [] form.pointer)
 part-null form p e =
     let none : p - p ≡ 0 = omega arith in
-    ap (λ n. let r : Part = record { text = text_of (take n (drop p form.body)); pointer = p } in Some r) none
-    ∙ ap (λ q. let r : Part = record { text = []; pointer = q } in Some r) e
+    ap (λ n. Some (a-part (text_of (take n (drop p form.body))) p)) none
+    ∙ ap (λ q. Some (a-part [] q)) e
 
 -- ---- up to the next gap
 
@@ -187,47 +178,39 @@ segment-none form p e end =
     let rest : drop form.pointer form.body ≡ [] = drop_of_length-le form.body (omega arith) in
     ap (λ items. segment_from form.pointer items (take_while is_character items)) rest
 
--- the segment that ends at a place
-segment-at : (form : Form) (p n : ℕ) → p ≡ form.pointer → prefix_len is_character (drop p form.body) ≡ n → p < length form.body → next_segment form ≡ Some (record { text = text_of (take n (drop p form.body)); pointer = if nat_lt (length (take n (drop p form.body))) (length (drop p form.body)) then p + length (take n (drop p form.body)) + 1 else p + length (take n (drop p form.body)) })
-segment-at form p n e run some =
-    sym (ap (λ q. segment_from q (drop q form.body) (take_while is_character (drop q form.body))) e)
-    ∙ ap (λ m. segment_from p (drop p form.body) (take m (drop p form.body))) run
-    ∙ go (drop p form.body) (length-drop p form.body)
+-- the segment that ends at a place, at a gap or at the end of the body
+segment-at : (form : Form) (p n pointer : ℕ) (gap : Bool) → p ≡ form.pointer → prefix_len is_character (drop p form.body) ≡ n → p + n ≤ length form.body → p < length form.body → nat_lt n (length (drop p form.body)) ≡ gap → (if gap then p + n + 1 else p + n) ≡ pointer → Some (a-part (text_of (take n (drop p form.body))) pointer) ≡ next_segment form
+segment-at form p n pointer gap e run within some test pointer_is =
+    let long = length-drop p form.body in
+    let front : n ≡ length (take n (drop p form.body)) = omega (arith, length-take n (drop p form.body)) in
+    ap (λ q. Some (a-part (text_of (take n (drop p form.body))) q)) (sym pointer_is ∙ ap (λ b. if b then p + n + 1 else p + n) (sym test))
+    ∙ ap (λ m. Some (a-part (text_of (take n (drop p form.body))) (if nat_lt m (length (drop p form.body)) then p + m + 1 else p + m))) front
+    ∙ go (drop p form.body) (omega arith)
+    ∙ ap (λ m. segment_from p (drop p form.body) (take m (drop p form.body))) (sym run)
+    ∙ ap (λ q. segment_from q (drop q form.body) (take_while is_character (drop q form.body))) e
   where
-    go : (items : List Item) → length items ≡ length form.body - p → segment_from p items (take n items) ≡ Some (record { text = text_of (take n items); pointer = if nat_lt (length (take n items)) (length items) then p + length (take n items) + 1 else p + length (take n items) })
-    go [] long = absurd (omega arith)
-    go (x ∷ xs) long = refl
+    go : (items : List Item) → 0 < length items → Some (a-part (text_of (take n items)) (if nat_lt (length (take n items)) (length items) then p + length (take n items) + 1 else p + length (take n items))) ≡ segment_from p items (take n items)
+    go [] some = absurd (omega arith)
+    go (x ∷ xs) some = refl
 
-pub segment-gap : (form : Form) (p gap : ℕ) → p ≡ form.pointer → IsFirst (gap_at form.body) p (length form.body) gap → Some (record { text = text_of (slice_range form.body p gap); pointer = gap + 1 }) ≡ next_segment form
+pub segment-gap : (form : Form) (p gap : ℕ) → p ≡ form.pointer → IsFirst (gap_at form.body) p (length form.body) gap → Some (a-part (text_of (slice_range form.body p gap)) (gap + 1)) ≡ next_segment form
 segment-gap form p gap e first =
     let inside = first.within in
     let above = first.above in
-    let items = drop p form.body in
-    let n = gap - p in
     let long = length-drop p form.body in
     let here : p + (gap - p) ≡ gap = omega arith in
     let run = prefix-run (drop p form.body) (gap - p) (omega arith)
     (λ k lt. ap is_gap (get_or-drop p form.body k (Byte 0)) ∙ first.before (p + k) (omega arith) (omega arith))
     (λ lt. ap is_gap (get_or-drop p form.body (gap - p) (Byte 0)) ∙ ap (gap_at form.body) here ∙ first.passes) in
-    let front : length (take (gap - p) (drop p form.body)) ≡ gap - p = length-take (gap - p) (drop p form.body) ∙ omega arith in
-    let test : nat_lt (length (take (gap - p) (drop p form.body))) (length (drop p form.body)) ≡ true = lt-ltb _ _ (omega arith) in
-    let pointer : p + length (take (gap - p) (drop p form.body)) + 1 ≡ gap + 1 = omega arith in
-    sym (segment-at form p (gap - p) e run (omega arith)
-    ∙ ap (λ b. let r : Part = record { text = text_of (slice_range form.body p gap); pointer = if b then p + length (take (gap - p) (drop p form.body)) + 1 else p + length (take (gap - p) (drop p form.body)) } in Some r) test
-    ∙ ap (λ q. let r : Part = record { text = text_of (slice_range form.body p gap); pointer = q } in Some r) pointer)
+    segment-at form p (gap - p) (gap + 1) true e run (omega arith) (omega arith) (lt-ltb _ _ (omega arith)) (omega arith)
 
-pub segment-end : (form : Form) (p end : ℕ) → p ≡ form.pointer → end ≡ length form.body → p ≤ end → p ≢ end → NonePasses (gap_at form.body) p (length form.body) → Some (record { text = text_of (slice_range form.body p end); pointer = end }) ≡ next_segment form
+pub segment-end : (form : Form) (p end : ℕ) → p ≡ form.pointer → end ≡ length form.body → p ≤ end → p ≢ end → NonePasses (gap_at form.body) p (length form.body) → Some (a-part (text_of (slice_range form.body p end)) end) ≡ next_segment form
 segment-end form p end e end_is le other none =
     let long = length-drop p form.body in
     let run = prefix-run (drop p form.body) (end - p) (omega arith)
     (λ k lt. ap is_gap (get_or-drop p form.body k (Byte 0)) ∙ none (p + k) (omega arith) (omega arith))
     (λ lt. absurd (omega arith)) in
-    let front : length (take (end - p) (drop p form.body)) ≡ end - p = length-take (end - p) (drop p form.body) ∙ omega arith in
-    let test : nat_lt (length (take (end - p) (drop p form.body))) (length (drop p form.body)) ≡ false = le-ltb _ _ (omega arith) in
-    let pointer : p + length (take (end - p) (drop p form.body)) ≡ end = omega arith in
-    sym (segment-at form p (end - p) e run (omega arith)
-    ∙ ap (λ b. let r : Part = record { text = text_of (slice_range form.body p end); pointer = if b then p + length (take (end - p) (drop p form.body)) + 1 else p + length (take (end - p) (drop p form.body)) } in Some r) test
-    ∙ ap (λ q. let r : Part = record { text = text_of (slice_range form.body p end); pointer = q } in Some r) pointer)
+    segment-at form p (end - p) end false e run (omega arith) (omega arith) (le-ltb _ _ (omega arith)) (omega arith)
 
 -- ---- up to an occurrence
 
@@ -248,11 +231,11 @@ some-text : (text : Text) (form : Form) → 0 < length text → initial_part tex
 some-text [] form some = absurd (omega arith)
 some-text (c ∷ text) form some = refl
 
-pub initial-null : (text : Text) (form : Form) → length text ≡ 0 → initial_part text form ≡ Some (record { text = []; pointer = form.pointer })
+pub initial-null : (text : Text) (form : Form) → length text ≡ 0 → initial_part text form ≡ Some (a-part [] form.pointer)
 initial-null [] form e = refl
 initial-null (c ∷ text) form e = absurd (omega arith)
 
-pub initial-some : (text : Text) (form : Form) (p begin end : ℕ) → p ≡ form.pointer → 0 < length text → IsFirst (text_at text form.body) p (length form.body) begin → end ≡ begin + length text → Some (record { text = text_of (slice_range form.body p begin); pointer = end }) ≡ initial_part text form
+pub initial-some : (text : Text) (form : Form) (p begin end : ℕ) → p ≡ form.pointer → 0 < length text → IsFirst (text_at text form.body) p (length form.body) begin → end ≡ begin + length text → Some (a-part (text_of (slice_range form.body p begin)) end) ≡ initial_part text form
 initial-some text form p begin end e some first end_is =
     let inside = first.within in
     let above = first.above in
@@ -266,7 +249,7 @@ initial-some text form p begin end e some first end_is =
     sym (some-text text form some
     ∙ sym (ap (λ q. up_to (place_of text (drop q form.body)) text (record form { pointer = q })) e)
     ∙ ap (λ o. up_to o text (record form { pointer = p })) place
-    ∙ ap (λ q. let r : Part = record { text = text_of (slice_range form.body p begin); pointer = q } in Some r) pointer)
+    ∙ ap (λ q. Some (a-part (text_of (slice_range form.body p begin)) q)) pointer)
 
 pub initial-none : (text : Text) (form : Form) (p : ℕ) → p ≡ form.pointer → p ≤ length form.body → 0 < length text → NonePasses (text_at text form.body) p (length form.body) → initial_part text form ≡ None
 initial-none text form p e within some none =
@@ -276,7 +259,7 @@ initial-none text form p e within some none =
     ∙ ap (λ o. up_to o text (record form { pointer = p }))
     (place-none text (drop p form.body) (λ k lt. ap (λ items. begins items text) (drop-drop k p form.body) ∙ none (p + k) (omega arith) (omega arith)))
 
-pub characters-zero : (negative : Bool) (size : ℕ) (form : Form) → size ≡ 0 → characters (signed negative size) form ≡ Some (record { text = []; pointer = form.pointer })
+pub characters-zero : (negative : Bool) (size : ℕ) (form : Form) → size ≡ 0 → characters (signed negative size) form ≡ Some (a-part [] form.pointer)
 characters-zero true size form e = ap (λ n. characters (signed true n) form) e
 characters-zero false size form e = ap (λ n. characters (signed false n) form) e
 
