@@ -83,12 +83,14 @@ changes-found f change old found new a k name means built_is are same at is chan
     let first = argument (texts old a) 0 in
     let here = subst (λ n. IsNamedAt old.forms n k) is at in
     let new_is : new ≡ record old { forms = set old.forms k (change (form_at old.forms k)) } = changed_is ∙ ap (λ (w : Contents). record w { forms = set w.forms k (change (form_at w.forms k)) }) same in
-    let forms : new.forms ≡ set old.forms k (change (form_at old.forms k)) = ap (λ (w : Contents). w.forms) new_is in
-    ([], null-value f (title ∷ texts old a) old new are.sound
-    (λ meta input. means title (world old.forms meta input)
-    ∙ ap (λ o. on_form o (λ form. silent (with_form first change (world old.forms meta input))) (world old.forms meta input)) (form_named-at first old.forms k are.sound.forms here)
-    ∙ ap (λ fs. silent (world fs meta input)) (changed-at first change old.forms k are.sound.forms here ∙ sym forms))
-    (built_is title) (new_is ∙ ap (λ fs. record old { forms = fs }) (sym forms)))
+    let forms : new.forms ≡ set old.forms k (change (form_at old.forms k)) = ap (λ (w : Contents). w.forms) new_is in (
+      [],
+      null-value f (title ∷ texts old a) old new are.sound
+          (λ meta input. means title (world old.forms meta input)
+          ∙ ap (λ o. on_form o (λ form. silent (with_form first change (world old.forms meta input))) (world old.forms meta input)) (form_named-at first old.forms k are.sound.forms here)
+          ∙ ap (λ fs. silent (world fs meta input)) (changed-at first change old.forms k are.sound.forms here ∙ sym forms))
+          (built_is title) (new_is ∙ ap (λ fs. record old { forms = fs }) (sym forms)),
+    )
 
 -- ---- the parts
 
