@@ -1,8 +1,9 @@
 -- The display of a form.
-use Rattle.trac_core.proofs.Words.{◌≡◌, ◌≢◌, ℕ, ◌+◌, ◌-◌, ◌<◌, ◌≤◌, false, List, [], ◌∷◌, ◌++◌, length, take, drop, slice_get, slice_range, Option, Some, None, refl, sym, ap, ◌∙◌, subst, arith, append_assoc, append-nil, Result, Ok, Err, OnErr, codes, decimal, take-add, drop-cons, take-append-drop, drop-drop, take_rest, slice_get-get_or, Item, PrintForm, OutputFailed, Text, Form, before_pointer, after_pointer, form_named, argument, World, on_form, printing, show, show_form, meaning_of, value_length, Contents, used, Stream, Breaks, Prints, mode_at, arguments_at, world, ending, Defined, Over, scene, IsCall, AnswersCall, display, shown}
+use Rattle.trac_core.proofs.Words.{◌≡◌, ◌≢◌, ℕ, ◌+◌, ◌-◌, ◌<◌, ◌≤◌, List, [], ◌∷◌, ◌++◌, length, take, drop, slice_get, slice_range, Option, Some, None, refl, sym, ap, ◌∙◌, subst, arith, append_assoc, append-nil, Result, Ok, Err, OnErr, codes, decimal, drop-cons, take-append-drop, take_rest, slice_get-get_or, Item, PrintForm, OutputFailed, Text, Form, before_pointer, after_pointer, form_named, argument, World, on_form, printing, show, show_form, meaning_of, value_length, Contents, used, Stream, Breaks, Prints, arguments_at, world, ending, Defined, Over, scene, IsCall, AnswersCall, display, shown}
 use Rattle.std.proofs.lemmas.List.{length-append}
 use Rattle.trac_language.specs.declared.item.Item.TheVariants.{Byte, Gap}
-use Rattle.trac_core.proofs.Performing.{closed, delivered-null, tried-answer, tried-broken}
+use Rattle.trac_core.proofs.Performing.{tried-null, tried-broken}
+use Rattle.trac_functions.proofs.TakenItems.{range-split}
 
 pub show-append : (xs ys : List Item) → show (xs ++ ys) ≡ show xs ++ show ys
 show-append [] ys = refl
@@ -36,15 +37,6 @@ pub breaks-bytes : (old mid new bytes : Text) (k : ℕ) → mid ≡ old ++ take 
 breaks-bytes old mid new bytes k first same = (take k bytes, (drop k bytes, (sym (take-append-drop k bytes), same ∙ first)))
 
 -- ---- the items of a form
-
--- a part is its beginning and what follows
-range-split : (body : List Item) (a b c : ℕ) → a ≤ b → b ≤ c → slice_range body a c ≡ slice_range body a b ++ slice_range body b c
-range-split body a b c ab bc =
-    let e : c - a ≡ (b - a) + (c - b) = omega arith in
-    let d : (b - a) + a ≡ b = omega arith in
-    ap (λ n. take n (drop a body)) e
-    ∙ take-add (b - a) (c - b) (drop a body)
-    ∙ ap (λ t. slice_range body a b ++ take (c - b) t) (drop-drop (b - a) a body ∙ ap (λ n. drop n body) (omega arith))
 
 show-one : (body : List Item) (k : ℕ) → k < length body → show (slice_range body k (k + 1)) ≡ shown (slice_get body k)
 show-one body k lt =
@@ -106,15 +98,7 @@ module _ (w : Contents) (place : ℕ) where
   unfolding meaning_of
   answers-display call meta source written =
       let means = displays (form_named (argument (arguments_at w.neutral place) 1) w.forms) (world w.forms meta (ending source.bytes)) in
-      tried-answer w (closed w place) place (Some PrintForm) meta meta source source written (display (form_named (argument (arguments_at w.neutral place) 1) w.forms)) (used w + 0) [] false w.forms call.names
-      (record {
-        means = means;
-        stands = sym (delivered-null (mode_at w.neutral place) place w);
-        needs = let none_built = ap value_length means in omega arith;
-        fits = omega arith;
-        stays_ended = λ e. e;
-        read_all = λ e. absurd cc;
-      })
+      tried-null w place (Some PrintForm) meta meta source written (display (form_named (argument (arguments_at w.neutral place) 1) w.forms)) call.names call.sound means (sym (ap value_length means)) refl
 
   pub answers-display-broken : IsCall w place (Some PrintForm) → (meta : ℕ) (source : Stream) (written put rest : Text) → display (form_named (argument (arguments_at w.neutral place) 1) w.forms) ≡ put ++ rest → put ++ rest ≢ [] → AnswersCall place (scene w meta source written) (Over OutputFailed) (scene w meta source (written ++ put))
   unfolding meaning_of

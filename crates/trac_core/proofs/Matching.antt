@@ -23,15 +23,15 @@ module _ (text : Text) (i depth c : ℕ) (within : i < length text) (c_is : c �
   passes : matches c (take i text) ≡ false → split_at_match [] text ≡ split_at_match (take (i + 1) text) (drop (i + 1) text)
   passes other = at.none ∙ ap (split_at_match (take i text)) rest-is ∙ split_passed (take i text) (drop (i + 1) text) c other ∙ ap (λ t. split_at_match t (drop (i + 1) text)) (sym more-is)
 
-  counts : (x : ℕ) → count x (take (i + 1) text) ≡ count x (take i text) + weight (c == x)
-  counts x = ap (count x) more-is ∙ count_push x (take i text) c
+  counts : (x : ℕ) (b : Bool) → (c == x) ≡ b → count x (take (i + 1) text) ≡ count x (take i text) + weight b
+  counts x b e = ap (count x) more-is ∙ count_push x (take i text) c ∙ ap (λ b. count x (take i text) + weight b) e
 
   pub passes-left : c ≡ 40 → IsAt text (i + 1) (depth + 1)
   passes-left left =
       let wrong : (c == 41) ≡ false = ap (λ c. c == 41) left in
       let right : (c == 40) ≡ true = ap (λ c. c == 40) left in
-      let l : count 40 (take (i + 1) text) ≡ count 40 (take i text) + 1 = counts 40 ∙ ap (λ b. count 40 (take i text) + weight b) right in
-      let r : count 41 (take (i + 1) text) ≡ count 41 (take i text) + 0 = counts 41 ∙ ap (λ b. count 41 (take i text) + weight b) wrong in
+      let l = counts 40 true right in
+      let r = counts 41 false wrong in
       record { none = passes (ap (λ b. b && (count 40 (take i text) == count 41 (take i text))) wrong); open_is = omega arith }
 
   pub passes-right : c ≡ 41 → 0 < depth → IsAt text (i + 1) (depth - 1)
@@ -40,16 +40,16 @@ module _ (text : Text) (i depth c : ℕ) (within : i < length text) (c_is : c �
       let no_left : (c == 40) ≡ false = ap (λ c. c == 40) right in
       let differ : count 40 (take i text) ≢ count 41 (take i text) = omega arith in
       let wrong : (count 40 (take i text) == count 41 (take i text)) ≡ false = ne_eqb _ _ differ in
-      let l : count 40 (take (i + 1) text) ≡ count 40 (take i text) + 0 = counts 40 ∙ ap (λ b. count 40 (take i text) + weight b) no_left in
-      let r : count 41 (take (i + 1) text) ≡ count 41 (take i text) + 1 = counts 41 ∙ ap (λ b. count 41 (take i text) + weight b) yes_right in
+      let l = counts 40 false no_left in
+      let r = counts 41 true yes_right in
       record { none = passes (rw (yes_right, wrong) refl); open_is = omega arith }
 
   pub passes-other : c ≢ 40 → c ≢ 41 → IsAt text (i + 1) depth
   passes-other not_left not_right =
       let wrong : (c == 41) ≡ false = ne_eqb c 41 not_right in
       let no_left : (c == 40) ≡ false = ne_eqb c 40 not_left in
-      let l : count 40 (take (i + 1) text) ≡ count 40 (take i text) + 0 = counts 40 ∙ ap (λ b. count 40 (take i text) + weight b) no_left in
-      let r : count 41 (take (i + 1) text) ≡ count 41 (take i text) + 0 = counts 41 ∙ ap (λ b. count 41 (take i text) + weight b) wrong in
+      let l = counts 40 false no_left in
+      let r = counts 41 false wrong in
       record { none = passes (ap (λ b. b && (count 40 (take i text) == count 41 (take i text))) wrong); open_is = omega arith }
 
 -- the search is through

@@ -1,5 +1,5 @@
 -- Texts with and without the meta character, and a text that is read.
-use Rattle.trac_core.proofs.Words.{◌≡◌, ℕ, suc, ◌+◌, ◌≤◌, Bool, true, false, not, ◌||◌, cond, [], ◌∷◌, ◌++◌, length, take, drop, refl, ap, ◌∙◌, arith, append_assoc, eqb, ◌==◌, before_first, position_or_len, list_any, take_at, drop_at, map-append, length-take-le, take-length, drop-length, Text, Byte, flat_text, Contents, Reads, or_parts, or_right}
+use Rattle.trac_core.proofs.Words.{◌≡◌, ℕ, suc, ◌+◌, ◌≤◌, Bool, true, false, not, ◌||◌, cond, [], ◌∷◌, ◌++◌, length, take, drop, refl, ap, ◌∙◌, arith, before_first, position_or_len, list_any, take_at, drop_at, length-take-le, take-length, drop-length, Text, or_parts, or_right}
 
 module _ (p : ℕ → Bool) where
   none-head : (c : ℕ) (text : Text) → list_any p (c ∷ text) ≡ false → p c ≡ false
@@ -51,15 +51,3 @@ module _ (p : ℕ → Bool) where
   pub any-at : (text : Text) (c : ℕ) (rest : Text) → p c ≡ true → list_any p (text ++ c ∷ rest) ≡ true
   any-at [] c rest passes = ap (λ b. b || list_any p rest) passes
   any-at (x ∷ text) c rest passes = or_right (p x) (list_any p (text ++ c ∷ rest)) (any-at text c rest passes)
-
-  none-more : (text : Text) (c : ℕ) → list_any p text ≡ false → p c ≡ false → list_any p (text ++ c ∷ []) ≡ false
-  none-more [] c h passes = ap (λ b. b || false) passes
-  none-more (x ∷ text) c h passes = ap (λ b. b || list_any p (text ++ c ∷ [])) (none-head x text h) ∙ none-more text c (none-tail x text h) passes
-
--- one more byte was read
-pub reads-more : (meta : ℕ) (first old new : Contents) (text : Text) (byte : ℕ) → Reads meta first old text → new ≡ record old { neutral = old.neutral ++ Byte byte ∷ [] } → eqb byte meta ≡ false → Reads meta first new (text ++ byte ∷ [])
-reads-more meta first old new text byte reads pushed differs =
-    record {
-      pushed = rw (pushed, reads.pushed, append_assoc first.neutral (flat_text text) (Byte byte ∷ []), map-append Byte text (byte ∷ [])) refl;
-      no_meta = none-more (λ c. c == meta) text byte reads.no_meta differs;
-    }

@@ -1,6 +1,6 @@
 -- Runs of characters without a rule of their own, in blocks.
-use Rattle.trac_core.proofs.Words.{◌≡◌, ℕ, ◌+◌, ◌≤◌, Bool, true, false, List, [], ◌∷◌, take, drop, All, refl, sym, subst, arith, sum_by, ◌==◌, if◌then◌else◌, take-add, All-append, All-cons, sum_by-cons, Cell, text_of_cells, character_of, is_special, kind_of, kind_in, IsOrdinary, nat_tests}
-use Rattle.trac_core.proofs.Scanning.{take-text, drop-text}
+use Rattle.trac_core.proofs.Words.{◌≡◌, ℕ, ◌+◌, ◌≤◌, ◌<◌, length, get_or, take_more, All-push, Byte, Bool, true, false, List, [], ◌∷◌, take, drop, All, refl, sym, subst, arith, sum_by, ◌==◌, if◌then◌else◌, take-add, All-append, All-cons, sum_by-cons, Cell, text_of_cells, character_of, is_special, kind_of, kind_in, IsOrdinary, nat_tests}
+use Rattle.trac_core.proofs.Scanning.{take-text, drop-text, read-text}
 
 pub kind-small : (c : ℕ) → kind_of c ≤ 2
 kind-small c = grind (arith, nat_tests)
@@ -12,6 +12,13 @@ kind-none c = go (c == 44) (is_special c)
     go true d e = absurd cc
     go false true e = absurd cc
     go false false e = refl
+
+-- one more character of a kind
+pub one-more : (P : ℕ → Type 0) (cells : List Cell) (i c : ℕ) → i < length cells → c ≡ character_of (get_or cells i (Byte 0)) → P c → All P (take i (text_of_cells cells)) → All P (take (i + 1) (text_of_cells cells))
+one-more P cells i c within c_is is first =
+    let text = text_of_cells cells in
+    let here = read-text cells i c within c_is in
+    subst (All P) (sym (take_more text i 0 here.0)) (All-push P (take i text) (get_or text i 0) first (subst P here.1 is))
 
 -- where the kinds come to nothing each character is ordinary
 ordinary-block : (cells : List Cell) → sum_by kind_in cells ≡ 0 → All IsOrdinary (text_of_cells cells)

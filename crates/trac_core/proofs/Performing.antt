@@ -1,5 +1,5 @@
 -- A call that is performed, over the contents of a workspace.
-use Rattle.trac_core.proofs.Words.{failing_state_of, StopsAtInput, StopsAtOutput, ◌≡◌, ◌≢◌, ℕ, ◌+◌, ◌-◌, ◌<◌, ◌≤◌, max, Bool, true, false, not, ◌&&◌, ◌||◌, List, [], ◌∷◌, ◌++◌, length, take, drop, All, Option, Some, None, refl, sym, ap, ◌∙◌, subst, arith, append-nil, length-append, ◌==◌, slice_get, unwrap_or, nat_le, unwrap_or-slice_get, list_any, length-map, length-drop, get_or_append_left, drop-append_seam, take-append_seam, take-length, Mode, Active, Function, ReadString, ReadCharacter, ChangeMeta, PrintString, PrintForm, Halt, Fate, Workspace, Steps, InputFailed, OutputFailed, Text, Form, function_named, Input, State, argument, size, Answer, Gives, Ends, meaning_of, meaning, built, deliver, perform, step, need, is_read_string, reads_last, reads_to_end, Cell, Byte, flat_text, text_of_cells, character_of, IsByte, IsLastCall, Contents, used, IsSound, Stream, Full, Value, Placed, Defined, Over, texts_of, no_neutral, neutral_of, memory_of, mode_of, mode_at, is_active_mode, arguments_at, texts_from, world, IsValue, IsPlaced, IsDefined, Makes, is_plain, performs, MachineState, moment, ending, failing, state_with, state_of, failing_state_of, EndsRun, input_failures, output_failures, scene, TriedCall, ClosesCall, function_at, delivered, settled, AnswersCall, IsValueFrom, Stands, fate_after, or_right, true≢false}
+use Rattle.trac_core.proofs.Words.{failing_state_of, StopsAtInput, StopsAtOutput, ◌≡◌, ◌≢◌, ℕ, ◌+◌, ◌-◌, ◌<◌, ◌≤◌, max, Bool, true, false, not, ◌&&◌, ◌||◌, List, [], ◌∷◌, ◌++◌, length, take, drop, All, Option, Some, None, refl, sym, ap, ◌∙◌, subst, arith, append-nil, length-append, ◌==◌, slice_get, unwrap_or, nat_le, unwrap_or-slice_get, list_any, length-map, length-drop, get_or_append_left, drop-append_seam, take-append_seam, take-length, Mode, Active, Function, ReadString, ReadCharacter, ChangeMeta, PrintString, PrintForm, Halt, Fate, Workspace, Steps, InputFailed, OutputFailed, Text, Form, function_named, Input, State, argument, size, Answer, Gives, Ends, meaning_of, meaning, built, deliver, perform, step, need, is_read_string, reads_last, reads_to_end, Cell, Byte, flat_text, text_of_cells, character_of, IsByte, IsLastCall, Contents, used, IsSound, Stream, Full, Value, Placed, Defined, Over, texts_of, no_neutral, neutral_of, memory_of, mode_of, mode_at, is_active_mode, arguments_at, texts_from, world, IsValue, IsPlaced, IsDefined, Makes, is_plain, performs, silent, MachineState, moment, ending, failing, state_with, state_of, failing_state_of, EndsRun, input_failures, output_failures, scene, TriedCall, ClosesCall, function_at, delivered, settled, AnswersCall, IsValueFrom, Stands, fate_after, or_right, true≢false}
 use Rattle.trac_language.specs.declared.mode.Mode.TheVariants.{Neutral as NeutralMode}
 use Rattle.trac_laws.proofs.Rules.{rule_end}
 use Rattle.trac_space.proofs.Texts.{text_of_cells-append}
@@ -133,6 +133,25 @@ pub delivered-null : (mode : Mode) (place : ℕ) (w : Contents) → delivered mo
 delivered-null Active place w = refl
 delivered-null NeutralMode place w = ap (λ n. record w { neutral = n }) (append-nil (take place w.neutral))
 
+-- a call with a null value
+pub tried-null : (w : Contents) (place : ℕ) (f : Option Function) (meta meta' : ℕ) (source : Stream) (written put : Text) → function_named (argument (arguments_at w.neutral place) 0) ≡ f → IsSound w → meaning f (arguments_at w.neutral place) (world w.forms meta (ending source.bytes)) ≡ Gives (record { value = []; forced = false; world = world w.forms meta' (ending source.bytes); printed = put }) → 0 ≡ built f (arguments_at w.neutral place) (world w.forms meta (ending source.bytes)) → reads_last f (world w.forms meta (ending source.bytes)) ≡ false → TriedCall place (scene w meta source written) None (used w + 0) (scene (closed w place) meta' source (written ++ put))
+tried-null w place f meta meta' source written put names sound means none_built no_read =
+    tried-answer w (closed w place) place f meta meta' source source written put (used w + 0) [] false w.forms names
+    (record {
+      means = means;
+      stands = sym (delivered-null (mode_at w.neutral place) place w);
+      needs = ap (λ n. used w + n) none_built;
+      fits = let fits = sound.fits in omega arith;
+      stays_ended = λ e. e;
+      read_all = λ reads. absurd (true≢false (sym reads ∙ no_read));
+    })
+
+-- and it prints nothing
+pub quiet-null : (w : Contents) (place : ℕ) (f : Option Function) (meta meta' : ℕ) (source : Stream) (written : Text) → function_named (argument (arguments_at w.neutral place) 0) ≡ f → IsSound w → meaning f (arguments_at w.neutral place) (world w.forms meta (ending source.bytes)) ≡ silent (world w.forms meta' (ending source.bytes)) → 0 ≡ built f (arguments_at w.neutral place) (world w.forms meta (ending source.bytes)) → reads_last f (world w.forms meta (ending source.bytes)) ≡ false → TriedCall place (scene w meta source written) None (used w + 0) (scene (closed w place) meta' source written)
+quiet-null w place f meta meta' source written names sound means none_built no_read =
+    subst (λ output. TriedCall place (scene w meta source written) None (used w + 0) (scene (closed w place) meta' source output)) (append-nil written)
+    (tried-null w place f meta meta' source written [] names sound means none_built no_read)
+
 pub delivered-active : (mode : Mode) (forced : Bool) (value : Text) (place : ℕ) (w : Contents) → (forced || is_active_mode mode) ≡ true → delivered mode forced value place w ≡ record w { active = flat_text value ++ w.active; neutral = take place w.neutral }
 delivered-active Active forced value place w h = refl
 delivered-active NeutralMode true value place w h = refl
@@ -218,15 +237,7 @@ module _ (w mid : Contents) (place : ℕ) (f : Function) (rest : List Text) (sca
 -- a call of no function
 pub answers-nothing : (w : Contents) (place : ℕ) → function_named (argument (arguments_at w.neutral place) 0) ≡ None → IsSound w → (meta : ℕ) (source : Stream) (written : Text) → AnswersCall place (scene w meta source written) (Defined 0) (scene w meta source written)
 answers-nothing w place names sound meta source written =
-    tried-quiet w (closed w place) place None meta meta source source written (used w + 0) [] false w.forms names
-    (record {
-      means = refl;
-      stands = sym (delivered-null (mode_at w.neutral place) place w);
-      needs = omega arith;
-      fits = omega arith;
-      stays_ended = λ e. e;
-      read_all = λ reads. absurd cc;
-    })
+    quiet-null w place None meta meta source written names sound refl refl refl
 
 -- no cell stands at the place
 pub mode-none : (neutral : List Cell) (place : ℕ) → None ≡ slice_get neutral place → true ≡ is_active_mode (mode_at neutral place)

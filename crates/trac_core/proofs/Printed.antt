@@ -1,7 +1,6 @@
 -- What a step prints, and how long it is.
-use Rattle.trac_core.proofs.Words.{◌≡◌, ◌≢◌, ℕ, ◌+◌, ◌-◌, ◌<◌, Bool, true, false, List, [], ◌∷◌, ◌++◌, length, take, drop, slice_range, slice_get, get_or, Option, Some, None, refl, sym, ap, ◌∙◌, arith, codes, ℤ, length-map, take-append-drop, take_more, slice_get-get_or, Mode, Item, Function, ReadString, ReadCharacter, ChangeMeta, PrintString, PrintForm, SegmentString, CallForm, CallSegment, CallCharacter, CallNumber, InitialPart, CallRestore, Arithmetic, Text, Form, before_pointer, after_pointer, OpenCall, Memory, Input, arguments, argument, World, Meaning, Gives, Ends, on_form, take_part, result_or, read_all, read_string, read_character, change_meta, show, show_form, meaning, meaning_of, before_meta, from_meta, form_of_call, Rule, EndCall, rule, function_of, world_of, perform, end_call, follow, step, with_active, Cell, IsLastCall, text_of_cells, character_of, Contents, IsTextPart, IsSound, part_text, memory_of, mode_at, arguments_at, world, state_with, performed_by, performs, prints_output, function_at, display, shown, printed_in}
+use Rattle.trac_core.proofs.Words.{◌≡◌, ◌≢◌, ℕ, ◌+◌, ◌<◌, Bool, true, false, List, [], ◌∷◌, ◌++◌, length, take, drop, slice_get, get_or, Option, Some, None, refl, sym, ap, ◌∙◌, arith, codes, ℤ, take-append-drop, take_more, slice_get-get_or, Mode, Item, Function, ReadString, ReadCharacter, ChangeMeta, PrintString, PrintForm, SegmentString, CallForm, CallSegment, CallCharacter, CallNumber, InitialPart, CallRestore, Arithmetic, Text, Form, before_pointer, after_pointer, OpenCall, Memory, Input, arguments, argument, World, Meaning, Gives, Ends, on_form, take_part, result_or, read_all, read_string, read_character, change_meta, show, show_form, meaning, meaning_of, before_meta, from_meta, form_of_call, Rule, EndCall, rule, function_of, world_of, perform, end_call, follow, step, with_active, IsLastCall, text_of_cells, Contents, IsSound, memory_of, mode_at, arguments_at, world, state_with, performed_by, performs, prints_output, function_at, display, shown, printed_in}
 use Rattle.std.proofs.lemmas.List.{length-append}
-use Rattle.std.proofs.lemmas.List.Edits.{length-between}
 use Rattle.trac_language.specs.declared.item.Item.TheVariants.{Byte}
 use Rattle.trac_language.specs.Part.{Part}
 use Rattle.trac_core.specs.Session.{output_after, step_prints}
@@ -23,9 +22,6 @@ length-display form =
     let whole = ap length (sym (ap show (take-append-drop form.pointer form.body)) ∙ show-append (before_pointer form) (after_pointer form)) in
     let body = length-append before after in
     omega (arith, parts, front, whole, body)
-
-pub length-part : (cells : List Cell) (a b : ℕ) → IsTextPart cells a b → length (part_text cells a b) ≡ b - a
-length-part cells a b part = length-map (slice_range cells a b) character_of ∙ length-between cells a b part.within
 
 -- ---- what a function prints
 
@@ -77,26 +73,26 @@ plain-prints (Arithmetic operation) args w e = result_or-prints _ _ (argument ar
 plain-prints _ args w e = refl
 
 -- a function that doesn't print, or none
-pub other-prints : (f : Option Function) (args : List Text) (w : World) → f ≢ Some PrintString → f ≢ Some PrintForm → [] ≡ printed_in (meaning f args w)
-other-prints None args w string form = refl
-other-prints (Some f) args w string form = sym (plain-prints f args w (go f string form))
+pub other-prints : (f : Option Function) {g : Option Function} (args : List Text) (w : World) → f ≡ g → g ≢ Some PrintString → g ≢ Some PrintForm → [] ≡ printed_in (meaning f args w)
+other-prints None args w is string form = refl
+other-prints (Some f) args w is string form = sym (plain-prints f args w (go f (λ e. string (sym is ∙ e)) (λ e. form (sym is ∙ e))))
   where
     go : (f : Function) → Some f ≢ Some PrintString → Some f ≢ Some PrintForm → prints_output (Some f) ≡ false
     go PrintString string form = absurd (string refl)
     go PrintForm string form = absurd (form refl)
     go _ string form = refl
 
-pub string-prints : (args : List Text) (w : World) → printed_in (meaning (Some PrintString) args w) ≡ argument args 1
+pub string-prints : (f : Option Function) (args : List Text) (w : World) → f ≡ Some PrintString → argument args 1 ≡ printed_in (meaning f args w)
 unfolding meaning_of
-string-prints args w = refl
+string-prints f args w is = sym (ap (λ f. printed_in (meaning f args w)) is)
 
 form-printed : (o : Option Form) (w : World) → printed_in (on_form o (λ form. Gives (record { value = []; forced = false; world = w; printed = show_form form })) w) ≡ display o
 form-printed None w = refl
 form-printed (Some form) w = refl
 
-pub form-prints : (args : List Text) (w : World) → printed_in (meaning (Some PrintForm) args w) ≡ display (form_of_call args w)
+pub form-prints : (f : Option Function) (args : List Text) (w : World) → f ≡ Some PrintForm → display (form_of_call args w) ≡ printed_in (meaning f args w)
 unfolding meaning_of
-form-prints args w = form-printed (form_of_call args w) w
+form-prints f args w is = sym (ap (λ f. printed_in (meaning f args w)) is ∙ form-printed (form_of_call args w) w)
 
 -- ---- what a step prints
 

@@ -1,6 +1,6 @@
 -- The calls that print, change the meta character and stop.
-use Rattle.trac_core.proofs.Words.{◌≡◌, ◌≢◌, ℕ, ◌+◌, false, List, [], ◌∷◌, ◌++◌, drop, Some, None, refl, sym, ap, ◌∙◌, arith, slice_get, get_or-drop, PrintString, ChangeMeta, Halt, Halted, OutputFailed, Text, argument, World, change_meta, silent, meaning_of, value_length, Contents, used, Stream, mode_at, arguments_at, world, ending, Defined, Over, scene, IsCall, AnswersCall}
-use Rattle.trac_core.proofs.Performing.{closed, delivered-null, tried-answer, tried-quiet, tried-end, tried-broken}
+use Rattle.trac_core.proofs.Words.{◌≡◌, ◌≢◌, ℕ, List, [], ◌∷◌, ◌++◌, drop, Some, None, refl, sym, ap, ◌∙◌, arith, slice_get, get_or-drop, PrintString, ChangeMeta, Halt, Halted, OutputFailed, Text, argument, World, change_meta, silent, meaning_of, value_length, Contents, used, Stream, arguments_at, world, ending, Defined, Over, scene, IsCall, AnswersCall}
+use Rattle.trac_core.proofs.Performing.{tried-null, quiet-null, tried-end, tried-broken}
 
 -- the first argument after the name
 pub argument-one : (args rest : List Text) → rest ≡ drop 1 args → argument rest 0 ≡ argument args 1
@@ -13,15 +13,7 @@ module _ (w : Contents) (place : ℕ) where
   pub answers-print : IsCall w place (Some PrintString) → (meta : ℕ) (source : Stream) (written : Text) → AnswersCall place (scene w meta source written) (Defined 0) (scene w meta source (written ++ argument (arguments_at w.neutral place) 1))
   unfolding meaning_of
   answers-print call meta source written =
-      tried-answer w (closed w place) place (Some PrintString) meta meta source source written (argument (arguments_at w.neutral place) 1) (used w + 0) [] false w.forms call.names
-      (record {
-        means = refl;
-        stands = sym (delivered-null (mode_at w.neutral place) place w);
-        needs = omega arith;
-        fits = omega arith;
-        stays_ended = λ e. e;
-        read_all = λ e. absurd cc;
-      })
+      tried-null w place (Some PrintString) meta meta source written (argument (arguments_at w.neutral place) 1) call.names call.sound refl refl refl
 
   pub answers-print-broken : IsCall w place (Some PrintString) → (meta : ℕ) (source : Stream) (written put rest : Text) → argument (arguments_at w.neutral place) 1 ≡ put ++ rest → put ++ rest ≢ [] → AnswersCall place (scene w meta source written) (Over OutputFailed) (scene w meta source (written ++ put))
   unfolding meaning_of
@@ -41,14 +33,5 @@ module _ (w : Contents) (place : ℕ) where
   pub answers-meta : (meta meta' : ℕ) → IsCall w place (Some ChangeMeta) → ((c : ℕ) → slice_get (argument (arguments_at w.neutral place) 1) 0 ≡ Some c → meta' ≡ c) → (slice_get (argument (arguments_at w.neutral place) 1) 0 ≡ None → meta' ≡ meta) → (source : Stream) (written : Text) → AnswersCall place (scene w meta source written) (Defined 0) (scene w meta' source written)
   unfolding meaning_of
   answers-meta meta meta' call some none source written =
-      let args = arguments_at w.neutral place in
-      let means = first-meta meta meta' (argument args 1) some none (world w.forms meta (ending source.bytes)) in
-      tried-quiet w (closed w place) place (Some ChangeMeta) meta meta' source source written (used w + 0) [] false w.forms call.names
-      (record {
-        means = means;
-        stands = sym (delivered-null (mode_at w.neutral place) place w);
-        needs = let none_built = ap value_length means in omega arith;
-        fits = omega arith;
-        stays_ended = λ e. e;
-        read_all = λ e. absurd cc;
-      })
+      let means = first-meta meta meta' (argument (arguments_at w.neutral place) 1) some none (world w.forms meta (ending source.bytes)) in
+      quiet-null w place (Some ChangeMeta) meta meta' source written call.names call.sound means (sym (ap value_length means)) refl

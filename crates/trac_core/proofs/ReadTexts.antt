@@ -15,6 +15,11 @@ reads-join meta first middle last text more h k =
       no_meta = list_any-append (λ c. c == meta) text more ∙ ap (λ b. b || has_byte meta more) h.no_meta ∙ k.no_meta;
     }
 
+-- one more byte was read
+pub reads-more : (meta : ℕ) (first old new : Contents) (text : Text) (byte : ℕ) → Reads meta first old text → new ≡ record old { neutral = old.neutral ++ ByteCell byte ∷ [] } → eqb byte meta ≡ false → Reads meta first new (text ++ byte ∷ [])
+reads-more meta first old new text byte reads pushed differs =
+    reads-join meta first old new text (byte ∷ []) reads (record { pushed = pushed; no_meta = ap (λ b. b || false) differs })
+
 streams-join : (first middle last : Stream) (text more : Text) → Streams first text middle → Streams middle more last → Streams first (text ++ more) last
 streams-join first middle last text more h k =
     (h.0 ∙ ap (λ rest. text ++ rest) k.0 ∙ sym (append_assoc text more last.bytes), h.1 ∙ k.1)

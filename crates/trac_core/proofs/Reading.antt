@@ -1,14 +1,12 @@
 -- The calls that read.
-use Rattle.trac_core.proofs.Words.{◌≡◌, ℕ, ◌+◌, ◌-◌, ◌<◌, ◌≤◌, true, false, not, List, [], ◌∷◌, ◌++◌, length, drop, Some, refl, sym, ap, ◌∙◌, arith, append_assoc, length-append, ⊎_elim, eq-eqb, ◌==◌, before_first, position_or_len, list_any, length-map, cases_lt, ReadString, ReadCharacter, InputEnded, InputFailed, Text, World, meaning_of, built, before_meta, from_meta, read_string, read_all, valued, with_input, Byte, flat_text, Contents, used, IsSound, Stream, has_byte, Reads, arguments_at, world, ending, failing, Full, Value, Over, scene, IsCall, settled, AnswersCall, IsValueFrom, TakesFrom, or_parts}
+use Rattle.trac_core.proofs.Words.{◌≡◌, ℕ, ◌+◌, ◌-◌, ◌<◌, ◌≤◌, true, false, not, List, [], ◌∷◌, ◌++◌, length, drop, Some, refl, sym, ap, ◌∙◌, arith, append_assoc, length-append, ⊎_elim, eq-eqb, ◌==◌, before_first, position_or_len, list_any, length-map, cases_lt, ReadString, ReadCharacter, InputEnded, InputFailed, Text, World, meaning_of, built, before_meta, from_meta, read_string, reads_last, read_all, valued, with_input, Byte, flat_text, Contents, used, IsSound, Stream, has_byte, Reads, arguments_at, world, ending, failing, Full, Value, Over, scene, IsCall, settled, AnswersCall, IsValueFrom, TakesFrom, or_parts}
+use Rattle.trac_functions.proofs.PutCharacters.{used-with}
 use Rattle.trac_core.proofs.MetaCharacters.{position-past, before-none, from-none, before-at, from-at, length-before, any-at}
 use Rattle.trac_core.proofs.Performing.{tried-quiet, tried-full, tried-end, tried-failed, delivered-value, text-stands}
 
 -- the cells that are used after a text was read
 pub used-reads : (meta : ℕ) (w mid : Contents) (text : Text) → Reads meta w mid text → used mid ≡ used w + length text
-used-reads meta w mid text reads =
-    let long = length-append w.neutral (flat_text text) in
-    let text_long = length-map text Byte in
-    ap used reads.pushed ∙ omega arith
+used-reads meta w mid text reads = ap used reads.pushed ∙ used-with w text
 
 pub room-reads : (meta : ℕ) (w mid : Contents) (text : Text) → Reads meta w mid text → mid.room ≡ w.room
 room-reads meta w mid text reads = ap (λ (w : Contents). w.room) reads.pushed
@@ -27,43 +25,40 @@ module _ (w mid : Contents) (place meta : ℕ) (text : Text) (call : IsCall w pl
   args : List Text
   args = arguments_at w.neutral place
 
+  -- what was read is the value
+  read-value : (source source' : Stream) (written : Text) → before_meta (world w.forms meta (ending source.bytes)) ≡ text → read_string text (from_meta (world w.forms meta (ending source.bytes))) (world w.forms meta (ending source.bytes)) ≡ valued text (world w.forms meta (ending source'.bytes)) → (source.ended ≡ true → source'.ended ≡ true) → (reads_last (Some ReadString) (world w.forms meta (ending source.bytes)) ≡ true → source'.ended ≡ true) → AnswersCall place (scene w meta source written) Value (scene mid meta source' written)
+  unfolding meaning_of
+  read-value source source' written before means stays_ended read_all =
+      let here = world w.forms meta (ending source.bytes) in
+      let room = room-reads meta w mid text reads in
+      tried-quiet w (settled Value place (length w.neutral) mid) place (Some ReadString) meta meta source source' written (used w + (length mid.neutral - length w.neutral)) text false w.forms call.names
+      (record {
+        means = ap (λ t. read_string t (from_meta here) here) before ∙ means;
+        stands = delivered-value w mid _ place (length w.neutral) text false w.forms call.innermost reads.pushed refl refl;
+        needs = put-reads meta w mid text reads ∙ ap (λ t. used w + length t) (sym before);
+        fits = omega (arith, put-reads meta w mid text reads, used-reads meta w mid text reads);
+        stays_ended = stays_ended;
+        read_all = read_all;
+      })
+
   -- the meta character followed
   pub read-to-meta : (source source' : Stream) (written : Text) → source.bytes ≡ text ++ meta ∷ source'.bytes → source.ended ≡ false → AnswersCall place (scene w meta source written) Value (scene mid meta source' written)
-  unfolding meaning_of
   read-to-meta source source' written gave open_still =
       let p = λ (c : ℕ). c == meta in
       let here = world w.forms meta (ending source.bytes) in
       let before : before_meta here ≡ text = ap (before_first p) gave ∙ before-at p text meta source'.bytes reads.no_meta (is-same meta) in
       let after : from_meta here ≡ meta ∷ source'.bytes = ap (λ t. drop (position_or_len p t) t) gave ∙ from-at p text meta source'.bytes reads.no_meta (is-same meta) in
-      let room = room-reads meta w mid text reads in
-      tried-quiet w (settled Value place (length w.neutral) mid) place (Some ReadString) meta meta source source' written (used w + (length mid.neutral - length w.neutral)) text false w.forms call.names
-      (record {
-        means = ap (λ t. read_string t (from_meta here) here) before ∙ ap (λ t. read_string text t here) after;
-        stands = delivered-value w mid _ place (length w.neutral) text false w.forms call.innermost reads.pushed refl refl;
-        needs = put-reads meta w mid text reads ∙ ap (λ t. used w + length t) (sym before);
-        fits = omega (arith, put-reads meta w mid text reads, used-reads meta w mid text reads);
-        stays_ended = λ e. absurd cc;
-        read_all = λ e. absurd (let any = ap (list_any p) gave ∙ any-at p text meta source'.bytes (is-same meta) in let n = ap not any in cc);
-      })
+      read-value source source' written before (ap (λ t. read_string text t here) after) (λ e. absurd cc)
+      (λ e. absurd (let any = ap (list_any p) gave ∙ any-at p text meta source'.bytes (is-same meta) in let n = ap not any in cc))
 
   -- the source ended after some bytes
   pub read-some : (source source' : Stream) (written : Text) → 0 < length text → source.bytes ≡ text → source'.bytes ≡ [] → source'.ended ≡ true → AnswersCall place (scene w meta source written) Value (scene mid meta source' written)
-  unfolding meaning_of
   read-some source source' written some gave none_left ended =
       let p = λ (c : ℕ). c == meta in
       let here = world w.forms meta (ending source.bytes) in
       let before : before_meta here ≡ text = ap (before_first p) gave ∙ before-none p text reads.no_meta in
       let after : from_meta here ≡ [] = ap (λ t. drop (position_or_len p t) t) gave ∙ from-none p text reads.no_meta in
-      let room = room-reads meta w mid text reads in
-      tried-quiet w (settled Value place (length w.neutral) mid) place (Some ReadString) meta meta source source' written (used w + (length mid.neutral - length w.neutral)) text false w.forms call.names
-      (record {
-        means = ap (λ t. read_string t (from_meta here) here) before ∙ ap (λ t. read_string text t here) after ∙ all text some here ∙ ap (λ t. valued text (with_input t here)) (sym none_left);
-        stands = delivered-value w mid _ place (length w.neutral) text false w.forms call.innermost reads.pushed refl refl;
-        needs = put-reads meta w mid text reads ∙ ap (λ t. used w + length t) (sym before);
-        fits = omega (arith, put-reads meta w mid text reads, used-reads meta w mid text reads);
-        stays_ended = λ e. ended;
-        read_all = λ e. ended;
-      })
+      read-value source source' written before (ap (λ t. read_string text t here) after ∙ all text some here ∙ ap (λ t. valued text (with_input t here)) (sym none_left)) (λ e. ended) (λ e. ended)
     where
       all : (text : Text) → 0 < length text → (here : World) → read_all false text here ≡ valued text (with_input [] here)
       all [] some here = absurd (omega arith)

@@ -1,9 +1,9 @@
 -- The rules that perform no call, over the contents of a workspace.
-use Rattle.trac_core.proofs.Words.{◌≡◌, ◌≢◌, ℕ, ◌+◌, ◌-◌, ◌<◌, true, false, List, [], ◌∷◌, ◌++◌, length, take, drop, map, All, Option, Some, None, refl, sym, ap, ◌∙◌, subst, ⊎_elim, arith, slice_get, MatchOption, is_some, slice_range, cases_eq, drop-map, take-map, length-drop, drop-drop, All-take, All-drop, take-length, Mode, Active, Text, Form, cells, protected, Input, OpenCall, add, begin_argument, Rule, LoadIdling, DeleteLayout, AddProtected, ClearActive, BeginArgument, BeginCall, EndCall, AddCharacter, parenthesis_rule, is_layout, rule, Next, idling, follow, end_need, need_by, step, need, reads_last_by, Cell, Byte, Call, Comma, NoCall, IsLastCall, flat_text, text_of_cells, character_of, IsByte, Contents, used, IsSound, Neutral, with_cell, neutral_of, memory_with, memory_of, state_with, Scans, size, State}
+use Rattle.trac_core.proofs.Words.{length-map, get_or-map, get_or, seen, ◌≡◌, ◌≢◌, ℕ, ◌+◌, ◌-◌, ◌<◌, true, false, List, [], ◌∷◌, ◌++◌, length, take, drop, map, All, Option, Some, None, refl, sym, ap, ◌∙◌, subst, ⊎_elim, arith, slice_get, MatchOption, is_some, slice_range, cases_eq, drop-map, take-map, length-drop, drop-drop, All-take, All-drop, take-length, Mode, Active, Text, Form, cells, protected, Input, OpenCall, add, begin_argument, Rule, LoadIdling, DeleteLayout, AddProtected, ClearActive, BeginArgument, BeginCall, EndCall, AddCharacter, parenthesis_rule, is_layout, rule, Next, idling, follow, end_need, need_by, step, need, reads_last_by, Cell, Byte, Call, Comma, NoCall, IsLastCall, flat_text, text_of_cells, character_of, IsByte, Contents, used, IsSound, Neutral, with_cell, neutral_of, memory_with, memory_of, state_with, Scans, size, State}
 use Rattle.trac_language.specs.declared.mode.Mode.TheVariants.{Neutral as NeutralMode}
 use Rattle.trac_laws.proofs.Rules.{rule_comma, rule_end, rule_active, rule_neutral, rule_sign_last, rule_two_signs_last, rule_sign, rule_two_signs, rule_other}
 use Rattle.trac_functions.proofs.FlatLemmas.{with_cells-append, neutral_of-push, neutral_of-innermost, size-used, with_cells-text, calls-none}
-use Rattle.trac_functions.proofs.ArgumentLemmas.{flat-bytes}
+use Rattle.trac_functions.proofs.ArgumentLemmas.{flat-bytes, text_of_cells-seen}
 
 -- ---- texts
 
@@ -16,6 +16,10 @@ drop-text n cells = sym (drop-map character_of n cells)
 
 pub take-text : (n : ℕ) (cells : List Cell) → text_of_cells (take n cells) ≡ take n (text_of_cells cells)
 take-text n cells = sym (take-map character_of n cells)
+
+-- a character that was read of the cells is one of their text
+pub read-text : (cells : List Cell) (i c : ℕ) → i < length cells → c ≡ character_of (get_or cells i (Byte 0)) → (i < length (text_of_cells cells)) × (c ≡ get_or (text_of_cells cells) i 0)
+read-text cells i c within is = (omega (arith, length-map cells character_of), is ∙ sym (get_or-map character_of cells i (Byte 0) 0 within))
 
 pub some-active : (cells : List Cell) (c : ℕ) → slice_get (text_of_cells cells) 0 ≡ Some c → 0 < length cells
 some-active [] c e = absurd cc
@@ -193,8 +197,8 @@ pub last-none : (o : Option ℕ) (P : Type 0) (Q : ℕ → Type 0) → is_some o
 last-none None P Q e h = h
 last-none (Some place) P Q e h = absurd cc
 
--- the text of the cells after the first
-pub text-after : (active part : List Cell) → part ≡ slice_range active 1 (length active) → text_of_cells part ≡ drop 1 (text_of_cells active)
-text-after active part e =
-    let long : length active - 1 ≡ length (drop 1 active) = sym (length-drop 1 active) in
-    ap text_of_cells (e ∙ ap (λ n. take n (drop 1 active)) long ∙ take-length (drop 1 active)) ∙ drop-text 1 active
+-- the text of the cells after the first, that were read
+pub text-after : (active part : List Cell) (n : ℕ) → map seen part ≡ slice_range active 1 n → n ≡ length active → text_of_cells part ≡ drop 1 (text_of_cells active)
+text-after active part n e n_is =
+    let long : n - 1 ≡ length (drop 1 active) = ap (λ k. k - 1) n_is ∙ sym (length-drop 1 active) in
+    sym (text_of_cells-seen part) ∙ ap text_of_cells (e ∙ ap (λ k. take k (drop 1 active)) long ∙ take-length (drop 1 active)) ∙ drop-text 1 active

@@ -73,9 +73,9 @@ one-step old new most scans same shorter some =
     record { passes = λ meta. passes-once _ _ (passes-scans meta old new scans same); some = omega arith; few = omega arith; shorter = shorter }
 
 -- the first character, which the rule was found by, and those of the same kind that follow it
-pub All-after : (P : ℕ → Type 0) (n : ℕ) (text cells : Text) (c : ℕ) → slice_get text 0 ≡ Some c → P c → n ≤ length cells → cells ≡ take (length cells) (drop 1 text) → All P (take n cells) → All P (take (1 + n) text)
-All-after P n text cells c first is within part rest =
-    let same : take n cells ≡ take n (drop 1 text) = ap (take n) part ∙ take-take n (length cells) (drop 1 text) within in
+pub All-after : (P : ℕ → Type 0) (n : ℕ) (text : Text) (after : List Cell) (c : ℕ) → slice_get text 0 ≡ Some c → P c → n ≤ length after → text_of_cells after ≡ take (length after) (drop 1 text) → All P (take n (text_of_cells after)) → All P (take (1 + n) text)
+All-after P n text after c first is within part rest =
+    let same : take n (text_of_cells after) ≡ take n (drop 1 text) = ap (take n) part ∙ take-take n (length after) (drop 1 text) within in
     let one : 1 + n ≡ suc n = omega arith in
     subst (λ k. All P (take k text)) (sym one)
     (subst (λ t. All P (take (suc n) t)) (sym (first-rest text c first))

@@ -1,7 +1,8 @@
 -- Parts of the neutral string as texts, and arguments cut at comma marks.
-use Rattle.trac_functions.proofs.Words.{◌≡◌, ℕ, suc, ◌+◌, ◌-◌, ◌<◌, ◌≤◌, Bool, true, false, List, [], ◌∷◌, length, take, drop, slice_range, All, map, refl, sym, ap, ◌∙◌, subst, ⊎_elim, arith, get_or, cond, nat_le, cases_lt, length-map, get_or-drop, take-take, take-map, drop-take, drop-drop}
+use Rattle.trac_functions.proofs.Words.{◌≡◌, ℕ, suc, ◌+◌, ◌-◌, ◌<◌, ◌≤◌, Bool, true, false, List, [], ◌∷◌, length, take, drop, slice_range, All, map, refl, sym, ap, ◌∙◌, subst, ⊎_elim, arith, get_or, cond, nat_le, cases_lt, length-map, get_or-drop, take-map}
 use Rattle.trac_functions.proofs.Words.{length-between, All-cons, All-take, All-drop, All-map, Text, argument, Cell, Byte, Call, Comma, Gap, Head, seen, is_call, is_comma, NoCall, NoComma, flat_text, text_of_cells, character_of, IsByte, Contents, IsStringCell, IsSound, IsTextPart, part_text}
 use Rattle.trac_functions.proofs.Words.{before_comma, before_comma-within, found-comma, Arguments, in_first, texts_of, texts_from, texts, AreArguments}
+use Rattle.trac_functions.proofs.CellRanges.{drop-range, take-range}
 
 -- ---- cells as contracts see them
 
@@ -102,19 +103,6 @@ later-none (cell ∷ cells) within = go (is_comma cell) (later-none cells) withi
 
 -- ---- arguments taken one after the other
 
-drop-range : (cells : List Cell) (from n end : ℕ) → n + from ≤ end → drop n (slice_range cells from end) ≡ slice_range cells (from + n) end
-drop-range cells from n end within =
-    let e : end - from ≡ n + (end - (from + n)) = omega arith in
-    ap (λ k. drop n (take k (drop from cells))) e
-    ∙ drop-take n (end - (from + n)) (drop from cells)
-    ∙ ap (take (end - (from + n))) (drop-drop n from cells)
-
-take-range : (cells : List Cell) (from n end : ℕ) → n + from ≤ end → take n (slice_range cells from end) ≡ slice_range cells from (from + n)
-take-range cells from n end within =
-    let e : end - from ≡ n + (end - (from + n)) = omega arith in
-    let k : from + n - from ≡ n = omega arith in
-    ap (λ k. take n (take k (drop from cells))) e ∙ take-take n (n + (end - (from + n))) (drop from cells) (omega arith) ∙ ap (λ k. take k (drop from cells)) (sym k)
-
 pub texts_from-some : (neutral : List Cell) (from end : ℕ) → from ≤ end → texts_from neutral from end ≡ texts_of (slice_range neutral from end)
 texts_from-some neutral from end le = let yes : nat_le from end ≡ true = grind arith in rw yes refl
 
@@ -128,10 +116,9 @@ module _ (w : Contents) (a : Arguments) (are : AreArguments w a) (le : a.from �
 
   pub taken-text : part_text w.neutral a.from (a.from + before_comma (slice_range w.neutral a.from a.end)) ≡ argument (texts w a) 0
   taken-text =
-      let f = fits in
       sym (ap (λ t. argument t 0) (texts_from-some w.neutral a.from a.end le)
       ∙ texts_of-first (slice_range w.neutral a.from a.end)
-      ∙ ap text_of_cells (take-range w.neutral a.from (before_comma (slice_range w.neutral a.from a.end)) a.end (omega arith)))
+      ∙ ap text_of_cells (take-range w.neutral a.from (before_comma (slice_range w.neutral a.from a.end)) a.end fits))
 
   pub taken-rest : texts_from w.neutral (a.from + before_comma (slice_range w.neutral a.from a.end) + 1) a.end ≡ drop 1 (texts w a)
   taken-rest =
@@ -169,17 +156,17 @@ byte-plain (Head k) s call comma = s
 string-range : (w : Contents) → IsSound w → (a b : ℕ) → All IsStringCell (slice_range w.neutral a b)
 string-range w sound a b = All-take IsStringCell (b - a) (drop a w.neutral) (All-drop IsStringCell a w.neutral sound.neutral)
 
-no_call-range : (cells : List Cell) (from n end : ℕ) → n + from ≤ end → NoCall (slice_range cells from end) → NoCall (slice_range cells from (from + n))
+no_call-range : (cells : List Cell) (from n end : ℕ) → from + n ≤ end → NoCall (slice_range cells from end) → NoCall (slice_range cells from (from + n))
 no_call-range cells from n end within h = subst NoCall (take-range cells from n end within) (All-take (λ cell. is_call cell ≡ false) n (slice_range cells from end) h)
 
-no_call-later : (cells : List Cell) (from n end : ℕ) → n + from ≤ end → NoCall (slice_range cells from end) → NoCall (slice_range cells (from + n) end)
+no_call-later : (cells : List Cell) (from n end : ℕ) → from + n ≤ end → NoCall (slice_range cells from end) → NoCall (slice_range cells (from + n) end)
 no_call-later cells from n end within h = subst NoCall (drop-range cells from n end within) (All-drop (λ cell. is_call cell ≡ false) n (slice_range cells from end) h)
 
 pub taken-part : (w : Contents) (a : Arguments) → AreArguments w a → a.from ≤ a.end → IsTextPart w.neutral a.from (a.from + before_comma (slice_range w.neutral a.from a.end))
 taken-part w a are le =
     let here = slice_range w.neutral a.from a.end in
     let n = before_comma here in
-    let f : n + a.from ≤ a.end = let within = are.within in omega (arith, before_comma-within here, length-between w.neutral a.from a.end are.within) in
+    let f : a.from + n ≤ a.end = fits w a are le in
     let inside = are.within in
     let part = slice_range w.neutral a.from (a.from + n) in
     let strings : All IsStringCell part = string-range w are.sound a.from (a.from + n) in
@@ -196,7 +183,7 @@ taken-left w a b are le from_is end_is plain_is =
     let here = slice_range w.neutral a.from a.end in
     let n = before_comma here in
     let inside = are.within in
-    let f : n + a.from ≤ a.end = omega (arith, before_comma-within here, length-between w.neutral a.from a.end are.within) in
+    let f : a.from + n ≤ a.end = fits w a are le in
     record {
       sound = are.sound;
       order = omega arith;
@@ -249,9 +236,7 @@ within-room w a b cells sound part e =
     omega (arith, long, length-between w.neutral a b part.within)
 
 pub next-fits : (w : Contents) (a : Arguments) (n : ℕ) → AreArguments w a → a.from ≤ a.end → n ≡ before_comma (slice_range w.neutral a.from a.end) → a.from + n ≤ a.end
-next-fits w a n are le e =
-    let within = are.within in
-    omega (arith, e, before_comma-within (slice_range w.neutral a.from a.end), length-between w.neutral a.from a.end are.within)
+next-fits w a n are le e = rw e (fits w a are le)
 
 -- a part has as many characters as cells
 pub part-long : (neutral : List Cell) (a b : ℕ) → IsTextPart neutral a b → length (part_text neutral a b) ≡ b - a

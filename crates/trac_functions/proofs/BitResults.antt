@@ -1,11 +1,12 @@
 -- Results of bits: how many digits they have, and that they stay when cells are put behind the neutral string.
-use Rattle.trac_functions.proofs.Words.{◌≡◌, ℕ, ◌+◌, ◌-◌, ◌*◌, ◌≤◌, max, min, Bool, false, ◌||◌, ◌&&◌, not, List, [], ◌++◌, ◌∷◌, length, slice_range, map, replicate, pos, ℤ, refl, sym, ap, ◌∙◌, subst, arith, flat_map, ◌+ℤ◌, int_rem_euclid, length-append, length-replicate, length-drop, length-map}
-use Rattle.trac_functions.proofs.Words.{length-between, length-map-range_with_len, Text, Bits, is_octal, bits_of_digit, bit_at, octal, padded, cut, union, intersection, complement, shifted, rotated, World, valued, bits_result, Cell, seen, text_of_cells, flat_text, IsOctal, EachIs, bits_of_cells}
-use Rattle.trac_functions.proofs.Words.{signed, length-text, length-octal, length-bits_of, length-bitwise, rotation_same, Contents, used, BitResult, Rotation, AreDigits, AreFor, bits_at, bits_made}
+use Rattle.trac_functions.proofs.Words.{◌≡◌, ℕ, ◌-◌, ◌*◌, ◌≤◌, max, min, Bool, false, ◌||◌, ◌&&◌, not, List, [], ◌++◌, ◌∷◌, length, slice_range, map, replicate, pos, ℤ, refl, sym, ap, ◌∙◌, subst, arith, flat_map, ◌+ℤ◌, int_rem_euclid, length-append, length-replicate, length-drop, length-map}
+use Rattle.trac_functions.proofs.Words.{length-between, length-map-range_with_len, Text, Bits, is_octal, bits_of_digit, bit_at, octal, padded, cut, union, intersection, complement, shifted, rotated, World, bits_result, Function, Form, Some, bits, octal_prefix, meaning_of, built, value_length, world, Valued, Cell, seen, text_of_cells, flat_text, IsOctal, EachIs, bits_of_cells}
+use Rattle.trac_functions.proofs.Words.{signed, length-text, length-octal, length-bits_of, length-bitwise, rotation_same, Contents, BitResult, Rotation, AreDigits, AreFor, bits_at, bits_made}
 use Rattle.trac_functions.specs.declared.bit_strings.BitResult.TheVariants.{Union, Intersection, Complement, Shift}
-use Rattle.trac_functions.proofs.PutCharacters.{with_text, used-with, with-both}
+use Rattle.trac_functions.proofs.MadeValues.{valued-of}
+use Rattle.trac_functions.proofs.PutCharacters.{with_text, with-both}
 use Rattle.trac_functions.proofs.ArgumentLemmas.{text_of_cells-seen}
-use Rattle.trac_functions.proofs.DigitParts.{part-append}
+use Rattle.trac_functions.proofs.CellRanges.{part-append}
 
 -- ---- how many digits there are
 
@@ -71,15 +72,6 @@ module _ (neutral behind : List Cell) where
   grown-at : (part : ℕ × ℕ) → AreDigits neutral part → bits_at (neutral ++ behind) part ≡ bits_at neutral part
   grown-at part are = ap (λ cells. bits_of_cells cells) (part-append neutral behind part.0 part.1 are.order are.within)
 
-  grown-digits : (part : ℕ × ℕ) → AreDigits neutral part → AreDigits (neutral ++ behind) part
-  grown-digits part are =
-      let within = are.within in
-      record {
-        order = are.order;
-        within = omega (arith, length-append neutral behind);
-        octal = subst IsOctal (sym (part-append neutral behind part.0 part.1 are.order are.within)) are.octal;
-      }
-
   pub grown-made : (bits : BitResult) → AreFor neutral bits → bits_made (neutral ++ behind) bits ≡ bits_made neutral bits
   grown-made (Union a b) are = ap (λ l. union l (bits_at (neutral ++ behind) b)) (grown-at a are.0) ∙ ap (union (bits_at neutral a)) (grown-at b are.1)
   grown-made (Intersection a b) are = ap (λ l. intersection l (bits_at (neutral ++ behind) b)) (grown-at a are.0) ∙ ap (intersection (bits_at neutral a)) (grown-at b are.1)
@@ -110,8 +102,14 @@ module _ (old now : Contents) (text : Text) (bits : BitResult) (are : AreFor old
 
 -- ---- the values of calls
 
-pub bits-means : (before prefix : Text) (made bits : Bits) (w : World) → before ≡ prefix → made ≡ bits → bits_result prefix bits w ≡ valued (before ++ octal made) w
-bits-means before prefix made bits w same_prefix same_bits = ap (λ t. bits_result t bits w) (sym same_prefix) ∙ ap (λ l. bits_result before l w) (sym same_bits)
+-- the bits that were read of a text are the value, changed in this way
+pub bits-valued : (f : Function) (args : List Text) (forms : List Form) (change : Bits → Bits) (given read before : Text) (l made : Bits) → ((w : World) → meaning_of f args w ≡ bits_result (octal_prefix given) (change (bits given)) w) → ((w : World) → built (Some f) args w ≡ value_length (meaning_of f args w)) → read ≡ given → before ≡ octal_prefix read → l ≡ bits read → made ≡ change l → Valued f args forms (before ++ octal made) false forms
+bits-valued f args forms change given read before l made means built_is same prefix bits_are made_is =
+    let front : octal_prefix given ≡ before = ap (λ t. octal_prefix t) (sym same) ∙ sym prefix in
+    let back : change (bits given) ≡ made = ap (λ t. change (bits t)) (sym same) ∙ ap change (sym bits_are) ∙ sym made_is in
+    valued-of f args forms forms (before ++ octal made) false
+    (λ meta input. means (world forms meta input) ∙ ap (λ t. bits_result t (change (bits given)) (world forms meta input)) front ∙ ap (λ l. bits_result before l (world forms meta input)) back)
+    built_is
 
 -- a rotation of no bits, too
 pub rotation-any : (d : ℤ) (r n : ℕ) (l : Bits) → n ≡ max (length l) 1 → int_rem_euclid d (pos n) ≡ pos r → rotated (pos r) l ≡ rotated d l

@@ -1,8 +1,8 @@
 -- Lists of forms, and what the functions that change them make of a call.
-use Rattle.trac_functions.proofs.Words.{◌≡◌, ℕ, zero, suc, ◌+◌, ◌<◌, ◌≤◌, Bool, true, false, List, [], ◌∷◌, ◌++◌, length, drop, set, slice_range, subst, ◌-◌, refl, sym, ap, ◌∙◌, arith, Some, ⊎_elim, if◌then◌else◌, flat_map, filter, bytes_eq, not, ◌||◌, list_any, cases_lt, append-nil, length-map}
+use Rattle.trac_functions.proofs.Words.{◌≡◌, ℕ, zero, suc, ◌+◌, ◌<◌, ◌≤◌, Bool, true, false, List, [], ◌∷◌, ◌++◌, length, drop, set, slice_range, subst, ◌-◌, refl, sym, ap, ◌∙◌, arith, Some, ⊎_elim, if◌then◌else◌, flat_map, filter, bytes_eq, not, ◌||◌, list_any, cases_lt, append-nil}
 use Rattle.trac_functions.proofs.Words.{drop_more, drop_all, get_or-set_same, set-set, set-get_or, bytes_eq-Decides, length-between, All-nil, All-cons, Function, Text, Form, segment_by, IsStore, NoneNamed, is_named, without, World, meaning_of, built, value_length, argument, Cell, Byte, Call, Comma}
-use Rattle.trac_functions.proofs.Words.{Gap, Head, character_of, Contents, IsSound, form_at, name_at, body_at, pointer_at, IsTextPart, part_text, AreTextParts, part_texts, before_comma, parts_between, texts_between, AreParted, without-none, parts-first, parts-none, Arguments, texts_of, in_first}
-use Rattle.trac_functions.proofs.Words.{with_first, Means, IsValue, AreArguments, texts}
+use Rattle.trac_functions.proofs.Words.{Gap, Head, Contents, IsSound, form_at, name_at, body_at, pointer_at, IsTextPart, AreTextParts, part_texts, before_comma, parts_between, texts_between, AreParted, without-none, parts-first, parts-none, Arguments, texts_of, in_first}
+use Rattle.trac_functions.proofs.Words.{with_first, Means, IsValue, AreArguments, texts, Performs, Value, world, silent, form_named, form_named-none, None}
 use Rattle.trac_functions.proofs.ArgumentLemmas.{none-left, texts_from-some, taken-part, taken-text, taken-rest, taken-left}
 use Rattle.trac_functions.proofs.FlatLemmas.{texts_of-some}
 use Rattle.trac_functions.proofs.MadeValues.{valued-of}
@@ -16,12 +16,11 @@ null-value f args old new sound means built_is same =
       stands = same ∙ ap (λ cells. record old { forms = new.forms; neutral = cells }) (sym (append-nil old.neutral));
     }
 
-pub unchanged : (f : Function) (args : List Text) (old new : Contents) → IsSound old → Means f args old.forms [] false old.forms → ((w : World) → built (Some f) args w ≡ value_length (meaning_of f args w)) → new ≡ old → IsValue f args old new false []
-unchanged f args old new sound means built_is same = rw same (null-value f args old old sound means built_is refl)
-
--- how many characters a part of neutral has
-pub length-part : (neutral : List Cell) (a b : ℕ) → IsTextPart neutral a b → length (part_text neutral a b) ≡ b - a
-length-part neutral a b part = length-map (slice_range neutral a b) character_of ∙ length-between neutral a b part.within
+-- a call that does nothing where no form has the name that its first argument gives
+pub idle : (f : Function) (old new : Contents) (a : Arguments) (name : Text) → AreArguments old a → ((title : Text) (w : World) → form_named (argument (texts old a) 0) w.forms ≡ None → meaning_of f (title ∷ texts old a) w ≡ silent w) → ((title : Text) (w : World) → built (Some f) (title ∷ texts old a) w ≡ value_length (meaning_of f (title ∷ texts old a) w)) → new ≡ old → NoneNamed name old.forms → name ≡ argument (texts old a) 0 → Performs f old a Value new
+idle f old new a name are means built_is same none name_is = λ title.
+    let gone = form_named-none (argument (texts old a) 0) old.forms (subst (λ n. NoneNamed n old.forms) name_is none) in
+    ([], rw same (null-value f (title ∷ texts old a) old old are.sound (λ meta input. means title (world old.forms meta input) gone) (built_is title) refl))
 
 -- each form's name behind a text
 abbrev pub names : Text → List Form → Text

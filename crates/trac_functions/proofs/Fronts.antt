@@ -1,6 +1,8 @@
--- The front and the back of a part of neutral, and the prefix of a text as its front.
-use Rattle.trac_functions.proofs.Words.{◌≡◌, ℕ, ◌+◌, ◌-◌, ◌≤◌, Bool, true, false, ◌||◌, cond, List, [], ◌++◌, length, take, drop, slice_range, All, sym, ap, ◌∙◌, subst, arith, append_assoc, eqb, length-append, append-nil, take-append-drop, take-append-le, take_all, take-take, take-map, All-take}
-use Rattle.trac_functions.proofs.Words.{suffix_len, is_ascii_digit, Text, prefix, digits, before_digits, without_sign, ends_with, octal_prefix, is_octal, Cell, text_of_cells, character_of, IsByte, length-text, IsTextPart, part_text, length-between}
+-- The front of a part of neutral, and the prefix of a text as its front.
+use Rattle.trac_functions.proofs.Words.{◌≡◌, ℕ, ◌+◌, ◌-◌, ◌≤◌, Bool, true, false, ◌||◌, cond, List, [], ◌++◌, length, take, drop, slice_range, All, sym, ap, ◌∙◌, subst, arith, append_assoc, eqb, length-append, append-nil, take-append-drop, take-append-le, take_all, take-map, All-take}
+use Rattle.trac_functions.proofs.Words.{suffix_len, is_ascii_digit, Text, prefix, digits, before_digits, without_sign, ends_with, octal_prefix, is_octal, Cell, text_of_cells, character_of, IsByte, IsTextPart, part_text}
+use Rattle.trac_functions.proofs.CellRanges.{take-range}
+use Rattle.trac_functions.proofs.ArgumentLemmas.{part-long}
 
 -- a text that another begins with
 pub record IsFront (front text : Text) : Type 0 where
@@ -42,24 +44,18 @@ prefix-front text = go (eqb (length (digits text)) 0)
 pub octal_prefix-front : (text : Text) → IsFront (octal_prefix text) text
 octal_prefix-front text = front-take (length text - suffix_len is_octal text) text
 
-pub length-part_text : (cells : List Cell) (a b : ℕ) → a ≤ b → b ≤ length cells → length (part_text cells a b) ≡ b - a
-length-part_text cells a b order within = omega (arith, length-text (slice_range cells a b), length-between cells a b within)
+-- the front of a part that was read
+module _ (cells : List Cell) (a b n : ℕ) (part : IsTextPart cells a b) (front : Text → Text) (is : (text : Text) → IsFront (front text) text) (read : Text) (same : read ≡ part_text cells a b) (long : n ≡ length (front read)) where
+  size : n ≡ length (front (part_text cells a b))
+  size = long ∙ ap (λ text. length (front text)) same
 
--- the front of a part, and what is behind it
-module _ (cells : List Cell) (a b n : ℕ) (part : IsTextPart cells a b) (front : Text) (is : IsFront front (part_text cells a b)) (long : n ≡ length front) where
   pub inside : a + n ≤ b
   inside =
       let order = part.order in
-      let within = part.within in
-      omega (arith, front-length front (part_text cells a b) is, length-part_text cells a b part.order part.within)
+      omega (arith, size, front-length _ _ (is (part_text cells a b)), part-long cells a b part)
 
   taken : take n (slice_range cells a b) ≡ slice_range cells a (a + n)
-  taken =
-      let le = inside in
-      let order = part.order in
-      let e : b - a ≡ n + (b - (a + n)) = omega arith in
-      let k : a + n - a ≡ n = omega arith in
-      ap (λ k. take n (take k (drop a cells))) e ∙ take-take n (n + (b - (a + n))) (drop a cells) (omega arith) ∙ ap (λ k. take k (drop a cells)) (sym k)
+  taken = take-range cells a n b inside
 
   pub front-part : IsTextPart cells a (a + n)
   front-part =
@@ -67,5 +63,5 @@ module _ (cells : List Cell) (a b n : ℕ) (part : IsTextPart cells a b) (front 
       let within = part.within in
       record { order = omega arith; within = omega arith; bytes = subst (All IsByte) taken (All-take IsByte n (slice_range cells a b) part.bytes) }
 
-  pub front-text : part_text cells a (a + n) ≡ front
-  front-text = ap text_of_cells (sym taken) ∙ sym (take-map character_of n (slice_range cells a b)) ∙ front-is front (part_text cells a b) n is long
+  pub front-text : part_text cells a (a + n) ≡ front (part_text cells a b)
+  front-text = ap text_of_cells (sym taken) ∙ sym (take-map character_of n (slice_range cells a b)) ∙ front-is _ _ n (is (part_text cells a b)) size

@@ -1,5 +1,6 @@
 pub mod ArgumentLemmas
 pub mod BitResults
+pub mod CellRanges
 pub mod CountLimits
 pub mod DigitParts
 pub mod FlatLemmas

@@ -1,12 +1,14 @@
 -- A value that is put at the end of the neutral string part by part.
-use Rattle.trac_functions.proofs.Words.{◌≡◌, ℕ, ◌+◌, ◌-◌, ◌<◌, ◌≤◌, false, List, [], ◌++◌, length, take, drop, slice_range, refl, sym, ap, ◌∙◌, arith, append_assoc, ⊎_elim, cases_lt, append-nil, length-map, length-append, map-append, take-append-le, drop-append-le, length-drop, Function, Text, Cell}
-use Rattle.trac_functions.proofs.Words.{Byte, flat_text, Contents, used, IsSound, IsTextPart, part_text, Valued, IsValue}
+use Rattle.trac_functions.proofs.Words.{◌≡◌, ℕ, ◌+◌, ◌<◌, ◌≤◌, false, List, [], ◌++◌, length, slice_range, refl, sym, ap, ◌∙◌, arith, append_assoc, append-nil, length-append, Function, Text}
+use Rattle.trac_functions.proofs.Words.{flat_text, Contents, used, IsSound, IsTextPart, part_text, Valued, IsValue}
+use Rattle.trac_functions.proofs.CellRanges.{part-append}
+use Rattle.trac_functions.proofs.PutCharacters.{with_text, used-with, with-both, stands-behind}
 
 -- of a whole text this much is left, and the rest stands at the end of neutral
 pub record HasPut (old now : Contents) (whole left : Text) : Type 0 where
   pub done : Text
   pub sound : IsSound now
-  pub stands : now ≡ record old { neutral = old.neutral ++ flat_text done }
+  pub stands : now ≡ with_text old done
   pub whole_is : done ++ left ≡ whole
 
 pub put-none : (old now : Contents) (whole left : Text) → IsSound now → now ≡ old → left ≡ whole → HasPut old now whole left
@@ -14,21 +16,18 @@ put-none old now whole left sound same e =
     record { done = []; sound = sound; stands = same ∙ ap (λ cells. record old { neutral = cells }) (sym (append-nil old.neutral)); whole_is = e }
 
 -- one more part
-pub put-more : (old now new : Contents) (whole text left rest : Text) → HasPut old now whole left → left ≡ text ++ rest → new ≡ record now { neutral = now.neutral ++ flat_text text } → IsSound new → HasPut old new whole rest
+pub put-more : (old now new : Contents) (whole text left rest : Text) → HasPut old now whole left → left ≡ text ++ rest → new ≡ with_text now text → IsSound new → HasPut old new whole rest
 put-more old now new whole text left rest put split more sound =
-    let joined : old.neutral ++ flat_text put.done ++ flat_text text ≡ old.neutral ++ flat_text (put.done ++ text) =
-    append_assoc old.neutral (flat_text put.done) (flat_text text) ∙ ap (λ cells. old.neutral ++ cells) (sym (map-append Byte put.done text)) in
     record {
       done = put.done ++ text;
       sound = sound;
-      stands = more ∙ ap (λ (w : Contents). record w { neutral = w.neutral ++ flat_text text }) put.stands ∙ ap (λ cells. record old { neutral = cells }) joined;
+      stands = more ∙ ap (λ w. with_text w text) put.stands ∙ with-both old put.done text;
       whole_is = append_assoc put.done text rest ∙ ap (λ t. put.done ++ t) (sym split) ∙ put.whole_is;
     }
 
 pub used-put : (old now : Contents) (whole left : Text) (put : HasPut old now whole left) → used now + length left ≡ used old + length whole
 used-put old now whole left put =
-    let e = ap used put.stands in
-    omega (arith, e, ap length put.whole_is, length-append put.done left, length-append old.neutral (flat_text put.done), length-map put.done Byte)
+    omega (arith, ap used put.stands ∙ used-with old put.done, ap length put.whole_is, length-append put.done left)
 
 -- where a part that is left doesn't fit the whole doesn't
 pub put-full : (old now : Contents) (whole text left rest : Text) → HasPut old now whole left → left ≡ text ++ rest → now.room < used now + length text → old.room < used old + length whole
@@ -39,32 +38,14 @@ put-full old now whole text left rest put split full =
 -- where none is left the value stands
 pub put-all : (f : Function) (args : List Text) (old now : Contents) (whole : Text) → HasPut old now whole [] → Valued f args old.forms whole false old.forms → IsValue f args old now false whole
 put-all f args old now whole put valued =
-    let all : put.done ≡ whole = sym (append-nil put.done) ∙ put.whole_is in
-    let forms : now.forms ≡ old.forms = ap (λ (w : Contents). w.forms) put.stands in
-    let room : now.room ≡ old.room = ap (λ (w : Contents). w.room) put.stands in
-    let fits = put.sound.fits in
-    record {
-      valued = rw forms valued;
-      fits = omega (arith, used-put old now whole [] put);
-      stands = put.stands ∙ ap (λ text. record old { neutral = old.neutral ++ flat_text text }) all ∙ ap (λ fs. record old { forms = fs; neutral = old.neutral ++ flat_text whole }) (sym forms);
-    }
+    stands-behind f args old now whole false valued put.sound (put.stands ∙ ap (with_text old) (sym (append-nil put.done) ∙ put.whole_is))
 
 pub forms-kept : (old now : Contents) (whole left : Text) → HasPut old now whole left → now.forms ≡ old.forms
 forms-kept old now whole left put = ap (λ (w : Contents). w.forms) put.stands
 
--- a part of neutral stays while cells are put behind it
-range-kept : (cells more : List Cell) (a b : ℕ) → b ≤ length cells → slice_range (cells ++ more) a b ≡ slice_range cells a b
-range-kept cells more a b within =
-    ⊎_elim
-    (λ past. let none : b - a ≡ 0 = omega arith in rw none refl)
-    (λ order.
-    let first : a ≤ length cells = omega arith in
-    ap (take (b - a)) (drop-append-le a cells more first) ∙ take-append-le (b - a) (drop a cells) more (omega (arith, length-drop a cells)))
-    (cases_lt b a)
-
 module _ (old now : Contents) (whole left : Text) (put : HasPut old now whole left) where
-  kept : (a b : ℕ) → b ≤ length old.neutral → slice_range now.neutral a b ≡ slice_range old.neutral a b
-  kept a b within = ap (λ (w : Contents). slice_range w.neutral a b) put.stands ∙ range-kept old.neutral (flat_text put.done) a b within
+  kept : (a b : ℕ) → IsTextPart old.neutral a b → slice_range now.neutral a b ≡ slice_range old.neutral a b
+  kept a b part = ap (λ (w : Contents). slice_range w.neutral a b) put.stands ∙ part-append old.neutral (flat_text put.done) a b part.order part.within
 
   longer : length old.neutral ≤ length now.neutral
   longer = omega (arith, ap (λ (w : Contents). length w.neutral) put.stands, length-append old.neutral (flat_text put.done))
@@ -72,7 +53,7 @@ module _ (old now : Contents) (whole left : Text) (put : HasPut old now whole le
   pub part-kept : (a b : ℕ) → IsTextPart old.neutral a b → IsTextPart now.neutral a b
   part-kept a b part =
       let within = part.within in
-      record { order = part.order; within = omega (arith, longer); bytes = rw (kept a b part.within) part.bytes }
+      record { order = part.order; within = omega (arith, longer); bytes = rw (kept a b part) part.bytes }
 
   pub text-kept : (a b : ℕ) → IsTextPart old.neutral a b → part_text now.neutral a b ≡ part_text old.neutral a b
-  text-kept a b part = rw (kept a b part.within) refl
+  text-kept a b part = rw (kept a b part) refl

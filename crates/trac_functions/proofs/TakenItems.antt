@@ -1,11 +1,11 @@
 -- Characters and gaps among the items of a form.
-use Rattle.trac_functions.proofs.Words.{◌≡◌, ℕ, zero, suc, ◌+◌, ◌-◌, ◌<◌, ◌≤◌, min, Bool, true, false, List, [], ◌∷◌, ◌++◌, length, take, drop, reverse, All, slice_range, get_or, refl, sym, ap, ◌∙◌, arith, append_assoc, append-nil, length-append, length-take, length-drop, length-reverse, get_or-drop}
-use Rattle.trac_functions.proofs.Words.{get_or-reverse, get_or-take, drop-drop, drop-take, take-append-drop, reverse-append, reverse-reverse, take-take, map-append, length-map, take-append_seam, take-add, drop-append_seam, length-between, Item, Text, is_character, text_of, first_characters}
-use Rattle.trac_functions.proofs.Words.{flat_text, Contents, used, character_at, gap_at, NonePasses, IsFirst, IsLast, characters-between, IsFirstOr}
+use Rattle.trac_functions.proofs.Words.{◌≡◌, ℕ, zero, suc, ◌+◌, ◌-◌, ◌<◌, ◌≤◌, min, true, false, List, [], ◌∷◌, ◌++◌, length, take, drop, reverse, All, slice_range, get_or, refl, sym, ap, ◌∙◌, arith, append-nil, length-append, length-take, length-drop, length-reverse, get_or-drop}
+use Rattle.trac_functions.proofs.Words.{get_or-reverse, get_or-take, drop-drop, drop-take, take-append-drop, reverse-append, reverse-reverse, take-take, take-append_seam, take-add, drop-append_seam, length-between, Item, is_character, text_of, first_characters}
+use Rattle.trac_functions.proofs.Words.{used, body_at, Contents, character_at, gap_at, NonePasses, IsFirst, IsLast, characters-between, IsFirstOr}
 use Rattle.trac_language.specs.declared.item.Item.TheVariants.{Byte, Gap}
-use Rattle.trac_space.specs.declared.cell.Cell.TheVariants.{Byte as ByteCell}
+use Rattle.trac_functions.proofs.PutCharacters.{with_text, used-with, with-both}
 
-first_characters-none : (items : List Item) → first_characters 0 items ≡ []
+pub first_characters-none : (items : List Item) → first_characters 0 items ≡ []
 first_characters-none [] = refl
 first_characters-none (item ∷ items) = refl
 
@@ -91,7 +91,7 @@ module _ (body : List Item) (from taken place : ℕ) (within : from ≤ length b
   left-is : length (text_of (drop from body)) ≡ taken + length (text_of (drop place body))
   left-is =
       let all = characters-left (drop from body) taken in
-      let same = ap (λ t. length (text_of t)) (drop-drop (length (first_characters taken (drop from body))) from body ∙ ap (λ n. drop n body) (sym so.at)) in
+      let same = ap (λ t. length (text_of t)) rest-is in
       let there = so.there in
       omega arith
 
@@ -112,8 +112,11 @@ module _ (body : List Item) (from taken place : ℕ) (within : from ≤ length b
       let left = left-is in
       let at = so.at in
       let added = ap length (first_characters-add (drop from body) (taken + 1) taken 1 refl) ∙ length-append (first_characters taken (drop from body)) (first_characters 1 (drop (length (first_characters taken (drop from body))) (drop from body))) in
-      let same = ap (λ t. length (first_characters 1 t)) (drop-drop (length (first_characters taken (drop from body))) from body ∙ ap (λ n. drop n body) (sym so.at)) in
+      let same = ap (λ t. length (first_characters 1 t)) rest-is in
       record { at = omega arith; there = omega arith }
+
+  pub forward-all : (count : ℕ) → min count (length (text_of (drop from body))) ≡ taken → place ≡ from + length (first_characters (min count (length (text_of (drop from body)))) (drop from body))
+  forward-all count all = so.at ∙ ap (λ n. from + length (first_characters n (drop from body))) (sym all)
 
   pub forward-last : (count : ℕ) → taken ≤ count → NonePasses (character_at body) place (length body) → place ≡ from + length (first_characters (min count (length (text_of (drop from body)))) (drop from body))
   forward-last count le none =
@@ -121,14 +124,7 @@ module _ (body : List Item) (from taken place : ℕ) (within : from ≤ length b
       let nothing : text_of (drop place body) ≡ [] = no-character (drop place body) (λ k lt. ap is_character (get_or-drop place body k (Byte 0)) ∙ none (place + k) (omega arith) (omega arith)) in
       let zero_left = ap length nothing in
       let left = left-is in
-      let all : min count (length (text_of (drop from body))) ≡ taken = omega arith in
-      so.at ∙ ap (λ n. from + length (first_characters n (drop from body))) (sym all)
-
-  pub forward-all : (count : ℕ) → taken ≡ count → place ≡ from + length (first_characters (min count (length (text_of (drop from body)))) (drop from body))
-  forward-all count e =
-      let there = so.there in
-      let all : min count (length (text_of (drop from body))) ≡ taken = omega arith in
-      so.at ∙ ap (λ n. from + length (first_characters n (drop from body))) (sym all)
+      forward-all count (omega arith)
 
 -- ---- backward
 
@@ -169,9 +165,7 @@ module _ (body : List Item) (to taken place : ℕ) (within : to ≤ length body)
   behind-left : length (text_of (take to body)) ≡ taken + length (text_of (take place body))
   behind-left =
       let all = characters-left (reverse (take to body)) taken in
-      let at = so.at in
-      let n : length (first_characters taken (reverse (take to body))) ≡ to - place = omega arith in
-      let same = ap (λ t. length (text_of t)) (ap (λ n. drop n (reverse (take to body))) n ∙ drop-reverse body to place (omega arith) within) ∙ length-text_of-reverse (take place body) in
+      let same = ap (λ t. length (text_of t)) behind-is ∙ length-text_of-reverse (take place body) in
       let total = length-text_of-reverse (take to body) in
       let there = so.there in
       omega arith
@@ -237,14 +231,16 @@ taken-backward body to place n within at =
     ∙ ap (λ t. drop place (take t body)) whole ∙ drop-take place (to - place) body
 
 -- a part is its beginning and what follows
-pub text_of-split : (body : List Item) (a b c : ℕ) → a ≤ b → b ≤ c → text_of (slice_range body a c) ≡ text_of (slice_range body a b) ++ text_of (slice_range body b c)
-text_of-split body a b c ab bc =
+pub range-split : (body : List Item) (a b c : ℕ) → a ≤ b → b ≤ c → slice_range body a c ≡ slice_range body a b ++ slice_range body b c
+range-split body a b c ab bc =
     let e : c - a ≡ (b - a) + (c - b) = omega arith in
     let d : a + (b - a) ≡ b = omega arith in
-    ap (λ n. text_of (take n (drop a body))) e
-    ∙ ap text_of (take-add (b - a) (c - b) (drop a body))
-    ∙ text_of-append (take (b - a) (drop a body)) (take (c - b) (drop (b - a) (drop a body)))
-    ∙ ap (λ t. text_of (slice_range body a b) ++ text_of (take (c - b) t)) (drop-drop (b - a) a body ∙ ap (λ n. drop n body) d)
+    ap (λ n. take n (drop a body)) e
+    ∙ take-add (b - a) (c - b) (drop a body)
+    ∙ ap (λ t. slice_range body a b ++ take (c - b) t) (drop-drop (b - a) a body ∙ ap (λ n. drop n body) d)
+
+pub text_of-split : (body : List Item) (a b c : ℕ) → a ≤ b → b ≤ c → text_of (slice_range body a c) ≡ text_of (slice_range body a b) ++ text_of (slice_range body b c)
+text_of-split body a b c ab bc = ap text_of (range-split body a b c ab bc) ∙ text_of-append (slice_range body a b) (slice_range body b c)
 
 range-at : (body : List Item) (a b k : ℕ) → k < b - a → get_or (slice_range body a b) k (Byte 0) ≡ get_or body (a + k) (Byte 0)
 range-at body a b k lt = get_or-take (b - a) (drop a body) k (Byte 0) lt ∙ get_or-drop a body k (Byte 0)
@@ -265,10 +261,6 @@ length-characters body a b within all = all-characters (slice_range body a b) al
 
 -- ---- a run of characters
 
--- the characters of a run
-pub run-characters : (body : List Item) (start end to : ℕ) → end ≤ length body → IsFirstOr (gap_at body) start to end → All (λ item. is_character item ≡ true) (slice_range body start end)
-run-characters body start end to within last = characters-between body start end within last.before
-
 -- the text up to the first character is that character
 pub first-character : (body : List Item) (from place : ℕ) → IsFirst (character_at body) from (length body) place → text_of (slice_range body from (place + 1)) ≡ text_of (slice_range body place (place + 1))
 first-character body from place first =
@@ -276,31 +268,38 @@ first-character body from place first =
     let inside = first.within in
     text_of-split body from place (place + 1) above (omega arith) ∙ ap (λ t. t ++ text_of (slice_range body place (place + 1))) (text_of-gaps body from place (omega arith) first.before)
 
--- more of a part was copied
-pub copied-more : (old now new : Contents) (body : List Item) (from place start end to : ℕ) → from ≤ place → to ≤ length body → now ≡ record old { neutral = old.neutral ++ flat_text (text_of (slice_range body from place)) } → new ≡ record now { neutral = now.neutral ++ flat_text (text_of (slice_range body start end)) } → IsFirstOr (character_at body) place to start → IsFirstOr (gap_at body) start to end → new ≡ record old { neutral = old.neutral ++ flat_text (text_of (slice_range body from end)) }
-copied-more old now new body from place start end to le within is put first last =
-    let a = first.above in
-    let b = last.above in
-    let below = first.below in
-    let gaps : text_of (slice_range body place start) ≡ [] = text_of-gaps body place start (omega arith) first.before in
-    let text : text_of (slice_range body from end) ≡ text_of (slice_range body from place) ++ text_of (slice_range body start end) =
-    text_of-split body from place end le (omega arith) ∙ ap (λ t. text_of (slice_range body from place) ++ t) (text_of-split body place start end a b ∙ ap (λ t. t ++ text_of (slice_range body start end)) gaps) in
-    put
-    ∙ ap (λ (w : Contents). record w { neutral = w.neutral ++ flat_text (text_of (slice_range body start end)) }) is
-    ∙ ap (λ n. record old { neutral = n }) (append_assoc old.neutral (flat_text (text_of (slice_range body from place))) (flat_text (text_of (slice_range body start end)))
-    ∙ ap (λ t. old.neutral ++ t) (sym (map-append ByteCell (text_of (slice_range body from place)) (text_of (slice_range body start end))) ∙ ap flat_text (sym text)))
+-- a part of a form is copied run by run
+module _ (old now : Contents) (k from place start end to : ℕ) (le : from ≤ place) (within : to ≤ length (body_at old.forms k)) (is : now ≡ with_text old (text_of (slice_range (body_at old.forms k) from place))) (first_now : IsFirstOr (character_at (body_at now.forms k)) place to start) (last_now : IsFirstOr (gap_at (body_at now.forms k)) start to end) where
+  first : IsFirstOr (character_at (body_at old.forms k)) place to start
+  first = rw is at first_now
 
--- what is copied so far is no more than all
-pub length-part : (body : List Item) (from place start end to : ℕ) → from ≤ place → to ≤ length body → IsFirstOr (character_at body) place to start → IsFirstOr (gap_at body) start to end → length (text_of (slice_range body from place)) + (end - start) ≤ length (text_of (slice_range body from to))
-length-part body from place start end to le within first last =
-    let a = first.above in
-    let b = last.above in
-    let below = last.below in
-    let whole = ap length (text_of-split body from place to le (omega arith)) ∙ length-append (text_of (slice_range body from place)) (text_of (slice_range body place to)) in
-    let rest = ap length (text_of-split body place start to a (omega arith)) ∙ length-append (text_of (slice_range body place start)) (text_of (slice_range body start to)) in
-    let run = ap length (text_of-split body start end to b below) ∙ length-append (text_of (slice_range body start end)) (text_of (slice_range body end to)) in
-    let here = length-characters body start end (omega arith) (run-characters body start end to (omega arith) last) in
-    omega arith
+  last : IsFirstOr (gap_at (body_at old.forms k)) start to end
+  last = rw is at last_now
 
-pub used-copied : (old now : Contents) (text : Text) → now ≡ record old { neutral = old.neutral ++ flat_text text } → used now ≡ used old + length text
-used-copied old now text is = let long = length-append old.neutral (flat_text text) in let text_long = length-map text ByteCell in ap used is ∙ omega arith
+  -- more of it was copied
+  pub copied-more : (new : Contents) → new ≡ with_text now (text_of (slice_range (body_at now.forms k) start end)) → new ≡ with_text old (text_of (slice_range (body_at old.forms k) from end))
+  copied-more new put =
+      let body = body_at old.forms k in
+      let a = first.above in
+      let b = last.above in
+      let below = first.below in
+      let gaps : text_of (slice_range body place start) ≡ [] = text_of-gaps body place start (omega arith) first.before in
+      let text : text_of (slice_range body from end) ≡ text_of (slice_range body from place) ++ text_of (slice_range body start end) =
+      text_of-split body from place end le (omega arith) ∙ ap (λ t. text_of (slice_range body from place) ++ t) (text_of-split body place start end a b ∙ ap (λ t. t ++ text_of (slice_range body start end)) gaps) in
+      put
+      ∙ ap (λ (w : Contents). with_text w (text_of (slice_range (body_at w.forms k) start end))) is
+      ∙ with-both old (text_of (slice_range body from place)) (text_of (slice_range body start end)) ∙ ap (with_text old) (sym text)
+
+  -- what is copied so far, with the next run, is no more than all
+  pub copied-fits : used now + (end - start) ≤ used old + length (text_of (slice_range (body_at old.forms k) from to))
+  copied-fits =
+      let body = body_at old.forms k in
+      let a = first.above in
+      let b = last.above in
+      let below = last.below in
+      let whole = ap length (text_of-split body from place to le (omega arith)) ∙ length-append (text_of (slice_range body from place)) (text_of (slice_range body place to)) in
+      let rest = ap length (text_of-split body place start to a (omega arith)) ∙ length-append (text_of (slice_range body place start)) (text_of (slice_range body start to)) in
+      let run = ap length (text_of-split body start end to b below) ∙ length-append (text_of (slice_range body start end)) (text_of (slice_range body end to)) in
+      let here = length-characters body start end (omega arith) (characters-between body start end (omega arith) last.before) in
+      let cells = ap used is ∙ used-with old (text_of (slice_range body from place)) in
+      omega arith

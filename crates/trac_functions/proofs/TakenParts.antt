@@ -1,51 +1,31 @@
 -- The parts that calls take of a form.
-use Rattle.trac_functions.proofs.Words.{◌≡◌, ◌≢◌, ℕ, zero, suc, ◌+◌, ◌-◌, ◌<◌, ◌≤◌, min, Bool, true, false, List, [], ◌∷◌, ◌++◌, length, take, drop, reverse, set, slice_range, get_or, Option, Some, None, refl, sym, ap, ◌∙◌, subst, ⊎_elim, arith, append-nil, nat_lt, take_while, option_map}
-use Rattle.trac_functions.proofs.Words.{if◌then◌else◌, int_lt, unsigned_abs, pos, prefix_len, cases_lt, lt-ltb, le-ltb, length-take, length-drop, length-reverse, get_or-drop, drop-drop, drop_of_length-le, sum_by-cons, Item, Function, Text, Form, is_character, text_of, after_pointer, before_pointer}
-use Rattle.trac_functions.proofs.Words.{begins, place_of, form_named, changed, cells, form_cells, NoneNamed, Input, Part, characters, first_characters, segment_from, next_segment, unless_null, forward, backward, next_characters, previous_characters, up_to, initial_part, World, on_form, silent}
-use Rattle.trac_functions.proofs.Words.{with_form, take_part, meaning_of, value_length, built, number, flat_text, signed, character_at, is_gap, gap_at, text_at, NonePasses, IsFirst, Contents, form_at, IsNamedAt, IsSound, part_text, form_named-at, form_named-none, changed-at, Made, Full, Value}
-use Rattle.trac_functions.proofs.Words.{Placed, Defined, Over, world, Valued, Makes, part_value, moved, TakesPart}
+use Rattle.trac_functions.proofs.Words.{◌≡◌, ◌≢◌, ℕ, zero, suc, ◌+◌, ◌-◌, ◌<◌, ◌≤◌, min, Bool, true, false, List, [], ◌∷◌, ◌++◌, length, take, drop, reverse, set, slice_range, get_or, Option, Some, None, refl, sym, ap, ◌∙◌, subst, arith, nat_lt, take_while, option_map}
+use Rattle.trac_functions.proofs.Words.{if◌then◌else◌, int_lt, unsigned_abs, pos, prefix_len, lt-ltb, le-ltb, length-take, length-drop, length-reverse, nil_from_length, get_or-drop, drop-drop, drop_of_length-le, sum_by-cons, Item, Function, Text, Form, is_character, text_of, after_pointer, before_pointer}
+use Rattle.trac_functions.proofs.Words.{begins, place_of, form_named, changed, cells, form_cells, Input, Part, characters, first_characters, segment_from, next_segment, unless_null, forward, backward, next_characters, previous_characters, up_to, initial_part, World, on_form, silent}
+use Rattle.trac_functions.proofs.Words.{with_form, take_part, meaning_of, value_length, built, number, flat_text, signed, character_at, is_gap, gap_at, text_at, NonePasses, IsFirst, Contents, form_at, IsNamedAt, IsSound, part_text, form_named-at, changed-at, Made, Full, Value}
+use Rattle.trac_functions.proofs.Words.{Placed, Defined, Over, world, Valued, Makes, Performs, Arguments, AreArguments, argument, texts, part_value, moved, TakesPart, TakesOrDefault}
+use Rattle.trac_functions.proofs.FormLemmas.{null-value}
 use Rattle.trac_language.specs.declared.item.Item.TheVariants.{Byte, Gap}
 use Rattle.trac_functions.proofs.CountLimits.{counted}
 use Rattle.trac_functions.proofs.MadeValues.{valued-of}
-use Rattle.trac_functions.proofs.TakenItems.{first-character, forward-all, forward-last, forward-more, forward-none, length-text_of, text_of-first, taken-forward, taken-backward, length-text_of-reverse}
+use Rattle.trac_functions.proofs.TakenItems.{first_characters-none, first-character, forward-all, forward-last, forward-more, forward-none, length-text_of, text_of-first, taken-forward, taken-backward, length-text_of-reverse}
 
 -- ---- what a call makes of the part that it takes
 
 -- a call of this function takes a part of the form that its first argument names
-pub record TakesBy (f : Function) (args : List Text) (name : Text) (part : Form → Option Part) (z : Text) : Type 0 where
-  pub means : (w : World) → meaning_of f args w ≡ on_form (form_named name w.forms) (λ form. take_part name (part form) z w) w
-  pub builds : (w : World) → built (Some f) args w ≡ value_length (meaning_of f args w)
-
-module _ (f : Function) (args : List Text) (name : Text) (part : Form → Option Part) (z : Text) (by : TakesBy f args name part z) (scanned : Bool) where
-  -- no form has the name
-  pub makes-none : (old new : Contents) → IsSound old → NoneNamed name old.forms → new ≡ old → Makes f args scanned old Value new
-  makes-none old new sound none same =
-      let fits = sound.fits in
-      let at : Contents → Type 0 = λ w. Makes f args scanned old Value w in
-      subst at (sym same) (
-        [],
-        record {
-          valued = valued-of f args old.forms old.forms [] false
-              (λ meta input. by.means (world old.forms meta input)
-              ∙ ap (λ o. on_form o (λ form. take_part name (part form) z (world old.forms meta input)) (world old.forms meta input)) (form_named-none name old.forms none))
-              by.builds;
-          fits = omega arith;
-          stands = ap (λ n. record old { neutral = n }) (sym (append-nil old.neutral));
-        },
-      )
-
+module _ (f : Function) (args : List Text) (name : Text) (part : Form → Option Part) (z : Text) (scanned : Bool) (means : (w : World) → meaning_of f args w ≡ on_form (form_named name w.forms) (λ form. take_part name (part form) z w) w) (built_is : (w : World) → built (Some f) args w ≡ value_length (meaning_of f args w)) where
   -- what the form at a place gives
-  pub makes-part : (old new : Contents) (k : ℕ) (made : Made) → IsSound old → IsNamedAt old.forms name k → TakesPart (part (form_at old.forms k)) z k old made new → Makes f args scanned old made new
+  makes-part : (old new : Contents) (k : ℕ) (made : Made) → IsSound old → IsNamedAt old.forms name k → TakesPart (part (form_at old.forms k)) z k old made new → Makes f args scanned old made new
   makes-part old new k made sound at takes = go (part (form_at old.forms k)) refl made takes
     where
       means-at : (o : Option Part) → part (form_at old.forms k) ≡ o → (meta : ℕ) (input : Input) → meaning_of f args (world old.forms meta input) ≡ take_part name o z (world old.forms meta input)
       means-at o e meta input =
-          by.means (world old.forms meta input)
+          means (world old.forms meta input)
           ∙ ap (λ o. on_form o (λ form. take_part name (part form) z (world old.forms meta input)) (world old.forms meta input)) (form_named-at name old.forms k sound.forms at)
           ∙ ap (λ o. take_part name o z (world old.forms meta input)) e
 
       go : (o : Option Part) → part (form_at old.forms k) ≡ o → (made : Made) → TakesPart o z k old made new → Makes f args scanned old made new
-      go o e Full takes = λ meta input. let size = by.builds (world old.forms meta input) ∙ ap value_length (means-at o e meta input) ∙ long o (world old.forms meta input) in omega arith
+      go o e Full takes = λ meta input. let size = built_is (world old.forms meta input) ∙ ap value_length (means-at o e meta input) ∙ long o (world old.forms meta input) in omega arith
         where
           long : (o : Option Part) (w : World) → value_length (take_part name o z w) ≡ length (part_value o z)
           long None w = refl
@@ -56,7 +36,7 @@ module _ (f : Function) (args : List Text) (name : Text) (part : Form → Option
             (
               true,
               record {
-                valued = subst (λ fs. Valued f args old.forms z true fs) (sym forms) (valued-of f args old.forms old.forms z true (means-at None e) by.builds);
+                valued = subst (λ fs. Valued f args old.forms z true fs) (sym forms) (valued-of f args old.forms old.forms z true (means-at None e) built_is);
                 goes = refl;
                 long = takes.long;
                 fits = takes.fits;
@@ -69,7 +49,7 @@ module _ (f : Function) (args : List Text) (name : Text) (part : Form → Option
           let changes : changed name (λ form. record form { pointer = p.pointer }) old.forms ≡ moved old.forms k p.pointer = changed-at name (λ form. record form { pointer = p.pointer }) old.forms k sound.forms at in (
             p.text,
             record {
-              valued = subst (λ fs. Valued f args old.forms p.text false fs) (changes ∙ sym forms) (valued-of f args old.forms (changed name (λ form. record form { pointer = p.pointer }) old.forms) p.text false (means-at (Some p) e) by.builds);
+              valued = subst (λ fs. Valued f args old.forms p.text false fs) (changes ∙ sym forms) (valued-of f args old.forms (changed name (λ form. record form { pointer = p.pointer }) old.forms) p.text false (means-at (Some p) e) built_is);
               fits = takes.fits;
               stands = takes.stands ∙ ap (λ fs. record old { forms = fs; neutral = old.neutral ++ flat_text p.text }) (sym forms);
             },
@@ -81,69 +61,41 @@ module _ (f : Function) (args : List Text) (name : Text) (part : Form → Option
       go None e (Over fate) takes = absurd takes
       go (Some p) e (Over fate) takes = absurd takes
 
-  -- the same, by what the code knows
-  pub makes-found : (old found new : Contents) (k : ℕ) (made : Made) (named : Text) (a b : ℕ) → IsSound old → found ≡ old → IsNamedAt old.forms named k → named ≡ name → TakesPart (part (form_at found.forms k)) (part_text found.neutral a b) k found made new → part_text old.neutral a b ≡ z → Makes f args scanned old made new
-  makes-found old found new k made named a b sound same at is takes text =
-      let here = subst (λ (w : Contents). TakesPart (part (form_at w.forms k)) (part_text w.neutral a b) k w made new) same takes in
-      makes-part old new k made sound (subst (λ n. IsNamedAt old.forms n k) is at) (subst (λ t. TakesPart (part (form_at old.forms k)) t k old made new) text here)
+-- the same, by what the code knows
+pub makes-found : (f : Function) (part : List Text → Form → Option Part) (other : ℕ) (old found new : Contents) (a : Arguments) (k : ℕ) (made : Made) (name : Text) (z : ℕ × ℕ) → ((title : Text) (w : World) → meaning_of f (title ∷ texts old a) w ≡ on_form (form_named (argument (texts old a) 0) w.forms) (λ form. take_part (argument (texts old a) 0) (part (texts old a) form) (argument (texts old a) other) w) w) → ((title : Text) (w : World) → built (Some f) (title ∷ texts old a) w ≡ value_length (meaning_of f (title ∷ texts old a) w)) → AreArguments old a → found ≡ old → IsNamedAt old.forms name k → name ≡ argument (texts old a) 0 → TakesOrDefault (part (texts old a)) k z found made new → part_text old.neutral z.0 z.1 ≡ argument (texts old a) other → Performs f old a made new
+makes-found f part other old found new a k made name z means built_is are same at is takes text = λ title.
+    let here = subst (λ (w : Contents). TakesOrDefault (part (texts old a)) k z w made new) same takes in
+    makes-part f (title ∷ texts old a) (argument (texts old a) 0) (part (texts old a)) (argument (texts old a) other) a.scanned (means title) (built_is title) old new k made are.sound
+    (subst (λ n. IsNamedAt old.forms n k) is at) (subst (λ t. TakesPart (part (texts old a) (form_at old.forms k)) t k old made new) text here)
 
-  pub makes-missing : (old found : Contents) (named : Text) → IsSound old → found ≡ old → NoneNamed named old.forms → named ≡ name → Makes f args scanned old Value found
-  makes-missing old found named sound same none is = makes-none old found sound (subst (λ n. NoneNamed n old.forms) is none) same
+-- a part that is there is taken, and else the text of z
+pub takes-some : {part : Part} {o : Option Part} (z : ℕ × ℕ) (k : ℕ) (old : Contents) (made : Made) (new : Contents) → Some part ≡ o → ((z : Text) → TakesPart (Some part) z k old made new) → TakesPart o (part_text old.neutral z.0 z.1) k old made new
+takes-some z k old made new e takes = subst (λ o. TakesPart o (part_text old.neutral z.0 z.1) k old made new) e (takes (part_text old.neutral z.0 z.1))
+
+pub takes-none : {o : Option Part} (z : ℕ × ℕ) (k : ℕ) (old : Contents) (made : Made) (new : Contents) → o ≡ None → ((k : ℕ) → TakesPart None (part_text old.neutral z.0 z.1) k old made new) → TakesPart o (part_text old.neutral z.0 z.1) k old made new
+takes-none z k old made new e takes = subst (λ o. TakesPart o (part_text old.neutral z.0 z.1) k old made new) (sym e) (takes k)
 
 -- ---- a form that is changed
 
 -- a call of this function changes the form that its first argument names
-pub record ChangesBy (f : Function) (args : List Text) (name : Text) (change : Form → Form) : Type 0 where
-  pub means : (w : World) → meaning_of f args w ≡ on_form (form_named name w.forms) (λ form. silent (with_form name change w)) w
-  pub builds : (w : World) → built (Some f) args w ≡ value_length (meaning_of f args w)
-
-module _ (f : Function) (args : List Text) (name : Text) (change : Form → Form) (by : ChangesBy f args name change) (scanned : Bool) where
-  pub changes-found : (old found new : Contents) (k : ℕ) (named : Text) → IsSound old → found ≡ old → IsNamedAt old.forms named k → named ≡ name → new ≡ record found { forms = set found.forms k (change (form_at found.forms k)) } → Makes f args scanned old Value new
-  changes-found old found new k named sound same at is changed_is =
-      let fits = sound.fits in
-      let here = subst (λ n. IsNamedAt old.forms n k) is at in
-      let new_is : new ≡ record old { forms = set old.forms k (change (form_at old.forms k)) } = changed_is ∙ ap (λ (w : Contents). record w { forms = set w.forms k (change (form_at w.forms k)) }) same in
-      let forms : new.forms ≡ set old.forms k (change (form_at old.forms k)) = ap (λ (w : Contents). w.forms) new_is in
-      let changes : changed name change old.forms ≡ set old.forms k (change (form_at old.forms k)) = changed-at name change old.forms k sound.forms here in (
-        [],
-        record {
-          valued = subst (λ fs. Valued f args old.forms [] false fs) (changes ∙ sym forms)
-              (valued-of f args old.forms (changed name change old.forms) [] false
-              (λ meta input. by.means (world old.forms meta input)
-              ∙ ap (λ o. on_form o (λ form. silent (with_form name change (world old.forms meta input))) (world old.forms meta input)) (form_named-at name old.forms k sound.forms here))
-              by.builds);
-          fits = omega arith;
-          stands = new_is ∙ ap (λ fs. record old { forms = fs }) (sym forms) ∙ ap (λ n. record old { forms = new.forms; neutral = n }) (sym (append-nil old.neutral));
-        },
-      )
-
-  pub changes-missing : (old found : Contents) (named : Text) → IsSound old → found ≡ old → NoneNamed named old.forms → named ≡ name → Makes f args scanned old Value found
-  changes-missing old found named sound same none is =
-      let fits = sound.fits in
-      let at : Contents → Type 0 = λ w. Makes f args scanned old Value w in
-      subst at (sym same) (
-        [],
-        record {
-          valued = valued-of f args old.forms old.forms [] false
-              (λ meta input. by.means (world old.forms meta input)
-              ∙ ap (λ o. on_form o (λ form. silent (with_form name change (world old.forms meta input))) (world old.forms meta input)) (form_named-none name old.forms (subst (λ n. NoneNamed n old.forms) is none)))
-              by.builds;
-          fits = omega arith;
-          stands = ap (λ n. record old { neutral = n }) (sym (append-nil old.neutral));
-        },
-      )
+pub changes-found : (f : Function) (change : Form → Form) (old found new : Contents) (a : Arguments) (k : ℕ) (name : Text) → ((title : Text) (w : World) → meaning_of f (title ∷ texts old a) w ≡ on_form (form_named (argument (texts old a) 0) w.forms) (λ form. silent (with_form (argument (texts old a) 0) change w)) w) → ((title : Text) (w : World) → built (Some f) (title ∷ texts old a) w ≡ value_length (meaning_of f (title ∷ texts old a) w)) → AreArguments old a → found ≡ old → IsNamedAt old.forms name k → name ≡ argument (texts old a) 0 → new ≡ record found { forms = set found.forms k (change (form_at found.forms k)) } → Performs f old a Value new
+changes-found f change old found new a k name means built_is are same at is changed_is = λ title.
+    let first = argument (texts old a) 0 in
+    let here = subst (λ n. IsNamedAt old.forms n k) is at in
+    let new_is : new ≡ record old { forms = set old.forms k (change (form_at old.forms k)) } = changed_is ∙ ap (λ (w : Contents). record w { forms = set w.forms k (change (form_at w.forms k)) }) same in
+    let forms : new.forms ≡ set old.forms k (change (form_at old.forms k)) = ap (λ (w : Contents). w.forms) new_is in (
+      [],
+      null-value f (title ∷ texts old a) old new are.sound
+          (λ meta input. means title (world old.forms meta input)
+          ∙ ap (λ o. on_form o (λ form. silent (with_form first change (world old.forms meta input))) (world old.forms meta input)) (form_named-at first old.forms k are.sound.forms here)
+          ∙ ap (λ fs. silent (world fs meta input)) (changed-at first change old.forms k are.sound.forms here ∙ sym forms))
+          (built_is title) (new_is ∙ ap (λ fs. record old { forms = fs }) (sym forms)),
+    )
 
 -- ---- the parts
 
 abbrev pub a-part : Text → ℕ → Part
 a-part text pointer = record { text = text; pointer = pointer }
-
-null-first : (items : List Item) (n : ℕ) → length (first_characters n items) ≡ 0 → first_characters n items ≡ []
-null-first items n e = go (first_characters n items) e
-  where
-    go : (l : List Item) → length l ≡ 0 → l ≡ []
-    go [] e = refl
-    go (x ∷ xs) e = absurd (omega arith)
 
 some-part : (part : Part) → 0 < length part.text → unless_null part ≡ Some part
 some-part part some = ap (λ b. if b then Some part else None) (lt-ltb 0 (length part.text) some)
@@ -152,83 +104,66 @@ some-part part some = ap (λ b. if b then Some part else None) (lt-ltb 0 (length
 pub next-none : (form : Form) (n from to : ℕ) → from ≡ form.pointer → to ≡ from + length (first_characters (min n (length (text_of (drop from form.body)))) (drop from form.body)) → to ≡ from → next_characters n form ≡ None
 next-none form n from to from_is to_is same =
     let e : first_characters (min n (length (text_of (drop form.pointer form.body)))) (drop form.pointer form.body) ≡ [] =
-    null-first (drop form.pointer form.body) (min n (length (text_of (drop form.pointer form.body))))
+    nil_from_length (first_characters (min n (length (text_of (drop form.pointer form.body)))) (drop form.pointer form.body))
     (sym (ap (λ p. length (first_characters (min n (length (text_of (drop p form.body)))) (drop p form.body))) from_is) ∙ omega arith) in
     ap (forward form) e
 
+-- some characters have a text
+some-taken : (items : List Item) (m : ℕ) → m ≤ length (text_of items) → length (first_characters m items) ≢ 0 → 0 < length (text_of (first_characters m items))
+some-taken items zero le some = absurd (some (ap length (first_characters-none items)))
+some-taken items (suc m) le some = omega (arith, text_of-first items (suc m))
+
 -- and else those up to a place
-pub next-some : (form : Form) (n from to : ℕ) → from ≡ form.pointer → from ≤ length form.body → to ≡ from + length (first_characters (min n (length (text_of (drop from form.body)))) (drop from form.body)) → to ≢ from → Some (record { text = text_of (slice_range form.body from to); pointer = to }) ≡ next_characters n form
+pub next-some : (form : Form) (n from to : ℕ) → from ≡ form.pointer → from ≤ length form.body → to ≡ from + length (first_characters (min n (length (text_of (drop from form.body)))) (drop from form.body)) → to ≢ from → Some (a-part (text_of (slice_range form.body from to)) to) ≡ next_characters n form
 next-some form n from to from_is within to_is other =
     let m = min n (length (text_of (drop from form.body))) in
     let u = first_characters m (drop from form.body) in
     let part : u ≡ slice_range form.body from to = taken-forward form.body from m within ∙ ap (λ k. slice_range form.body from k) (sym to_is) in
-    let long = text_of-first (drop from form.body) m in
-    let some : 0 < length (text_of u) = ⊎_elim
-    (λ lt. lt)
-    (λ none. let zero_m : m ≡ 0 = omega arith in let nothing = ap (λ k. length (first_characters k (drop from form.body))) zero_m in absurd (other (let z = first-none (drop from form.body) in omega arith)))
-    (cases_lt 0 (length (text_of u))) in
-    let here : Part = record { text = text_of u; pointer = from + length u } in
-    let same : Some here ≡ Some (record { text = text_of (slice_range form.body from to); pointer = to }) =
-    ap (λ t. let r : Part = record { text = text_of t; pointer = from + length u } in Some r) part ∙ ap (λ k. let r : Part = record { text = text_of (slice_range form.body from to); pointer = k } in Some r) (sym to_is) in
-    sym same ∙ sym (some-part here some)
-    ∙ ap (λ p. let r : Part = record { text = text_of (first_characters (min n (length (text_of (drop p form.body)))) (drop p form.body)); pointer = p + length (first_characters (min n (length (text_of (drop p form.body)))) (drop p form.body)) } in unless_null r) from_is
-  where
-    first-none : (items : List Item) → length (first_characters 0 items) ≡ 0
-    first-none [] = refl
-    first-none (x ∷ xs) = refl
+    ap (λ t. Some (a-part (text_of t) to)) (sym part) ∙ ap (λ k. Some (a-part (text_of u) k)) to_is
+    ∙ sym (some-part (a-part (text_of u) (from + length u)) (some-taken (drop from form.body) m (omega arith) (λ e. other (omega arith))))
+    ∙ ap (λ p. unless_null (a-part (text_of (first_characters (min n (length (text_of (drop p form.body)))) (drop p form.body))) (p + length (first_characters (min n (length (text_of (drop p form.body)))) (drop p form.body))))) from_is
 
 -- the next character after the pointer
 pub one-none : (form : Form) (from : ℕ) → from ≡ form.pointer → from ≤ length form.body → NonePasses (character_at form.body) from (length form.body) → next_characters 1 form ≡ None
 one-none form from is within none =
     next-none form 1 from from is (forward-last form.body from 0 from within (forward-none form.body from) 1 (omega arith) none) refl
 
-pub one-some : (form : Form) (from place : ℕ) → from ≡ form.pointer → from ≤ length form.body → IsFirst (character_at form.body) from (length form.body) place → Some (record { text = text_of (slice_range form.body place (place + 1)); pointer = place + 1 }) ≡ next_characters 1 form
+pub one-some : (form : Form) (from place : ℕ) → from ≡ form.pointer → from ≤ length form.body → IsFirst (character_at form.body) from (length form.body) place → Some (a-part (text_of (slice_range form.body place (place + 1))) (place + 1)) ≡ next_characters 1 form
 one-some form from place is within first =
     let above = first.above in
     let there = forward-more form.body from 0 from within (forward-none form.body from) place first in
-    ap (λ t. let r : Part = record { text = t; pointer = place + 1 } in Some r) (sym (first-character form.body from place first))
-    ∙ next-some form 1 from (place + 1) is within (forward-all form.body from 1 (place + 1) within there 1 refl) (λ e. absurd (omega arith))
+    ap (λ t. Some (a-part t (place + 1))) (sym (first-character form.body from place first))
+    ∙ next-some form 1 from (place + 1) is within (forward-all form.body from 1 (place + 1) within there 1 (let some = there.there in omega arith)) (λ e. absurd (omega arith))
 
 -- the last characters before the pointer: none where none is passed
 pub previous-none : (form : Form) (n from to : ℕ) → to ≡ form.pointer → from + length (first_characters (min n (length (text_of (take to form.body)))) (reverse (take to form.body))) ≡ to → from ≡ to → previous_characters n form ≡ None
 previous-none form n from to to_is at same =
     let e : first_characters (min n (length (text_of (take form.pointer form.body)))) (reverse (take form.pointer form.body)) ≡ [] =
-    null-first (reverse (take form.pointer form.body)) (min n (length (text_of (take form.pointer form.body))))
+    nil_from_length (first_characters (min n (length (text_of (take form.pointer form.body)))) (reverse (take form.pointer form.body)))
     (sym (ap (λ p. length (first_characters (min n (length (text_of (take p form.body)))) (reverse (take p form.body)))) to_is) ∙ omega arith) in
     ap (λ u. backward form (reverse u)) e
 
 -- and else those from a place on
-pub previous-some : (form : Form) (n from to : ℕ) → to ≡ form.pointer → to ≤ length form.body → from + length (first_characters (min n (length (text_of (take to form.body)))) (reverse (take to form.body))) ≡ to → from ≢ to → Some (record { text = text_of (slice_range form.body from to); pointer = from }) ≡ previous_characters n form
+pub previous-some : (form : Form) (n from to : ℕ) → to ≡ form.pointer → to ≤ length form.body → from + length (first_characters (min n (length (text_of (take to form.body)))) (reverse (take to form.body))) ≡ to → from ≢ to → Some (a-part (text_of (slice_range form.body from to)) from) ≡ previous_characters n form
 previous-some form n from to to_is within at other =
     let m = min n (length (text_of (take to form.body))) in
     let back = reverse (take to form.body) in
     let u = reverse (first_characters m back) in
     let part : u ≡ slice_range form.body from to = taken-backward form.body to from m within at in
-    let long = text_of-first (reverse (take to form.body)) m in
     let total = length-text_of-reverse (take to form.body) in
-    let size = length-text_of-reverse (first_characters m (reverse (take to form.body))) in
-    let u_long = length-reverse (first_characters m (reverse (take to form.body))) in
-    let some : 0 < length (text_of u) = ⊎_elim
-    (λ lt. lt)
-    (λ none. let zero_m : m ≡ 0 = omega arith in let nothing = ap (λ k. length (first_characters k (reverse (take to form.body)))) zero_m in absurd (other (let z = first-none (reverse (take to form.body)) in omega arith)))
-    (cases_lt 0 (length (text_of u))) in
-    let place : to - length u ≡ from = omega arith in
-    let here : Part = record { text = text_of u; pointer = to - length u } in
-    let same : Some here ≡ Some (record { text = text_of (slice_range form.body from to); pointer = from }) =
-    ap (λ t. let r : Part = record { text = text_of t; pointer = to - length u } in Some r) part ∙ ap (λ k. let r : Part = record { text = text_of (slice_range form.body from to); pointer = k } in Some r) place in
-    sym same ∙ sym (some-part here some)
-    ∙ ap (λ p. let r : Part = record { text = text_of (reverse (first_characters (min n (length (text_of (take p form.body)))) (reverse (take p form.body)))); pointer = p - length (reverse (first_characters (min n (length (text_of (take p form.body)))) (reverse (take p form.body)))) } in unless_null r) to_is
-  where
-    first-none : (items : List Item) → length (first_characters 0 items) ≡ 0
-    first-none [] = refl
-    first-none (x ∷ xs) = refl
+    let u_long = length-reverse (first_characters m back) in
+    let some : 0 < length (text_of u) = omega (arith, length-text_of-reverse (first_characters m back), some-taken back m (omega arith) (λ e. other (omega arith))) in
+    let place : from ≡ to - length u = omega arith in
+    ap (λ t. Some (a-part (text_of t) from)) (sym part) ∙ ap (λ k. Some (a-part (text_of u) k)) place
+    ∙ sym (some-part (a-part (text_of u) (to - length u)) some)
+    ∙ ap (λ p. unless_null (a-part (text_of (reverse (first_characters (min n (length (text_of (take p form.body)))) (reverse (take p form.body))))) (p - length (reverse (first_characters (min n (length (text_of (take p form.body)))) (reverse (take p form.body))))))) to_is
 
 -- no characters
 pub part-null : (form : Form) (p : ℕ) → p ≡ form.pointer → Some (a-part (text_of (slice_range form.body p p)) p) ≡ Some (a-part [] form.pointer)
 part-null form p e =
     let none : p - p ≡ 0 = omega arith in
-    ap (λ n. let r : Part = record { text = text_of (take n (drop p form.body)); pointer = p } in Some r) none
-    ∙ ap (λ q. let r : Part = record { text = []; pointer = q } in Some r) e
+    ap (λ n. Some (a-part (text_of (take n (drop p form.body))) p)) none
+    ∙ ap (λ q. Some (a-part [] q)) e
 
 -- ---- up to the next gap
 
@@ -245,47 +180,39 @@ segment-none form p e end =
     let rest : drop form.pointer form.body ≡ [] = drop_of_length-le form.body (omega arith) in
     ap (λ items. segment_from form.pointer items (take_while is_character items)) rest
 
--- the segment that ends at a place
-segment-at : (form : Form) (p n : ℕ) → p ≡ form.pointer → prefix_len is_character (drop p form.body) ≡ n → p < length form.body → next_segment form ≡ Some (record { text = text_of (take n (drop p form.body)); pointer = if nat_lt (length (take n (drop p form.body))) (length (drop p form.body)) then p + length (take n (drop p form.body)) + 1 else p + length (take n (drop p form.body)) })
-segment-at form p n e run some =
-    sym (ap (λ q. segment_from q (drop q form.body) (take_while is_character (drop q form.body))) e)
-    ∙ ap (λ m. segment_from p (drop p form.body) (take m (drop p form.body))) run
-    ∙ go (drop p form.body) (length-drop p form.body)
+-- the segment that ends at a place, at a gap or at the end of the body
+segment-at : (form : Form) (p n pointer : ℕ) (gap : Bool) → p ≡ form.pointer → prefix_len is_character (drop p form.body) ≡ n → p + n ≤ length form.body → p < length form.body → nat_lt n (length (drop p form.body)) ≡ gap → (if gap then p + n + 1 else p + n) ≡ pointer → Some (a-part (text_of (take n (drop p form.body))) pointer) ≡ next_segment form
+segment-at form p n pointer gap e run within some test pointer_is =
+    let long = length-drop p form.body in
+    let front : n ≡ length (take n (drop p form.body)) = omega (arith, length-take n (drop p form.body)) in
+    ap (λ q. Some (a-part (text_of (take n (drop p form.body))) q)) (sym pointer_is ∙ ap (λ b. if b then p + n + 1 else p + n) (sym test))
+    ∙ ap (λ m. Some (a-part (text_of (take n (drop p form.body))) (if nat_lt m (length (drop p form.body)) then p + m + 1 else p + m))) front
+    ∙ go (drop p form.body) (omega arith)
+    ∙ ap (λ m. segment_from p (drop p form.body) (take m (drop p form.body))) (sym run)
+    ∙ ap (λ q. segment_from q (drop q form.body) (take_while is_character (drop q form.body))) e
   where
-    go : (items : List Item) → length items ≡ length form.body - p → segment_from p items (take n items) ≡ Some (record { text = text_of (take n items); pointer = if nat_lt (length (take n items)) (length items) then p + length (take n items) + 1 else p + length (take n items) })
-    go [] long = absurd (omega arith)
-    go (x ∷ xs) long = refl
+    go : (items : List Item) → 0 < length items → Some (a-part (text_of (take n items)) (if nat_lt (length (take n items)) (length items) then p + length (take n items) + 1 else p + length (take n items))) ≡ segment_from p items (take n items)
+    go [] some = absurd (omega arith)
+    go (x ∷ xs) some = refl
 
-pub segment-gap : (form : Form) (p gap : ℕ) → p ≡ form.pointer → IsFirst (gap_at form.body) p (length form.body) gap → Some (record { text = text_of (slice_range form.body p gap); pointer = gap + 1 }) ≡ next_segment form
+pub segment-gap : (form : Form) (p gap : ℕ) → p ≡ form.pointer → IsFirst (gap_at form.body) p (length form.body) gap → Some (a-part (text_of (slice_range form.body p gap)) (gap + 1)) ≡ next_segment form
 segment-gap form p gap e first =
     let inside = first.within in
     let above = first.above in
-    let items = drop p form.body in
-    let n = gap - p in
     let long = length-drop p form.body in
     let here : p + (gap - p) ≡ gap = omega arith in
     let run = prefix-run (drop p form.body) (gap - p) (omega arith)
     (λ k lt. ap is_gap (get_or-drop p form.body k (Byte 0)) ∙ first.before (p + k) (omega arith) (omega arith))
     (λ lt. ap is_gap (get_or-drop p form.body (gap - p) (Byte 0)) ∙ ap (gap_at form.body) here ∙ first.passes) in
-    let front : length (take (gap - p) (drop p form.body)) ≡ gap - p = length-take (gap - p) (drop p form.body) ∙ omega arith in
-    let test : nat_lt (length (take (gap - p) (drop p form.body))) (length (drop p form.body)) ≡ true = lt-ltb _ _ (omega arith) in
-    let pointer : p + length (take (gap - p) (drop p form.body)) + 1 ≡ gap + 1 = omega arith in
-    sym (segment-at form p (gap - p) e run (omega arith)
-    ∙ ap (λ b. let r : Part = record { text = text_of (slice_range form.body p gap); pointer = if b then p + length (take (gap - p) (drop p form.body)) + 1 else p + length (take (gap - p) (drop p form.body)) } in Some r) test
-    ∙ ap (λ q. let r : Part = record { text = text_of (slice_range form.body p gap); pointer = q } in Some r) pointer)
+    segment-at form p (gap - p) (gap + 1) true e run (omega arith) (omega arith) (lt-ltb _ _ (omega arith)) (omega arith)
 
-pub segment-end : (form : Form) (p end : ℕ) → p ≡ form.pointer → end ≡ length form.body → p ≤ end → p ≢ end → NonePasses (gap_at form.body) p (length form.body) → Some (record { text = text_of (slice_range form.body p end); pointer = end }) ≡ next_segment form
+pub segment-end : (form : Form) (p end : ℕ) → p ≡ form.pointer → end ≡ length form.body → p ≤ end → p ≢ end → NonePasses (gap_at form.body) p (length form.body) → Some (a-part (text_of (slice_range form.body p end)) end) ≡ next_segment form
 segment-end form p end e end_is le other none =
     let long = length-drop p form.body in
     let run = prefix-run (drop p form.body) (end - p) (omega arith)
     (λ k lt. ap is_gap (get_or-drop p form.body k (Byte 0)) ∙ none (p + k) (omega arith) (omega arith))
     (λ lt. absurd (omega arith)) in
-    let front : length (take (end - p) (drop p form.body)) ≡ end - p = length-take (end - p) (drop p form.body) ∙ omega arith in
-    let test : nat_lt (length (take (end - p) (drop p form.body))) (length (drop p form.body)) ≡ false = le-ltb _ _ (omega arith) in
-    let pointer : p + length (take (end - p) (drop p form.body)) ≡ end = omega arith in
-    sym (segment-at form p (end - p) e run (omega arith)
-    ∙ ap (λ b. let r : Part = record { text = text_of (slice_range form.body p end); pointer = if b then p + length (take (end - p) (drop p form.body)) + 1 else p + length (take (end - p) (drop p form.body)) } in Some r) test
-    ∙ ap (λ q. let r : Part = record { text = text_of (slice_range form.body p end); pointer = q } in Some r) pointer)
+    segment-at form p (end - p) end false e run (omega arith) (omega arith) (le-ltb _ _ (omega arith)) (omega arith)
 
 -- ---- up to an occurrence
 
@@ -306,11 +233,11 @@ some-text : (text : Text) (form : Form) → 0 < length text → initial_part tex
 some-text [] form some = absurd (omega arith)
 some-text (c ∷ text) form some = refl
 
-pub initial-null : (text : Text) (form : Form) → length text ≡ 0 → initial_part text form ≡ Some (record { text = []; pointer = form.pointer })
+pub initial-null : (text : Text) (form : Form) → length text ≡ 0 → initial_part text form ≡ Some (a-part [] form.pointer)
 initial-null [] form e = refl
 initial-null (c ∷ text) form e = absurd (omega arith)
 
-pub initial-some : (text : Text) (form : Form) (p begin end : ℕ) → p ≡ form.pointer → 0 < length text → IsFirst (text_at text form.body) p (length form.body) begin → end ≡ begin + length text → Some (record { text = text_of (slice_range form.body p begin); pointer = end }) ≡ initial_part text form
+pub initial-some : (text : Text) (form : Form) (p begin end : ℕ) → p ≡ form.pointer → 0 < length text → IsFirst (text_at text form.body) p (length form.body) begin → end ≡ begin + length text → Some (a-part (text_of (slice_range form.body p begin)) end) ≡ initial_part text form
 initial-some text form p begin end e some first end_is =
     let inside = first.within in
     let above = first.above in
@@ -324,7 +251,7 @@ initial-some text form p begin end e some first end_is =
     sym (some-text text form some
     ∙ sym (ap (λ q. up_to (place_of text (drop q form.body)) text (record form { pointer = q })) e)
     ∙ ap (λ o. up_to o text (record form { pointer = p })) place
-    ∙ ap (λ q. let r : Part = record { text = text_of (slice_range form.body p begin); pointer = q } in Some r) pointer)
+    ∙ ap (λ q. Some (a-part (text_of (slice_range form.body p begin)) q)) pointer)
 
 pub initial-none : (text : Text) (form : Form) (p : ℕ) → p ≡ form.pointer → p ≤ length form.body → 0 < length text → NonePasses (text_at text form.body) p (length form.body) → initial_part text form ≡ None
 initial-none text form p e within some none =
@@ -334,7 +261,7 @@ initial-none text form p e within some none =
     ∙ ap (λ o. up_to o text (record form { pointer = p }))
     (place-none text (drop p form.body) (λ k lt. ap (λ items. begins items text) (drop-drop k p form.body) ∙ none (p + k) (omega arith) (omega arith)))
 
-pub characters-zero : (negative : Bool) (size : ℕ) (form : Form) → size ≡ 0 → characters (signed negative size) form ≡ Some (record { text = []; pointer = form.pointer })
+pub characters-zero : (negative : Bool) (size : ℕ) (form : Form) → size ≡ 0 → characters (signed negative size) form ≡ Some (a-part [] form.pointer)
 characters-zero true size form e = ap (λ n. characters (signed true n) form) e
 characters-zero false size form e = ap (λ n. characters (signed false n) form) e
 

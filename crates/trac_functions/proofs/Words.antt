@@ -4,7 +4,7 @@ pub use Rattle.std.proofs.Math.ListN.{drop_of_length-le}
 pub use Rattle.std.proofs.Math.Seq.{drop-append_seam, take-add, take-append_seam, take-length}
 pub use Rattle.std.proofs.lemmas.Bool.{OnTrue_at, cases_lt, false≢true, le-ltb, lt-ltb, ltb-true}
 pub use Rattle.std.proofs.lemmas.Int.{fits_signed_from_abs, ints, to_z-of_z}
-pub use Rattle.std.proofs.lemmas.List.{append-nil, drop-append-le, drop-drop, drop-take, drop_all, drop_more, get_or-drop, get_or-reverse, get_or-set_same, get_or-take, length-append, length-drop, length-map, length-replicate, length-reverse, length-take, map-append, map_more, reverse-append, reverse-reverse, set-get_or, set-set, take-append-drop, take-append-le, take-map, take-take, take_all}
+pub use Rattle.std.proofs.lemmas.List.{append-nil, drop-append-le, drop-drop, drop-take, drop_all, drop_more, get_or-drop, get_or-reverse, get_or-set_same, get_or-take, length-append, length-drop, length-map, length-replicate, length-reverse, length-take, map-append, map_more, nil_from_length, reverse-append, reverse-reverse, set-get_or, set-set, take-append-drop, take-append-le, take-map, take-take, take_all}
 pub use Rattle.std.proofs.lemmas.List.Edits.{length-between}
 pub use Rattle.std.proofs.lemmas.List.Elements.{All-cons, All-drop, All-head, All-map, All-nil, All-tail, All-take}
 pub use Rattle.std.proofs.lemmas.List.FromFn.{get_or-map-range_with_len, length-map-range_with_len}
@@ -20,14 +20,14 @@ pub use Rattle.std.specs.Prelude.{IfSome, IsSome, IsTrue, bytes_eq, filter, flat
 pub use Rattle.trac_forms.proofs.Copies.{characters-between}
 pub use Rattle.trac_forms.proofs.Parted.{before_comma-within, found-comma, parts-first, parts-none}
 pub use Rattle.trac_forms.proofs.Stores.{changed-at, form_named-at, form_named-none, without-at, without-none}
-pub use Rattle.trac_forms.specs.Arguments.{AreParted, before_comma, parts_between, texts_between}
+pub use Rattle.trac_forms.specs.Arguments.{AreParted, before_comma, filled_body, parts_between, texts_between}
 pub use Rattle.trac_forms.specs.Contents.{AreTextParts, Contents, IsNamedAt, IsSound, IsStringCell, IsTextPart, body_at, form_at, name_at, part_text, part_texts, pointer_at, used}
 pub use Rattle.trac_forms.specs.Loading.{AreCharacters, IsLoaded, called_part}
 pub use Rattle.trac_forms.specs.Search.{IsFirst, IsLast, NonePasses, character_at, gap_at, is_gap, text_at}
 pub use Rattle.trac_functions.specs.BitResults.{AreDigits, AreFor, bits_at, bits_made}
-pub use Rattle.trac_functions.specs.Calls.{AreArguments, IsValue, Makes, Means, Valued, texts, texts_from, world}
+pub use Rattle.trac_functions.specs.Calls.{AreArguments, IsValue, Makes, Means, Performs, Valued, texts, texts_from, world}
 pub use Rattle.trac_functions.specs.Flat.{Neutral, arguments_at, in_first, memory_of, memory_with, mode_at, mode_of, neutral_of, no_neutral, texts_of, with_cell, with_cells, with_character, with_comma, with_first}
-pub use Rattle.trac_functions.specs.Taking.{IsFirstOr, TakesPart, moved, part_value}
+pub use Rattle.trac_functions.specs.Taking.{IsFirstOr, TakesOrDefault, TakesPart, moved, part_value}
 pub use Rattle.trac_functions.specs.declared.arguments.Arguments.{Arguments}
 pub use Rattle.trac_functions.specs.declared.arguments.Made.{Made}
 pub use Rattle.trac_functions.specs.declared.arguments.Made.TheVariants.{Defined, Full, Over, Placed, Value}

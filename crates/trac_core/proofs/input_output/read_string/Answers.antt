@@ -9,9 +9,7 @@ returns-in-Meta-clause-answers g c = λ told place written call.
     read-to-meta c.args.work.now c.read_text.new.work place c.args.meta reads.0 call reads.1.0 c.read_text.ensures.sound _ _ written gave.0 gave.1
 
 pub returns-in-Meta-clause-stands : goal.returns-in-Meta-clause-stands
-returns-in-Meta-clause-stands g c =
-    let reads = c.in-Meta.ensures.reads in
-    reads-stands c.args.meta c.args.work.now c.read_text.new.work reads.0 c.read_text.ensures.sound reads.1.0
+returns-in-Meta-clause-stands g c = reads-stands _ _ _ _ c.read_text.ensures.sound c.in-Meta.ensures.reads.1.0
 
 pub returns-in-Meta-clause-takes : goal.returns-in-Meta-clause-takes
 returns-in-Meta-clause-takes g c = λ told.
@@ -34,9 +32,7 @@ returns-in-Ended-2-clause-answers g c = λ told place written call.
     read-some c.args.work.now c.read_text.new.work place c.args.meta reads.0 call reads.1.0 c.read_text.ensures.sound _ _ written some gave.0 gave.1 gave.2
 
 pub returns-in-Ended-2-clause-stands : goal.returns-in-Ended-2-clause-stands
-returns-in-Ended-2-clause-stands g c =
-    let reads = c.in-Ended.ensures.reads in
-    reads-stands c.args.meta c.args.work.now c.read_text.new.work reads.0 c.read_text.ensures.sound reads.1.0
+returns-in-Ended-2-clause-stands g c = reads-stands _ _ _ _ c.read_text.ensures.sound c.in-Ended.ensures.reads.1.0
 
 pub returns-in-Failed-clause-answers : goal.returns-in-Failed-clause-answers
 returns-in-Failed-clause-answers g c = λ told place written call.

@@ -1,4 +1,4 @@
-use Rattle.trac_core.proofs.Words.{◌≡◌, ◌+◌, length, take, drop, sym, ap, ◌∙◌, arith, All-take, length-map, length-drop, text_of_cells, character_of, IsByte, IsOrdinary}
+use Rattle.trac_core.proofs.Words.{◌+◌, take, arith, All-take, length-drop, text_of_cells, IsByte, IsOrdinary}
 use Rattle.trac_core.proofs.PlainEnds.{bytes-plain, plain-appended}
 use Rattle.trac_core.proofs.Scanning.{some-active}
 use Rattle.trac_core.proofs.StepsInRow.{characters-pass, All-after}
@@ -11,13 +11,10 @@ pub returns-clause-passes : goal.returns-clause-passes
 returns-clause-passes c =
     let old = c.args.work.now in
     let n = c.ordinary_characters-count.result in
-    let cells = text_of_cells c.after_first.result.now in
     let after = c.after_first.ensures in
-    let long : length cells ≡ length c.after_first.result.now = length-map c.after_first.result.now character_of in
-    let text = after.text ∙ ap (λ k. take k (drop 1 (text_of_cells old.active))) (sym long) in
     let some = some-active old.active c.requires.first.0 c.requires.first.1.0 in
     let less = length-drop (1 + n) old.active in
-    let all = All-after IsOrdinary n (text_of_cells old.active) cells c.requires.first.0 c.requires.first.1.0 c.requires.first.1.1 (omega arith) text c.ordinary_characters-count.ensures.ordinary in
+    let all = All-after IsOrdinary n (text_of_cells old.active) c.after_first.result.now c.requires.first.0 c.requires.first.1.0 c.requires.first.1.1 (omega arith) after.text c.ordinary_characters-count.ensures.ordinary in
     rw (c.from.ensures, c.active_to_neutral.ensures.moved)
     (record {
       passes = λ meta. characters-pass meta (1 + n) old c.requires.sound.active (omega arith) all;

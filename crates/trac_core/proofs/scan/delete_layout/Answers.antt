@@ -1,4 +1,4 @@
-use Rattle.trac_core.proofs.Words.{◌≡◌, ◌+◌, length, take, drop, sym, ap, ◌∙◌, arith, length-map, length-drop, text_of_cells, character_of, IsLayout}
+use Rattle.trac_core.proofs.Words.{◌+◌, arith, length-drop, text_of_cells, IsLayout}
 use Rattle.trac_core.proofs.Scanning.{some-active}
 use Rattle.trac_core.proofs.StepsInRow.{layouts-pass, All-after}
 use Rattle.trac_core.proofs.scan.delete_layout.Goals as goal
@@ -10,13 +10,10 @@ pub returns-clause-passes : goal.returns-clause-passes
 returns-clause-passes c =
     let old = c.args.work.now in
     let n = c.layout_characters-count.result in
-    let cells = text_of_cells c.after_first.result.now in
     let after = c.after_first.ensures in
-    let long : length cells ≡ length c.after_first.result.now = length-map c.after_first.result.now character_of in
-    let text = after.text ∙ ap (λ k. take k (drop 1 (text_of_cells old.active))) (sym long) in
     let some = some-active old.active c.requires.first.0 c.requires.first.1.0 in
     let less = length-drop (1 + n) old.active in
-    let all = All-after IsLayout n (text_of_cells old.active) cells c.requires.first.0 c.requires.first.1.0 c.requires.first.1.1 (omega arith) text c.layout_characters-count.ensures.layout in
+    let all = All-after IsLayout n (text_of_cells old.active) c.after_first.result.now c.requires.first.0 c.requires.first.1.0 c.requires.first.1.1 (omega arith) after.text c.layout_characters-count.ensures.layout in
     rw (c.from.ensures, c.drop_active.ensures.rest)
     (record {
       passes = λ meta. layouts-pass meta (1 + n) old c.requires.sound.active (omega arith) all;

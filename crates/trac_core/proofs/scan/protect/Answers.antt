@@ -1,5 +1,5 @@
-use Rattle.trac_core.proofs.Words.{◌≡◌, ◌+◌, ◌++◌, take, drop, All, ◌-◌, slice_range, map, Some, None, sym, ap, ◌∙◌, subst, All-take, All-drop, protected, seen, IsByte, Contents}
-use Rattle.trac_functions.proofs.ArgumentLemmas.{text_of_cells-seen, bytes-seen}
+use Rattle.trac_core.proofs.Words.{◌≡◌, ◌+◌, ◌++◌, take, drop, All, ◌-◌, Some, None, sym, ap, ◌∙◌, subst, All-take, All-drop, protected, IsByte, Contents}
+use Rattle.trac_functions.proofs.ArgumentLemmas.{bytes-seen}
 use Rattle.trac_core.proofs.PlainEnds.{bytes-plain, plain-appended}
 use Rattle.trac_core.proofs.Scanning.{scans-protected, scans-unmatched, text-after}
 use Rattle.trac_core.proofs.scan.protect.Goals as goal
@@ -12,9 +12,8 @@ matching-requires-clause-bytes c =
 pub returns-in-Some-clause-scans : goal.returns-in-Some-clause-scans
 returns-in-Some-clause-scans c =
     let old = c.args.work.now in
-    let part = c.active_part.result.now in
     let len = c.in-Some.len in
-    let text = sym (text_of_cells-seen part) ∙ text-after old.active (map seen part) (c.active_part.ensures ∙ ap (λ n. slice_range old.active 1 n) c.active_len.ensures.value) in
+    let text = text-after old.active c.active_part.result.now c.active_len.result c.active_part.ensures c.active_len.ensures.value in
     let found = subst (λ t. protected t ≡ Some (take len t, drop (len + 1) t)) text c.in-Some.ensures.1 in
     let moved = c.drop_active-in-Some.ensures.rest
     ∙ ap (λ (w : Contents). record w { active = drop 1 w.active })
@@ -24,8 +23,7 @@ returns-in-Some-clause-scans c =
 pub returns-in-None-clause-scans : goal.returns-in-None-clause-scans
 returns-in-None-clause-scans c =
     let old = c.args.work.now in
-    let part = c.active_part.result.now in
-    let text = sym (text_of_cells-seen part) ∙ text-after old.active (map seen part) (c.active_part.ensures ∙ ap (λ n. slice_range old.active 1 n) c.active_len.ensures.value) in
+    let text = text-after old.active c.active_part.result.now c.active_len.result c.active_part.ensures c.active_len.ensures.value in
     rw c.clear_active.ensures.empty (scans-unmatched old c.requires.first (subst (λ t. protected t ≡ None) text c.in-None.ensures))
 
 pub returns-in-Some-clause-plain : goal.returns-in-Some-clause-plain

@@ -1,4 +1,4 @@
-use Rattle.trac_functions.proofs.Words.{◌≡◌, ◌∷◌, ◌+◌, ◌++◌, false, true, Some, None, sym, ap, ◌∙◌, refl, arith, length, signed_decimal, Arithmetic, number, prefix, if_in_range, argument, result_or, forced, valued, meaning_of, number_in, part_text, world, texts}
+use Rattle.trac_functions.proofs.Words.{◌≡◌, ◌∷◌, ◌+◌, ◌++◌, false, true, Some, None, sym, ap, ◌∙◌, refl, arith, signed_decimal, Arithmetic, number, prefix, if_in_range, argument, result_or, forced, valued, meaning_of, number_in, part_text, world, texts}
 use Rattle.trac_language.specs.Number.{arith as result_of_arith}
 use Rattle.trac_functions.proofs.MadeValues.{valued-of}
 use Rattle.trac_functions.proofs.Ranges.{arith-passed, ranged}
@@ -7,10 +7,7 @@ use Rattle.trac_functions.proofs.arithmetic.arithmetic.Goals as goal
 
 pub overflow_add-prefix : goal.overflow_add-prefix
 overflow_add-prefix c =
-    let w = c.args.work.now in
-    let first = c.next-first.result in
-    let t = part_text w.neutral first.0 first.1 in
-    let fits = inside w.neutral first.0 first.1 c.tail_number-left.result.start c.next-first.ensures.part (prefix t) (prefix-front t) (c.tail_number-left.ensures.start ∙ ap (λ t. length (prefix t)) c.text.ensures.text) in
+    let fits = inside _ _ _ _ c.next-first.ensures.part prefix prefix-front _ c.text.ensures.text c.tail_number-left.ensures.start in
     let within = c.next-first.ensures.part.within in
     let sound = c.requires.sound.fits in
     let bounded = c.requires.sound.bounded in
@@ -22,10 +19,7 @@ result_of-requires-clause-left c =
 
 pub give_number-requires : goal.give_number-requires
 give_number-requires c =
-    let w = c.args.work.now in
-    let first = c.next-first.result in
-    let t = part_text w.neutral first.0 first.1 in
-    record { prefix = front-part w.neutral first.0 first.1 c.tail_number-left.result.start c.next-first.ensures.part (prefix t) (prefix-front t) (c.tail_number-left.ensures.start ∙ ap (λ t. length (prefix t)) c.text.ensures.text) }
+    record { prefix = front-part _ _ _ _ c.next-first.ensures.part prefix prefix-front _ c.text.ensures.text c.tail_number-left.ensures.start }
 
 pub returns-in-Some-clause-makes : goal.returns-in-Some-clause-makes
 unfolding meaning_of
@@ -34,11 +28,10 @@ returns-in-Some-clause-makes c = λ name.
     let ts = texts w c.args.arguments in
     let operation = c.args.operation in
     let first = c.next-first.result in
-    let t = part_text w.neutral first.0 first.1 in
     let left = c.text.ensures.text ∙ c.next-first.ensures.text in
     let right = c.text-2.ensures.text ∙ c.next-second.ensures.text ∙ c.next-first.ensures.later 0 in
     let before : part_text w.neutral first.0 (first.0 + c.tail_number-left.result.start) ≡ prefix (argument ts 0) =
-    front-text w.neutral first.0 first.1 c.tail_number-left.result.start c.next-first.ensures.part (prefix t) (prefix-front t) (c.tail_number-left.ensures.start ∙ ap (λ t. length (prefix t)) c.text.ensures.text) ∙ ap prefix c.next-first.ensures.text in
+    front-text _ _ _ _ c.next-first.ensures.part prefix prefix-front _ c.text.ensures.text c.tail_number-left.ensures.start ∙ ap prefix c.next-first.ensures.text in
     let result : Some c.in-Some.number ≡ result_of_arith operation (number (argument ts 0)) (number (argument ts 1)) =
     c.in-Some.ensures (number (argument ts 0)) (number (argument ts 1))
     (c.tail_number-left.ensures.value ∙ ap (λ t. if_in_range (Some (number t))) left)

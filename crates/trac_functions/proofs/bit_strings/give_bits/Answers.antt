@@ -1,5 +1,5 @@
 use Rattle.trac_functions.proofs.Words.{◌+◌, ◌≤◌, ◌++◌, false, length, arith, OnTrue_at, octal, used, part_text, bits_made}
-use Rattle.trac_functions.proofs.Fronts.{length-part_text}
+use Rattle.trac_functions.proofs.ArgumentLemmas.{part-long}
 use Rattle.trac_functions.proofs.PutCharacters.{stands-behind}
 use Rattle.trac_functions.proofs.BitResults.{made-within, behind-all}
 use Rattle.trac_functions.proofs.bit_strings.give_bits.Goals as goal
@@ -16,7 +16,7 @@ overflow_add-prefix c =
 pub returns-clause-makes : goal.returns-clause-makes
 returns-clause-makes c = λ function args scanned valued.
     let w = c.args.work.now in
-    let long = length-part_text w.neutral c.args.prefix.0 c.args.prefix.1 c.requires.prefix.order c.requires.prefix.within in
+    let long = part-long w.neutral c.args.prefix.0 c.args.prefix.1 c.requires.prefix in
     let text = part_text w.neutral c.args.prefix.0 c.args.prefix.1 in
     let one : used w + length text ≤ w.room = omega (arith, long, c.free.ensures.value, c.if-free-prefix.false) in
     let put = OnTrue_at (c.put_part.ensures.put.1 one) c.put_part.ensures.last in

@@ -1,6 +1,5 @@
-use Rattle.trac_functions.proofs.Words.{◌≡◌, ◌∷◌, false, ap, ◌∙◌, refl, Union, bits, octal_prefix, union, argument, meaning_of, part_text, bits_at, world, texts}
-use Rattle.trac_functions.proofs.MadeValues.{valued-of}
-use Rattle.trac_functions.proofs.BitResults.{bits-means}
+use Rattle.trac_functions.proofs.Words.{◌∷◌, ap, ◌∙◌, refl, Union, bits, union, argument, meaning_of, bits_at, texts}
+use Rattle.trac_functions.proofs.BitResults.{bits-valued}
 use Rattle.trac_functions.proofs.bit_strings.union.Goals as goal
 
 pub returns-clause-makes : goal.returns-clause-makes
@@ -9,10 +8,7 @@ returns-clause-makes c = λ name.
     let w = c.args.work.now in
     let ts = texts w c.args.arguments in
     let second = c.next-second.ensures.text ∙ c.next-first.ensures.later 0 in
-    let before : part_text w.neutral c.next-first.result.0 c.digits_of-left.result.0 ≡ octal_prefix (argument ts 0) = c.digits_of-left.ensures.prefix ∙ ap (λ t. octal_prefix t) c.next-first.ensures.text in
-    let left : bits_at w.neutral c.digits_of-left.result ≡ bits (argument ts 0) = c.digits_of-left.ensures.bits ∙ ap (λ t. bits t) c.next-first.ensures.text in
-    let right : bits_at w.neutral c.digits_of-right.result ≡ bits (argument ts 1) = c.digits_of-right.ensures.bits ∙ ap (λ t. bits t) second in
-    let made : union (bits_at w.neutral c.digits_of-left.result) (bits_at w.neutral c.digits_of-right.result) ≡ union (bits (argument ts 0)) (bits (argument ts 1)) =
-    ap (λ l. union l (bits_at w.neutral c.digits_of-right.result)) left ∙ ap (λ l. union (bits (argument ts 0)) l) right in
+    let right = c.digits_of-right.ensures.bits ∙ ap (λ t. bits t) second in
     c.give_bits.ensures.makes Union (name ∷ ts) c.args.arguments.scanned
-    (valued-of Union (name ∷ ts) w.forms w.forms _ false (λ meta input. bits-means _ _ _ _ (world w.forms meta input) before made) (λ _. refl))
+    (bits-valued Union (name ∷ ts) w.forms (λ l. union l (bits (argument ts 1))) _ _ _ _ _ (λ _. refl) (λ _. refl) c.next-first.ensures.text c.digits_of-left.ensures.prefix c.digits_of-left.ensures.bits
+    (ap (union (bits_at w.neutral c.digits_of-left.result)) right))

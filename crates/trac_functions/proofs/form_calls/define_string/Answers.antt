@@ -1,5 +1,5 @@
 use Rattle.trac_functions.proofs.Words.{◌≡◌, ◌+◌, ◌-◌, length, refl, ap, ◌∙◌, arith, defined, argument, meaning_of, silent, part_text, world, texts}
-use Rattle.trac_functions.proofs.FormLemmas.{length-part}
+use Rattle.trac_functions.proofs.ArgumentLemmas.{part-long}
 use Rattle.trac_functions.proofs.form_calls.define_string.Goals as goal
 
 pub returns-in-Ok-clause-makes : goal.returns-in-Ok-clause-makes
@@ -9,8 +9,8 @@ returns-in-Ok-clause-makes c = λ name.
     let ts = texts old c.args.arguments in
     let first = c.next-name.ensures.text in
     let second = c.next-text.ensures.text ∙ c.next-name.ensures.later 0 in
-    let n = length-part old.neutral c.next-name.result.0 c.next-name.result.1 c.next-name.ensures.part in
-    let m = length-part old.neutral c.next-text.result.0 c.next-text.result.1 c.next-text.ensures.part in
+    let n = part-long old.neutral c.next-name.result.0 c.next-name.result.1 c.next-name.ensures.part in
+    let m = part-long old.neutral c.next-text.result.0 c.next-text.result.1 c.next-text.ensures.part in
     let named = part_text old.neutral c.next-name.result.0 c.next-name.result.1 in
     let body = part_text old.neutral c.next-text.result.0 c.next-text.result.1 in
     let same : defined (argument ts 0) (argument ts 1) old.forms ≡ defined named body old.forms = rw (first, second) refl in

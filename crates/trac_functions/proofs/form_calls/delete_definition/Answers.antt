@@ -20,9 +20,9 @@ leaves now new a b are some rest forms is gone =
     ∙ sym (ap (λ names. unnamed names now.forms) (next-left now a b some rest))
 
 -- no name is left
-all-taken : (old now : Contents) (ts : List Text) (a : Arguments) → a.end < a.from → unnamed (texts now a) now.forms ≡ unnamed ts old.forms → unnamed ts old.forms ≡ now.forms
-all-taken old now ts a past taken =
-    sym taken ∙ ap (λ names. unnamed names now.forms) (none-left now a past) ∙ unnamed-none now.forms
+all-taken : (old now : Contents) (ts : List Text) (a : Arguments) → IsSound old → a.end < a.from → unnamed (texts now a) now.forms ≡ unnamed ts old.forms → now ≡ record old { forms = now.forms } → (name : Text) → (value : Text) × IsValue DeleteDefinition (name ∷ ts) old now false value
+all-taken old now ts a sound past taken =
+    left old now ts sound (sym taken ∙ ap (λ names. unnamed names now.forms) (none-left now a past) ∙ unnamed-none now.forms)
 
 pub loop-name-preserved : goal.loop-name-preserved
 loop-name-preserved c =
@@ -53,8 +53,7 @@ loop-name-preserved c =
 pub returns-then-is_empty-clause-makes : goal.returns-then-is_empty-clause-makes
 returns-then-is_empty-clause-makes c =
     let i = c.loop-name.invariant in
-    let past : c.loop-name.arguments.end < c.loop-name.arguments.from = grind (arith, c.is_empty.ensures) in
-    left c.args.work.now c.loop-name.work (texts c.args.work.now c.args.arguments) c.requires.sound (all-taken c.args.work.now c.loop-name.work (texts c.args.work.now c.args.arguments) c.loop-name.arguments past i.leaves) i.same
+    all-taken c.args.work.now c.loop-name.work _ c.loop-name.arguments c.requires.sound (grind (arith, c.is_empty.ensures)) i.leaves i.same
 
 pub delete_named-requires : goal.delete_named-requires
 delete_named-requires c = parted c.loop-name.work c.loop-name.arguments c.loop-name.invariant.left
@@ -75,5 +74,4 @@ returns-then-not-is_empty-clause-makes c =
 pub returns-else-not-is_empty-clause-makes : goal.returns-else-not-is_empty-clause-makes
 returns-else-not-is_empty-clause-makes c =
     let i = c.loop-name.invariant in
-    let past : c.loop-name.arguments.end < c.loop-name.arguments.from = grind (arith, c.is_empty-2.ensures) in
-    left c.args.work.now c.loop-name.work (texts c.args.work.now c.args.arguments) c.requires.sound (all-taken c.args.work.now c.loop-name.work (texts c.args.work.now c.args.arguments) c.loop-name.arguments past i.leaves) i.same
+    all-taken c.args.work.now c.loop-name.work _ c.loop-name.arguments c.requires.sound (grind (arith, c.is_empty-2.ensures)) i.leaves i.same

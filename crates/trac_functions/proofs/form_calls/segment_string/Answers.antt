@@ -1,7 +1,7 @@
 use Rattle.trac_functions.proofs.Words.{◌≡◌, ℕ, suc, ◌+◌, ◌<◌, ◌≤◌, ◌∷◌, [], List, length, drop, set, refl, sym, ap, ◌∙◌, arith, add-one, length-set, get_or-set_same, SegmentString, Text, Form, segment, segment_by, changed, argument, meaning_of, silent, Contents, form_at, body_at, pointer_at}
-use Rattle.trac_functions.proofs.Words.{part_text, form_named-at, form_named-none, changed-at, world, texts, texts_from}
+use Rattle.trac_functions.proofs.Words.{part_text, form_named-at, changed-at, world, texts, texts_from}
 use Rattle.trac_functions.proofs.ArgumentLemmas.{none-left}
-use Rattle.trac_functions.proofs.FormLemmas.{null-value, unchanged, arguments-kept, next-left, fewer-left, texts-bounded, only-forms, segmented, segmented-set, segmented-none}
+use Rattle.trac_functions.proofs.FormLemmas.{null-value, idle, arguments-kept, next-left, fewer-left, texts-bounded, only-forms, segmented, segmented-set, segmented-none}
 use Rattle.trac_functions.proofs.form_calls.segment_string.Goals as goal
 
 -- the form at a place is put there anew, with its pointer at the start
@@ -20,11 +20,7 @@ module _ (old new : Contents) (k : ℕ) (form : Form) (within : k < length old.f
 
 pub returns-in_default-clause-makes : goal.returns-in_default-clause-makes
 unfolding meaning_of
-returns-in_default-clause-makes c = λ name.
-    let old = c.args.work.now in
-    let ts = texts old c.args.arguments in
-    let none = form_named-none (argument ts 0) old.forms c.in_default.ensures.found in
-    ([], unchanged SegmentString (name ∷ ts) old c.next_form.new.work c.requires.sound (λ meta input. rw none refl) (λ _. refl) c.next_form.ensures.same)
+returns-in_default-clause-makes c = idle SegmentString c.args.work.now c.next_form.new.work c.args.arguments _ c.requires (λ _ _ none. rw none refl) (λ _ _. refl) c.next_form.ensures.same c.in_default.ensures.found refl
 
 pub loop-arguments-init : goal.loop-arguments-init
 loop-arguments-init c =

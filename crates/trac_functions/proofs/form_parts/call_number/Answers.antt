@@ -1,12 +1,11 @@
-use Rattle.trac_functions.proofs.Words.{◌∷◌, sym, ap, ◌∙◌, refl, subst, arith, length, Option, CallNumber, argument, meaning_of, Part, characters, number, text_of_cells, Contents, part_text, form_at, IsSound, texts, TakesPart}
-use Rattle.trac_functions.proofs.TakenParts.{makes-found, makes-missing, characters-counted}
+use Rattle.trac_functions.proofs.Words.{sym, ap, ◌∙◌, refl, subst, arith, length, Option, CallNumber, argument, meaning_of, Part, TakesPart, characters, number, text_of_cells, Contents, part_text, form_at, IsSound}
+use Rattle.trac_functions.proofs.FormLemmas.{idle}
+use Rattle.trac_functions.proofs.TakenParts.{makes-found, characters-counted}
 use Rattle.trac_functions.proofs.form_parts.call_number.Goals as goal
 
 pub returns-in-Some-clause-makes : goal.returns-in-Some-clause-makes
 unfolding meaning_of
-returns-in-Some-clause-makes c = λ name.
-    let w = c.args.work.now in
-    let ts = texts w c.args.arguments in
+returns-in-Some-clause-makes c =
     let number_is = c.text.ensures.text ∙ c.next-number.ensures.text ∙ c.next-name.ensures.later 0 in
     let sound = subst IsSound (sym c.in-Some.ensures.same) c.requires.sound in
     let within = ap (λ (v : Contents). length v.forms) c.in-Some.ensures.same in
@@ -14,14 +13,9 @@ returns-in-Some-clause-makes c = λ name.
     let counts = characters-counted c.find.new.self c.in-Some.form.0 (text_of_cells c.text.result.now) c.count_of-count.result.negative c.count_of-count.result.size sound (omega arith) c.count_of-count.ensures.negative c.count_of-count.ensures.size in
     let takes = subst (λ (o : Option Part). TakesPart o (part_text c.find.new.self.neutral c.next-default.result.0 c.next-default.result.1) c.in-Some.form.0 c.find.new.self c.take_characters.result c.take_characters.new.work)
     (counts ∙ ap (λ t. characters (number t) (form_at c.find.new.self.forms c.in-Some.form.0)) number_is) c.take_characters.ensures.takes in
-    makes-found CallNumber (name ∷ ts) (argument ts 0) (λ form. characters (number (argument ts 1)) form) (argument ts 2) (record { means = λ w. refl; builds = λ w. refl }) c.args.arguments.scanned
-    w c.find.new.self c.take_characters.new.work c.in-Some.form.0 c.take_characters.result _ c.next-default.result.0 c.next-default.result.1
-    c.requires.sound c.in-Some.ensures.same c.in-Some.ensures.found c.next-name.ensures.text takes (c.next-default.ensures.text ∙ c.next-number.ensures.later 0 ∙ c.next-name.ensures.later 1)
+    makes-found CallNumber (λ ts. characters (number (argument ts 1))) 2 c.args.work.now c.find.new.self c.take_characters.new.work c.args.arguments c.in-Some.form.0 c.take_characters.result _ c.next-default.result (λ _ _. refl) (λ _ _. refl)
+    c.requires c.in-Some.ensures.same c.in-Some.ensures.found c.next-name.ensures.text takes (c.next-default.ensures.text ∙ c.next-number.ensures.later 0 ∙ c.next-name.ensures.later 1)
 
 pub returns-in-None-clause-makes : goal.returns-in-None-clause-makes
 unfolding meaning_of
-returns-in-None-clause-makes c = λ name.
-    let w = c.args.work.now in
-    let ts = texts w c.args.arguments in
-    makes-missing CallNumber (name ∷ ts) (argument ts 0) (λ form. characters (number (argument ts 1)) form) (argument ts 2) (record { means = λ w. refl; builds = λ w. refl }) c.args.arguments.scanned
-    w c.find.new.self _ c.requires.sound c.in-None.ensures.same c.in-None.ensures.found c.next-name.ensures.text
+returns-in-None-clause-makes c = idle CallNumber c.args.work.now c.find.new.self c.args.arguments _ c.requires (λ _ _ none. rw none refl) (λ _ _. refl) c.in-None.ensures.same c.in-None.ensures.found c.next-name.ensures.text

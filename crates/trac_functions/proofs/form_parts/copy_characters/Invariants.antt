@@ -1,4 +1,5 @@
-use Rattle.trac_functions.proofs.Words.{◌≡◌, ◌≤◌, ◌-◌, ◌++◌, slice_range, text_of, flat_text, body_at, IsSound}
+use Rattle.trac_functions.proofs.Words.{◌≡◌, ◌≤◌, ◌-◌, slice_range, text_of, body_at, IsSound}
+use Rattle.trac_functions.proofs.PutCharacters.{with_text}
 use Rattle.trac_functions.proofs.form_parts.copy_characters.Given as goal
 
 -- the characters up to a place were copied
@@ -8,7 +9,7 @@ invariant-loop-place l =
       above : l.from ≤ l.place;
       below : l.place ≤ l.to;
       sound : IsSound l.work;
-      copied : l.work ≡ record l.initial.work { neutral = l.initial.work.neutral ++ flat_text (text_of (slice_range (body_at l.initial.work.forms l.form.0) l.from l.place)) };
+      copied : l.work ≡ with_text l.initial.work (text_of (slice_range (body_at l.initial.work.forms l.form.0) l.from l.place));
     }
 
 -- the items that are left

@@ -7,8 +7,8 @@ loop-taken-init c = backward-none (body_at c.args.work.now.forms c.args.form.0) 
 
 pub returns-in-None : goal.returns-in-None
 returns-in-None c =
-    backward-last (body_at c.args.work.now.forms c.args.form.0) c.args.to c.loop-taken._taken c.loop-taken.place c.requires.within c.loop-taken.invariant c.args.count (omega arith) c.in-None.ensures
+    backward-last _ _ _ _ c.requires.within c.loop-taken.invariant c.args.count (omega arith) c.in-None.ensures
 
 pub loop-taken-preserved : goal.loop-taken-preserved
 loop-taken-preserved c =
-    backward-more (body_at c.args.work.now.forms c.args.form.0) c.args.to c.loop-taken._taken c.loop-taken.place c.requires.within c.loop-taken.invariant c.in-Some.character c.in-Some.ensures
+    backward-more _ _ _ _ c.requires.within c.loop-taken.invariant c.in-Some.character c.in-Some.ensures
