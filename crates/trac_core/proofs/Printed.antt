@@ -4,7 +4,7 @@ use Rattle.std.proofs.lemmas.List.{length-append}
 use Rattle.trac_language.specs.declared.item.Item.TheVariants.{Byte}
 use Rattle.trac_language.specs.Part.{Part}
 use Rattle.trac_core.specs.Session.{output_after, step_prints}
-use Rattle.trac_core.proofs.Displaying.{show-append}
+use Rattle.trac_core.proofs.FormDisplay.{show-append}
 use Rattle.trac_core.proofs.Performing.{closed, performs-closed, step-performs}
 
 -- ---- how long a display is

@@ -1,6 +1,6 @@
 use Rattle.trac_core.proofs.Words.{refl, inl, arith, rules, drop, Some, ap, ◌∙◌, argument, arguments_at, texts}
 use Rattle.trac_core.proofs.Performing.{texts-all, named-at, plain-rest, answers-nothing, answers-made, stands-made, no-failure-made, only-full}
-use Rattle.trac_core.proofs.Printing.{answers-halt}
+use Rattle.trac_core.proofs.PrintCalls.{answers-halt}
 use Rattle.std.proofs.lemmas.Grind.{common_steps}
 use Rattle.trac_core.proofs.call.answer.Goals as goal
 

@@ -1,7 +1,7 @@
 use Rattle.trac_core.proofs.Words.{sym, ap, ◌∙◌, subst, length, form_named, Contents, used, Defined, arguments_at, texts, Stands, display}
 use Rattle.trac_core.proofs.Performing.{stands-null}
-use Rattle.trac_core.proofs.Printing.{argument-one}
-use Rattle.trac_core.proofs.Displaying.{answers-display, answers-display-broken}
+use Rattle.trac_core.proofs.PrintCalls.{argument-one}
+use Rattle.trac_core.proofs.FormDisplay.{answers-display, answers-display-broken}
 use Rattle.trac_core.proofs.display.print_form.Goals as goal
 
 pub returns-in-Ok-clause-answers : goal.returns-in-Ok-clause-answers

@@ -1,5 +1,5 @@
 use Rattle.trac_core.proofs.Words.{◌∙◌, show_form}
-use Rattle.trac_core.proofs.Displaying.{prints-nothing}
+use Rattle.trac_core.proofs.FormDisplay.{prints-nothing}
 use Rattle.trac_core.proofs.display.show_and_flush.Goals as goal
 
 pub returns-clause-prints : goal.returns-clause-prints

@@ -1,6 +1,6 @@
 use Rattle.trac_core.proofs.Words.{◌++◌, ap, ◌∙◌, codes, decimal}
 use Rattle.trac_devices.proofs.PutCells.{prints-err}
-use Rattle.trac_core.proofs.Displaying.{breaks-off, prints-then}
+use Rattle.trac_core.proofs.FormDisplay.{breaks-off, prints-then}
 use Rattle.trac_core.proofs.display.show_gap.Goals as goal
 
 pub returns-in_err-print_bytes-clause-prints : goal.returns-in_err-print_bytes-clause-prints

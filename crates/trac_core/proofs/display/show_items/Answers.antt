@@ -1,6 +1,6 @@
 use Rattle.trac_core.proofs.Words.{◌∙◌, arith}
 use Rattle.trac_devices.proofs.PutCells.{prints-err}
-use Rattle.trac_core.proofs.Displaying.{displays-more, displays-broken}
+use Rattle.trac_core.proofs.FormDisplay.{displays-more, displays-broken}
 use Rattle.trac_core.proofs.display.show_items.Goals as goal
 
 pub returns-in_err-show_item-clause-prints : goal.returns-in_err-show_item-clause-prints

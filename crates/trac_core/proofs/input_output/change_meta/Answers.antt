@@ -1,5 +1,5 @@
 use Rattle.trac_core.proofs.Words.{ap, sym, ◌∙◌, slice_get, refl, arguments_at, texts}
-use Rattle.trac_core.proofs.Printing.{answers-meta, argument-one, some-same}
+use Rattle.trac_core.proofs.PrintCalls.{answers-meta, argument-one, some-same}
 use Rattle.trac_core.proofs.input_output.change_meta.Goals as goal
 
 pub returns-in-Some-clause-answers : goal.returns-in-Some-clause-answers

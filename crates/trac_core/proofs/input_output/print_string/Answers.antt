@@ -1,7 +1,7 @@
 use Rattle.std.proofs.lemmas.Grind.{common_steps}
 use Rattle.trac_core.proofs.Words.{arith, sym, ◌∙◌, arguments_at, texts}
 use Rattle.trac_core.proofs.Performing.{stands-null}
-use Rattle.trac_core.proofs.Printing.{answers-print, answers-print-broken, argument-one}
+use Rattle.trac_core.proofs.PrintCalls.{answers-print, answers-print-broken, argument-one}
 use Rattle.trac_core.proofs.input_output.print_string.Goals as goal
 
 pub returns-in-Ok-clause-answers : goal.returns-in-Ok-clause-answers

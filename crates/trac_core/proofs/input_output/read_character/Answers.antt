@@ -1,5 +1,5 @@
 use Rattle.trac_core.proofs.Words.{◌∷◌, [], ap, arith, Stream}
-use Rattle.trac_core.proofs.Reading.{character-read, character-full, character-ended, character-failed, not-less}
+use Rattle.trac_core.proofs.ReadCalls.{character-read, character-full, character-ended, character-failed, not-less}
 use Rattle.trac_core.proofs.input_output.read_character.Goals as goal
 
 pub returns-then-push_neutral-clause-answers : goal.returns-then-push_neutral-clause-answers

@@ -1,5 +1,5 @@
 use Rattle.trac_core.proofs.Words.{◌≡◌, ◌++◌, ◌∷◌, [], ◌<◌, length, arith, refl}
-use Rattle.trac_core.proofs.Reading.{read-to-meta, read-some, read-none, read-failed, read-full, reads-take, reads-stands, neutral-reads}
+use Rattle.trac_core.proofs.ReadCalls.{read-to-meta, read-some, read-none, read-failed, read-full, reads-take, reads-stands, neutral-reads}
 use Rattle.trac_core.proofs.input_output.read_string.Goals as goal
 
 pub returns-in-Meta-clause-answers : goal.returns-in-Meta-clause-answers

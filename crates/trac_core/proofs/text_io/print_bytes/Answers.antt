@@ -1,5 +1,5 @@
 use Rattle.trac_devices.proofs.PutCells.{prints-err}
-use Rattle.trac_core.proofs.Displaying.{breaks-bytes}
+use Rattle.trac_core.proofs.FormDisplay.{breaks-bytes}
 use Rattle.trac_core.proofs.text_io.print_bytes.Goals as goal
 
 pub returns-in_err-put-clause-prints : goal.returns-in_err-put-clause-prints

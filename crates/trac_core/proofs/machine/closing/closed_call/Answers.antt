@@ -1,5 +1,5 @@
 use Rattle.trac_core.proofs.Words.{◌≡◌, ℕ, Option, None, Some, MatchOption, slice_get, sym, IsLastCall, NoCall, text_of_cells, Contents, memory_of, performs}
-use Rattle.trac_core.proofs.Sessions.{performs-other, performs-none}
+use Rattle.trac_core.proofs.Performed.{performs-other, performs-none}
 use Rattle.trac_core.proofs.machine.closing.closed_call.Goals as goal
 
 -- behind a right parenthesis the last call mark tells which call it is

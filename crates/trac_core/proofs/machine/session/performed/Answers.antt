@@ -1,5 +1,5 @@
 use Rattle.trac_core.proofs.Words.{◌∙◌, sym}
-use Rattle.trac_core.proofs.Sessions.{performs-innermost}
+use Rattle.trac_core.proofs.Performed.{performs-innermost}
 use Rattle.trac_core.proofs.machine.session.performed.Goals as goal
 
 pub returns-in-None : goal.returns-in-None
