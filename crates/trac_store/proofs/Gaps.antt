@@ -1,24 +1,14 @@
 -- How a walk over a body makes gaps of a text.
 use Rattle.trac_store.proofs.Words.{◌≡◌, ℕ, zero, suc, ◌+◌, ◌-◌, ◌<◌, ◌≤◌, ◌&&◌, Bool, true, false, List, [], ◌∷◌, ◌++◌, length, take, drop, map, slice_range, set, get_or, refl, sym, ap, ◌∙◌, arith, append_assoc, drop_more, drop-drop, drop-take, take_more_set, and-false, false≢true, Cell, Byte}
-use Rattle.trac_store.proofs.Words.{Call, Comma, Gap, Head, seen, character_of, is_byte, begins_cells, segment_cells}
+use Rattle.trac_store.proofs.Words.{Gap, seen, character_of, is_byte, begins_cells, segment_cells, character-seen}
 
 is_byte-seen : (b : ℕ) (cell : Cell) → is_byte b (seen cell) ≡ is_byte b cell
 is_byte-seen b (Byte c) = refl
-is_byte-seen b (Call mode number) = refl
-is_byte-seen b Comma = refl
-is_byte-seen b (Gap k) = refl
-is_byte-seen b (Head n) = refl
-
-pub character_of-seen : (cell : Cell) → character_of (seen cell) ≡ character_of cell
-character_of-seen (Byte c) = refl
-character_of-seen (Call mode number) = refl
-character_of-seen Comma = refl
-character_of-seen (Gap k) = refl
-character_of-seen (Head n) = refl
+is_byte-seen b cell = refl
 
 pub bytes-seen : (cells : List Cell) → map character_of (map seen cells) ≡ map character_of cells
 bytes-seen [] = refl
-bytes-seen (cell ∷ cells) = let e = character_of-seen cell in let f = bytes-seen cells in rw (e, f)
+bytes-seen (cell ∷ cells) = let e = character-seen cell in let f = bytes-seen cells in rw (e, f)
 
 pub begins-map_seen : (text : List ℕ) (cells : List Cell) → begins_cells text (map seen cells) ≡ begins_cells text cells
 begins-map_seen [] cells = refl
@@ -52,7 +42,7 @@ begins-other neutral part (cell ∷ cells) a b first order within some part_is f
     let size : b - a ≡ suc (b - (a + 1)) = omega arith in
     let next = drop_more neutral a (Byte 0) (omega arith) in
     let text : slice_range neutral a b ≡ get_or neutral a (Byte 0) ∷ slice_range neutral (a + 1) b = rw (size, next) in
-    let other : is_byte (character_of (get_or neutral a (Byte 0))) (seen cell) ≡ false = ap (λ x. is_byte (character_of x) (seen cell)) (sym first_is) ∙ ap (λ n. is_byte n (seen cell)) (character_of-seen first) ∙ is_byte-seen (character_of first) cell ∙ differ in
+    let other : is_byte (character_of (get_or neutral a (Byte 0))) (seen cell) ≡ false = ap (λ x. is_byte (character_of x) (seen cell)) (sym first_is) ∙ ap (λ n. is_byte n (seen cell)) (character-seen first) ∙ is_byte-seen (character_of first) cell ∙ differ in
     rw (text, ← part_is, other)
 
 segment-skip : (text : List ℕ) (k n : ℕ) (cells : List Cell) → segment_cells text k n cells ≡ segment_cells text k 0 (drop n cells)

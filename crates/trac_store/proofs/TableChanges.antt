@@ -1,6 +1,6 @@
 -- Changes of a table of forms.
 use Rattle.trac_store.proofs.Words.{◌≡◌, ◌≢◌, ℕ, ◌+◌, ◌-◌, ◌*◌, ◌/◌, ◌<◌, ◌≤◌, false, List, length, set, sym, ap, ◌∙◌, arith, ⊎_elim, inl, inr, subst, ◌⊎◌, bit_and, and_le_r, cases_lt, length-set, get_or-set_same, get_or-set_other, Text, Cell, Byte, Comma, Head, hash, quarter, slots, slot}
-use Rattle.trac_store.proofs.Words.{cell_at, start_place, home_place, is_blank, IsReached, IsEntry, HasEntry, IsHeld, IsIndexBut, with_entry}
+use Rattle.trac_store.proofs.Words.{cell_at, start_place, home_place, is_blank, IsReached, IsEntry, HasEntry, IsHeld, IsIndexBut, with_entry, begins}
 
 pub same_or : (a b : ℕ) → (a ≡ b) ⊎ (a ≢ b)
 same_or a b =
@@ -263,3 +263,10 @@ index-as table n g n2 g2 name name2 start start2 fits olds news index = record {
       let more = news k old.within old.there in
       record { within = more.0; there = more.1; home = old.home };
 }
+
+-- where no form is left out
+pub index-renamed : (table : List Cell) (n n2 : ℕ) (name name2 : ℕ → Text) (start start2 : ℕ → ℕ) → n2 ≡ n → ((k : ℕ) → k < n2 → (name2 k ≡ name k) × (start2 k ≡ start k)) → IsIndexBut table n n name start → IsIndexBut table n2 n2 name2 start2
+index-renamed table n n2 name name2 start start2 size same index =
+    index-as table n n n2 n2 name name2 start start2 (omega (arith, size, index.roomy))
+    (λ k within there. (omega (arith, size, within), λ e. absurd (omega (arith, e, size, within)), (same k within).0, (same k within).1))
+    (λ k within there. (omega (arith, size, within), λ e. absurd (omega (arith, e, size, within)))) index

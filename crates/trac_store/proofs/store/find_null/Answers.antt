@@ -1,13 +1,9 @@
-use Rattle.trac_store.proofs.Words.{◌≡◌, ℕ, ◌+◌, List, [], ◌∷◌, refl, length, map, get_or, ap, ◌∙◌, arith, Byte, seen, forms_in, form_at}
+use Rattle.trac_store.proofs.Words.{◌≡◌, ◌+◌, [], length, map, get_or, ap, ◌∙◌, arith, Byte, seen, forms_in, form_at, nil_from_length}
 use Rattle.trac_store.proofs.Finding.{Begins, begins_at, number_is}
 use Rattle.trac_store.proofs.HeadCells.{is_head}
 use Rattle.trac_store.proofs.Stores.{NoneNamed-more}
 use Rattle.trac_store.proofs.store.find_null.Goals as goal
 use Rattle.trac_store.proofs.store.find_null.Goals.{In-loop-k}
-
-nil : (text : List ℕ) → length text ≡ 0 → text ≡ []
-nil [] e = refl
-nil (b ∷ text) e = absurd (omega arith)
 
 next : (c : In-loop-k) → Begins c.args.store.now c.loop-k.k c.loop-k.start
 next c = begins_at _ _ _ c.requires.whole (omega arith) c.loop-k.invariant.begins
@@ -38,7 +34,7 @@ returns-then-len-eq0 c =
     let form = form_at (forms_in (map seen store)) c.loop-k.k in
     let len : c.number_in_head-len.result ≡ length form.name = c.number_in_head-len.ensures ∙ number_is (get_or store start (Byte 0)) (length form.name) b.name_len in
     record {
-      named = record { within = omega arith; named = nil form.name (omega (arith, len)) };
+      named = record { within = omega arith; named = nil_from_length form.name (omega (arith, len)) };
       start_is = c.loop-k.invariant.begins;
     }
 

@@ -1,6 +1,5 @@
-use Rattle.trac_store.proofs.Words.{◌≡◌, ℕ, ◌+◌, ◌-◌, ◌<◌, ◌≤◌, List, length, map, get_or, slice_range, sym, ap, ◌∙◌, subst, arith, false≢true, length-map, get_or-map, Cell, Byte, seen, character_of, text_of_cells, flat_text, IsByte}
-use Rattle.trac_store.proofs.Finding.{byte-seen, bytes-of-seen, seen-text, part-last, part-length}
-use Rattle.trac_store.proofs.Gaps.{bytes-seen, character_of-seen}
+use Rattle.trac_store.proofs.Words.{◌≡◌, ℕ, ◌+◌, ◌-◌, ◌<◌, ◌≤◌, List, length, map, get_or, slice_range, sym, ap, ◌∙◌, subst, arith, false≢true, length-map, get_or-map, Cell, Byte, seen, character_of, IsByte, character-seen, length-between}
+use Rattle.trac_store.proofs.Finding.{byte-seen, bytes-of-seen, seen-decides, part-last, part-length}
 use Rattle.trac_store.proofs.store.is_text_at.Goals as goal
 use Rattle.trac_store.proofs.store.is_text_at.Goals.{then-len-text-via-then-len-text, then-len-text-via-else-len-text+then-byte_in-last}
 
@@ -20,9 +19,9 @@ last-differs cells text from n last some within same last_is e =
     let at = part-last cells from n some within in
     let place : n - 1 ≡ length text - 1 = omega arith in
     let there = get_or-map seen text (length text - 1) (Byte 0) (Byte 0) (omega arith) in
-    sym (character_of-seen (get_or cells (from + n - 1) (Byte 0)))
+    sym (character-seen (get_or cells (from + n - 1) (Byte 0)))
     ∙ ap character_of (sym at ∙ ap (λ cs. get_or cs (n - 1) (Byte 0)) e ∙ ap (λ i. get_or (map seen text) i (Byte 0)) place ∙ there)
-    ∙ character_of-seen (get_or text (length text - 1) (Byte 0))
+    ∙ character-seen (get_or text (length text - 1) (Byte 0))
     ∙ sym last_is
 
 pub returns-then-len-text : goal.returns-then-len-text
@@ -40,20 +39,12 @@ returns-then-len-text c =
     )
 
 pub is_text-requires : goal.is_text-requires
-is_text-requires c =
-    let part = slice_range c.args.cells.now c.args.from (c.args.from + c.args.len) in
-    record {
-      cell_bytes = bytes-of-seen part c.requires.part_bytes;
-      bytes = bytes-of-seen c.args.text.now c.requires.bytes;
-      same = omega (arith, length-map part seen, part-length c.args.cells.now c.args.from c.args.len c.requires.within, c.if-len-text.false);
-    }
+is_text-requires c = record {
+  cell_bytes = bytes-of-seen _ c.requires.part_bytes;
+  bytes = bytes-of-seen _ c.requires.bytes;
+  same = omega (arith, length-between c.args.cells.now c.args.from (c.args.from + c.args.len) c.requires.within, c.if-len-text.false);
+}
 
 pub returns : goal.returns
 returns c =
-    let part = slice_range c.args.cells.now c.args.from (c.args.from + c.args.len) in
-    let text = c.args.text.now in
-    let cell_is = seen-text part c.requires.part_bytes in
-    let text_is = seen-text text c.requires.bytes in (
-      λ t. sym cell_is ∙ ap flat_text (c.is_text.ensures.0 t) ∙ text_is,
-      λ e. c.is_text.ensures.1 (sym (bytes-seen part) ∙ ap text_of_cells e ∙ bytes-seen text),
-    )
+    seen-decides (slice_range c.args.cells.now c.args.from (c.args.from + c.args.len)) c.args.text.now c.is_text.result c.requires.part_bytes c.requires.bytes c.is_text.ensures
