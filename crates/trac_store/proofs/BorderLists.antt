@@ -32,6 +32,12 @@ pub record BordersUpTo (old now : Lists) (text : List ℕ) (len count border : �
   pub longest : IsLongestBorder text count border
   pub way : HasWay (len - count) now
 
+-- the slice of active that has them
+pub listed-table : {old now : Lists} {text : List ℕ} {len count border : ℕ} (h : BordersUpTo old now text len count border) (table : List Cell) → map seen table ≡ slice_range now.active 0 count → (map seen table ≡ take count now.active) × (length table ≡ count)
+listed-table {now = now} {count = count} h table shown =
+    let front = shown ∙ front-part now.active count in
+    (front, omega (arith, length-map table seen, ap length front, length-take-le count now.active h.within))
+
 pub borders-next : (old now new : Lists) (text : List ℕ) (len count border next : ℕ) → BordersUpTo old now text len count border → count < len → IsLongestBorder text (count + 1) next → new ≡ record now { active = Head next ∷ now.active } → BordersUpTo old new text len (count + 1) next
 borders-next old now new text len count border next h less long pushed =
     let active : new.active ≡ Head next ∷ now.active = ap (λ (s : Lists). s.active) pushed in

@@ -7,7 +7,7 @@ use Rattle.std.proofs.Math.ListN.{get_or-map as get_or-map-same}
 use Rattle.trac_store.proofs.Places.{stands}
 use Rattle.trac_store.proofs.Stores.{pointer-within}
 use Rattle.trac_store.proofs.Parted.{drop-part, parts-longer}
-use Rattle.trac_store.proofs.FlatLemmas.{part_of_longer, Byte-character_of, item_of-cell}
+use Rattle.trac_store.proofs.FlatLemmas.{part_of_longer, Byte-character_of, item_of-cell, length-part_text}
 
 -- the text of cells that stand for items
 abbrev pub filled : List Text → List Cell → Text
@@ -226,7 +226,7 @@ module _ (old now : Lists) (first last : ℕ) (parted : AreParted old.neutral fi
       let stays = part-stays old now whole _ put part.0 part.1 is_part in
       let cells = slice_range now.neutral part.0 part.1 in
       let flat : cells ≡ flat_text text = sym (Byte-character_of cells stays.bytes) ∙ ap flat_text (text-stays old now whole _ put part.0 part.1 is_part) in
-      let size : length text ≡ part.1 - part.0 = length-map (slice_range old.neutral part.0 part.1) character_of ∙ length-between old.neutral part.0 part.1 is_part.within in
+      let size = length-part_text old.neutral part.0 part.1 is_part.within in
       record {
         part = stays;
         no_call = text-no_call cells stays.bytes;

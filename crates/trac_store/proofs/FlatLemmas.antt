@@ -67,11 +67,15 @@ pub flat_items_of : (text : List ℕ) → map flat_item (items_of text) ≡ map 
 flat_items_of [] = refl
 flat_items_of (b ∷ text) = ap (λ cs. Byte b ∷ cs) (flat_items_of text)
 
+-- a part's text has as many characters as the part cells
+pub length-part_text : (string : List Cell) (a b : ℕ) → b ≤ length string → length (part_text string a b) ≡ b - a
+length-part_text string a b within = length-map (slice_range string a b) character_of ∙ length-between string a b within
+
 -- a new form as cells
 pub flat_form_of : (string : List Cell) (a b from to : ℕ) → IsTextPart string a b → IsTextPart string from to → flat_form (new_form string a b from to) ≡ Head (b - a) ∷ Head (to - from) ∷ Head 0 ∷ (slice_range string a b ++ slice_range string from to)
 flat_form_of string a b from to name text =
-    let name_len : length (part_text string a b) ≡ b - a = length-map (slice_range string a b) character_of ∙ length-between string a b name.within in
-    let text_len : length (items_of (part_text string from to)) ≡ to - from = length-map (part_text string from to) item.Byte ∙ length-map (slice_range string from to) character_of ∙ length-between string from to text.within in
+    let name_len = length-part_text string a b name.within in
+    let text_len : length (items_of (part_text string from to)) ≡ to - from = length-map (part_text string from to) item.Byte ∙ length-part_text string from to text.within in
     let n = Byte-character_of (slice_range string a b) name.bytes in
     let t = flat_items_of (part_text string from to) ∙ Byte-character_of (slice_range string from to) text.bytes in
     rw (name_len, text_len, n, t)
@@ -109,7 +113,7 @@ moved s put after more from len is then =
 -- how many cells a new form has
 pub length-new_form : (string : List Cell) (a b from to : ℕ) → b ≤ length string → to ≤ length string → form_cells (new_form string a b from to) ≡ 3 + (b - a) + (to - from)
 length-new_form string a b from to name text =
-    omega (arith, length-map (slice_range string a b) character_of, length-between string a b name, length-map (part_text string from to) item.Byte, length-map (slice_range string from to) character_of, length-between string from to text)
+    omega (arith, length-part_text string a b name, length-map (part_text string from to) item.Byte, length-part_text string from to text)
 
 -- nor have forms
 pub no_call-flat_forms : (forms : List Form) → NoCall (flat_forms forms)

@@ -120,6 +120,10 @@ module _ (neutral : List Cell) (from end n : ℕ) (le : from ≤ end) (within : 
   pub parts-first : parts_between neutral from end ≡ (from, from + n) ∷ parts_between neutral (from + n + 1) end
   parts-first = parts-some neutral from end le ∙ behind ∙ ap (λ k. (from, from + k) ∷ parts_between neutral (from + k + 1) end) (sym is)
 
+-- the first part ends where the slice of neutral shows that it does
+pub shown-fits : (neutral cells : List Cell) (from end n : ℕ) → from ≤ end → end ≤ length neutral → map seen cells ≡ slice_range neutral from end → n ≡ before_comma cells → from + n ≤ end
+shown-fits neutral cells from end n le within shown found = part-fits neutral from end n le within (found-comma cells (slice_range neutral from end) n shown found)
+
 -- cells behind them change nothing
 pub parts-longer : (neutral more : List Cell) (from end : ℕ) → end ≤ length neutral → parts_between (neutral ++ more) from end ≡ parts_between neutral from end
 parts-longer neutral more from end within =

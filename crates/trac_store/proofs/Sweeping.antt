@@ -39,7 +39,7 @@ next-unmarked forms i within plain =
     let more = take_more forms i (record { name = []; body = []; pointer = 0 }) within in
     ap unmarked more ∙ filter-append (λ form. not (is_marked form)) (take i forms) (form_at forms i ∷ []) ∙ rw plain refl
 
-module _ (old now : Lists) (i a b from kept : ℕ) (h : IsSweptTo old now i a b from kept) (whole : flat_forms (forms_in old.store) ≡ old.store) (within : i < length (forms_in old.store)) where
+module _ {old now : Lists} {i a b from kept : ℕ} (h : IsSweptTo old now i a b from kept) (whole : flat_forms (forms_in old.store) ≡ old.store) (within : i < length (forms_in old.store)) where
   abbrev forms : List Form
   forms = forms_in old.store
 

@@ -5,23 +5,17 @@ use Rattle.trac_store.proofs.index.unindex.Goals as goal
 
 pub overflow_add-cells : goal.overflow_add-cells
 overflow_add-cells c =
-    let s = c.args.space.now in
-    let within : c.args.k < length (forms_in s.store) = omega (arith, c.requires.within, c.requires.count_is) in
-    let f = stands (forms_in s.store) s.store c.args.k c.args.start c.requires.whole within c.requires.begins in
+    let f = stands _ _ _ _ c.requires.whole (omega (arith, c.requires.within, c.requires.count_is)) c.requires.begins in
     omega (arith, f.end, f.name_len, c.head.ensures, c.requires.bounded)
 
 pub overflow_add-start : goal.overflow_add-start
 overflow_add-start c =
-    let s = c.args.space.now in
-    let within : c.args.k < length (forms_in s.store) = omega (arith, c.requires.within, c.requires.count_is) in
-    let f = stands (forms_in s.store) s.store c.args.k c.args.start c.requires.whole within c.requires.begins in
+    let f = stands _ _ _ _ c.requires.whole (omega (arith, c.requires.within, c.requires.count_is)) c.requires.begins in
     omega (arith, f.end, c.requires.bounded)
 
 pub overflow_add-cells-2 : goal.overflow_add-cells-2
 overflow_add-cells-2 c =
-    let s = c.args.space.now in
-    let within : c.args.k < length (forms_in s.store) = omega (arith, c.requires.within, c.requires.count_is) in
-    let f = stands (forms_in s.store) s.store c.args.k c.args.start c.requires.whole within c.requires.begins in
+    let f = stands _ _ _ _ c.requires.whole (omega (arith, c.requires.within, c.requires.count_is)) c.requires.begins in
     omega (arith, f.end, f.name_len, f.body_len, c.head.ensures, c.head-2.ensures, c.requires.bounded)
 
 pub bury-requires-clause-home : goal.bury-requires-clause-home

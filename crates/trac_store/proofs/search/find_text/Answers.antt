@@ -1,6 +1,6 @@
-use Rattle.trac_store.proofs.Words.{length, map, slice_range, sym, ap, subst, ◌∙◌, ◌-◌, length-map, seen, Lists, character_of, AreBorders, part_text, text_cells_at}
+use Rattle.trac_store.proofs.Words.{length, map, slice_range, sym, ap, ◌∙◌, ◌-◌, length-map, seen, Lists, character_of, text_cells_at}
 use Rattle.trac_store.proofs.BorderLists.{front-part}
-use Rattle.trac_store.proofs.Gaps.{bytes-seen}
+use Rattle.trac_store.proofs.Gaps.{text-shown}
 use Rattle.trac_store.proofs.Searches.{first-agrees, texts-seen}
 use Rattle.trac_store.proofs.search.find_text.Goals as goal
 
@@ -16,12 +16,9 @@ returns-then-len-lt-LONG-clause-found c =
 
 pub first_by_borders-found-requires-clause-borders : goal.first_by_borders-found-requires-clause-borders
 first_by_borders-found-requires-clause-borders c =
-    let listed = c.list_borders.new.space in
-    let len = c.args.part.1 - c.args.part.0 in
-    let neutral = ap (λ (s : Lists). slice_range s.neutral c.args.part.0 c.args.part.1) c.list_borders.ensures.same in
-    let text = sym (bytes-seen c.neutral_part-text-2.result.now) ∙ ap (map character_of) (c.neutral_part-text-2.ensures ∙ neutral) in
-    let table = c.active_part-table.ensures ∙ front-part listed.active len in
-    subst (λ t. AreBorders t (map seen c.active_part-table.result.now)) (sym text) (subst (AreBorders (part_text c.args.space.now.neutral c.args.part.0 c.args.part.1)) (sym table) c.list_borders.ensures.borders)
+    let text = text-shown _ _ (c.neutral_part-text-2.ensures ∙ ap (λ (s : Lists). slice_range s.neutral c.args.part.0 c.args.part.1) c.list_borders.ensures.same) in
+    let table = c.active_part-table.ensures ∙ front-part c.list_borders.new.space.active (c.args.part.1 - c.args.part.0) in
+    rw (text, table) c.list_borders.ensures.borders
 
 pub returns-clause-found : goal.returns-clause-found
 returns-clause-found c =
