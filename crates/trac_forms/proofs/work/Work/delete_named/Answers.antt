@@ -36,10 +36,7 @@ returns-clause-gone c =
     rw (← c.self.view_is) (removed-shown s c.mark_all-first.new.space c.self.inside.count c.self.inside.last c.self.inside.start (texts_between s.neutral c.args.from c.args.end) c.self.invariant c.mark_all-first.ensures.marked c.take_out_marked-self-inside.new.space c.take_out_marked-self-inside.ensures.gone)
 
 pub returns-clause-sound : goal.returns-clause-sound
-returns-clause-sound c =
-    let s = c.self.inside.space in
-    let gone = c.take_out_marked-self-inside.ensures in
-    (removed-stored s c.mark_all-first.new.space c.self.inside.count c.self.inside.last c.self.inside.start (texts_between s.neutral c.args.from c.args.end) c.self.invariant c.mark_all-first.ensures.marked c.take_out_marked-self-inside.new.space gone.gone c.take_out_marked-self-inside.result gone.count gone.index).sound
+returns-clause-sound c = (invariant_of-self c).sound
 
 pub mark_all-first-requires-clause-plain : goal.mark_all-first-requires-clause-plain
 mark_all-first-requires-clause-plain c =

@@ -33,7 +33,7 @@ pub invariant_of-self : goal.invariant_of-self
 invariant_of-self c = stored _ c.self.inside.space _ c.load_form.result _ _ _ c.self.invariant c.load_form.ensures
 
 pub returns-clause-sound : goal.returns-clause-sound
-returns-clause-sound c = (stored _ c.self.inside.space _ c.load_form.result _ _ _ c.self.invariant c.load_form.ensures).sound
+returns-clause-sound c = (invariant_of-self c).sound
 
 pub returns-clause-loaded : goal.returns-clause-loaded
 returns-clause-loaded c =
