@@ -46,9 +46,8 @@ bring_forward-requires-clause-home c =
     let forms = forms_in c.args.space.now.store in
     let spare = c.loop-next.space.spare in
     let next = c.loop-next.next in
-    let within : c.args.k < length forms = omega (arith, c.requires.within, c.requires.count_is) in
     let e : next - 1 + 1 ≡ next = omega (arith, c.loop-next.auto.next) in
-    let less = next-home forms c.args.k within spare (next - 1) (omega (arith, e, c.loop-next-test.true, c.requires.count_is)) c.loop-next.invariant.index in
+    let less = next-home forms c.args.k (omega (arith, c.requires.within, c.requires.count_is)) spare (next - 1) (omega (arith, e, c.loop-next-test.true, c.requires.count_is)) c.loop-next.invariant.index in
     subst (λ n. home_in spare n < slots spare) e less
 
 -- the cells of the form that leaves
@@ -88,8 +87,7 @@ loop-next-preserved c =
 pub returns : goal.returns
 returns c =
     let forms = forms_in c.args.space.now.store in
-    let within : c.args.k < length forms = omega (arith, c.requires.within, c.requires.count_is) in
     record {
       same = c.loop-next.invariant.same;
-      index = λ _. index-removed forms c.args.k within c.loop-next.space.spare (c.loop-next.next - 1) (omega (arith, c.loop-next.auto.next, c.loop-next.auto.next-end, c.loop-next-test.false, c.requires.within, c.requires.count_is)) c.loop-next.invariant.index;
+      index = λ _. index-removed forms c.args.k (omega (arith, c.requires.within, c.requires.count_is)) c.loop-next.space.spare (c.loop-next.next - 1) (omega (arith, c.loop-next.auto.next, c.loop-next.auto.next-end, c.loop-next-test.false, c.requires.within, c.requires.count_is)) c.loop-next.invariant.index;
     }

@@ -5,13 +5,11 @@ use Rattle.trac_forms.proofs.work.Work.write_body.Goals as goal
 
 pub overflow_add-body : goal.overflow_add-body
 overflow_add-body c =
-    let f = known c.self.invariant c.self.view_is c.requires.known (rw (← c.self.view_is) at c.requires.begins) in
-    omega (arith, f.end, c.self.invariant.bounded)
+    omega (arith, known c.self.invariant c.self.view_is c.requires.known (rw (← c.self.view_is) at c.requires.begins))
 
 pub overflow_add-body-2 : goal.overflow_add-body-2
 overflow_add-body-2 c =
-    let f = known c.self.invariant c.self.view_is c.requires.known (rw (← c.self.view_is) at c.requires.begins) in
-    omega (arith, f.end, f.name_len, c.head-name.ensures, c.self.invariant.bounded)
+    omega (arith, known c.self.invariant c.self.view_is c.requires.known (rw (← c.self.view_is) at c.requires.begins))
 
 pub write_part-requires-clause-inside : goal.write_part-requires-clause-inside
 write_part-requires-clause-inside c =
@@ -20,8 +18,7 @@ write_part-requires-clause-inside c =
 
 pub overflow_add-start : goal.overflow_add-start
 overflow_add-start c =
-    let f = known c.self.invariant c.self.view_is c.requires.known (rw (← c.self.view_is) at c.requires.begins) in
-    omega (arith, f.end, c.self.invariant.bounded)
+    omega (arith, known c.self.invariant c.self.view_is c.requires.known (rw (← c.self.view_is) at c.requires.begins))
 
 pub write_store-requires-clause-within : goal.write_store-requires-clause-within
 write_store-requires-clause-within c =
@@ -32,8 +29,7 @@ write_store-requires-clause-within c =
 
 pub overflow_add-start-2 : goal.overflow_add-start-2
 overflow_add-start-2 c =
-    let f = known c.self.invariant c.self.view_is c.requires.known (rw (← c.self.view_is) at c.requires.begins) in
-    omega (arith, f.end, c.self.invariant.bounded)
+    omega (arith, known c.self.invariant c.self.view_is c.requires.known (rw (← c.self.view_is) at c.requires.begins))
 
 pub write_store-requires-2-clause-within : goal.write_store-requires-2-clause-within
 write_store-requires-2-clause-within c =
@@ -48,9 +44,8 @@ invariant_of-self c =
 
 pub returns-clause-written : goal.returns-clause-written
 returns-clause-written c =
-    let s = c.self.inside.space in
-    let is = (rewritten-stored s c.write_part.new.self c.write_store.new.self c.write_store-2.new.self c.self.inside.count c.self.inside.last c.self.inside.start c.args.k c.args.start (c.args.start + 3 + c.head-name.result) c.args.text.0 c.args.text.1 c.self.invariant (rw (← c.self.view_is) at c.requires.known) (rw (← c.self.view_is) at c.requires.begins) (ap (λ n. c.args.start + 3 + n) c.head-name.ensures) (rw (← c.self.view_is) at c.requires.text_part) (rw (← c.self.view_is) at c.requires.same) c.write_part.ensures c.write_store.ensures c.write_store-2.ensures).0 in
-    rw (← c.self.view_is) (shown-restored _ s _ _ is)
+    let is = (rewritten-stored _ c.write_part.new.self c.write_store.new.self c.write_store-2.new.self c.self.inside.count c.self.inside.last c.self.inside.start c.args.k c.args.start (c.args.start + 3 + c.head-name.result) c.args.text.0 c.args.text.1 c.self.invariant (rw (← c.self.view_is) at c.requires.known) (rw (← c.self.view_is) at c.requires.begins) (ap (λ n. c.args.start + 3 + n) c.head-name.ensures) (rw (← c.self.view_is) at c.requires.text_part) (rw (← c.self.view_is) at c.requires.same) c.write_part.ensures c.write_store.ensures c.write_store-2.ensures).0 in
+    rw (← c.self.view_is) (shown-restored _ c.self.inside.space _ _ is)
 
 pub returns-clause-sound : goal.returns-clause-sound
 returns-clause-sound c = (invariant_of-self c).sound
