@@ -1,4 +1,4 @@
-use Rattle.trac_values.proofs.Words.{◌≡◌, ◌<◌, ◌^◌, length, true, sym, ap, ◌∙◌, refl, arith, rules, length-map, get_or-map, take_all, digits_value, is_ascii_digit, Cell, Byte, Call, Comma, Gap, Head, character_of, text_of_cells, IsByte}
+use Rattle.trac_values.proofs.Words.{◌≡◌, ◌<◌, ◌^◌, length, true, sym, ap, ◌∙◌, refl, arith, rules, length-map, get_or-map, take_all, digits_value, is_ascii_digit, Cell, Byte, character_of, text_of_cells, IsByte}
 use Rattle.trac_values.proofs.DigitsFromEnd.{fits_before}
 use Rattle.trac_values.proofs.Suffixes.{digit_at, value_more, within_text}
 use Rattle.trac_values.proofs.number.part_value.Goals as goal
@@ -6,10 +6,7 @@ use Rattle.trac_values.proofs.number.part_value.Goals as goal
 -- only a character is a digit
 digit-byte : (cell : Cell) → is_ascii_digit (character_of cell) ≡ true → IsByte cell
 digit-byte (Byte b) digit = search rules
-digit-byte (Call mode number) digit = absurd cc
-digit-byte Comma digit = absurd cc
-digit-byte (Gap ordinal) digit = absurd cc
-digit-byte (Head n) digit = absurd cc
+digit-byte cell digit = absurd cc
 
 pub byte_in-requires : goal.byte_in-requires
 byte_in-requires c =
@@ -21,9 +18,7 @@ byte_in-requires c =
 
 pub overflow_sub-byte_in : goal.overflow_sub-byte_in
 overflow_sub-byte_in c =
-    let i = c.loop-i.i in
-    let lt = c.loop-i-test.true in
-    (digit_at c.args.digits.now i c.byte_in.result lt c.byte_in.ensures (c.requires.decimal i (within_text c.args.digits.now i lt))).0
+    (digit_at c.args.digits.now c.loop-i.i _ c.loop-i-test.true c.byte_in.ensures c.requires.decimal).0
 
 pub overflow_mul-value : goal.overflow_mul-value
 overflow_mul-value c =
@@ -36,7 +31,7 @@ overflow_add-value c =
     let below = c.loop-i.invariant.below in
     let i = c.loop-i.i in
     let lt : i < length c.args.digits.now = c.loop-i-test.true in
-    let digit = digit_at c.args.digits.now i c.byte_in.result lt c.byte_in.ensures (c.requires.decimal i (within_text c.args.digits.now i lt)) in
+    let digit = digit_at c.args.digits.now i c.byte_in.result lt c.byte_in.ensures c.requires.decimal in
     let at = fits_before i 0 (10 ^ i) 0 (omega (arith, lt, c.requires.few)) refl (omega (arith, below)) (omega arith) in
     omega (arith, at.2, below, digit.1, c.from.ensures)
 
@@ -52,10 +47,9 @@ loop-i-preserved c =
     let i = c.loop-i.i in
     let cells = c.args.digits.now in
     let lt : i < length cells = c.loop-i-test.true in
-    let passes = c.requires.decimal i (within_text cells i lt) in
-    let digit = digit_at cells i c.byte_in.result lt c.byte_in.ensures passes in
+    let digit = digit_at cells i c.byte_in.result lt c.byte_in.ensures c.requires.decimal in
     let at = fits_before i 0 (10 ^ i) 0 (omega (arith, lt, c.requires.few)) refl (omega (arith, below)) (omega arith) in
-    let more = value_more cells i c.byte_in.result lt c.byte_in.ensures passes in
+    let more = value_more cells i c.byte_in.result lt c.byte_in.ensures c.requires.decimal in
     record {
       value = omega (arith, more, c.loop-i.invariant.value, c.from.ensures);
       below = omega (arith, at.4, below, digit.1, c.from.ensures);
