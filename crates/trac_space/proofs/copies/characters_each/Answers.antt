@@ -4,11 +4,8 @@ use Rattle.trac_space.proofs.copies.characters_each.Goals as goal
 
 pub loop-count-preserved : goal.loop-count-preserved
 loop-count-preserved c =
-    let cells = c.args.cells.now in
-    let start = c.args.start in
-    let k = c.loop-count.count in
-    let cell = slice_index_or cells (start + k) (Byte 0) in
+    let cell = slice_index_or c.args.cells.now (c.args.start + c.loop-count.count) (Byte 0) in
     record {
       within = omega (arith, c.loop-count-test.true);
-      bytes = bytes-more cells start k (Byte 0) (omega (arith, c.requires, c.loop-count-test.true)) c.loop-count.invariant.bytes (tested-byte cell (sym c.is_character.ensures ∙ c.if-is_character.true));
+      bytes = bytes-more c.args.cells.now c.args.start c.loop-count.count (Byte 0) (omega (arith, c.requires, c.loop-count-test.true)) c.loop-count.invariant.bytes (tested-byte cell (sym c.is_character.ensures ∙ c.if-is_character.true));
     }
