@@ -16,6 +16,18 @@ pub bytes-more : (was : List Cell) (start k : ℕ) (d : Cell) → start + k < le
 bytes-more was start k d within bytes next =
     rw (take_more (drop start was) k d (omega (arith, length-drop start was))) (All-push IsByte _ _ bytes (rw get_or-drop next))
 
+-- so many characters stand from a place on, and no more than may
+pub record AreUpTo (cells : List Cell) (start most count : ℕ) : Type 0 where
+  pub within : count ≤ most
+  pub bytes : All IsByte (take count (drop start cells))
+
+-- the next cell is one too
+pub up-to-next : (cells : List Cell) (start most count : ℕ) → start + most ≤ length cells → count < most → AreUpTo cells start most count → is_byte_cell (get_or cells (start + count) (Byte 0)) ≡ true → AreUpTo cells start most (count + 1)
+up-to-next cells start most count room less done is = record {
+  within = omega (arith, less);
+  bytes = bytes-more cells start count (Byte 0) (omega (arith, room, less)) done.bytes (tested-byte (get_or cells (start + count) (Byte 0)) is);
+}
+
 -- characters, and others behind them
 pub bytes-join : (cells : List Cell) (start k j : ℕ) → All IsByte (take k (drop start cells)) → All IsByte (take j (drop (start + k) cells)) → All IsByte (take (k + j) (drop start cells))
 bytes-join cells start k j bytes more =
