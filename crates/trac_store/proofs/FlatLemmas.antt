@@ -4,11 +4,14 @@ use Rattle.trac_store.proofs.Words.{All-tail, All-cons, All-append, All-map, sum
 use Rattle.trac_store.proofs.Words.{item_of, read_forms, forms_in}
 use Rattle.trac_language.specs.declared.item.Item.TheVariants as item
 
--- forms have as many cells as they form_cells
+-- how many cells a form has
+pub length-flat_form : (form : Form) → length (flat_form form) ≡ form_cells form
+length-flat_form form = omega (arith, length-append (map Byte form.name) (map flat_item form.body), length-map form.name Byte, length-map form.body flat_item)
+
 pub length-flat : (forms : List Form) → length (flat_forms forms) ≡ cells forms
 length-flat [] = refl
 length-flat (form ∷ forms) =
-    omega (arith, length-flat forms, length-append (flat_form form) (flat_forms forms), length-append (map Byte form.name) (map flat_item form.body), length-map form.name Byte, length-map form.body flat_item, sum_by-cons form_cells form forms)
+    omega (arith, length-flat forms, length-append (flat_form form) (flat_forms forms), length-flat_form form, sum_by-cons form_cells form forms)
 
 pub character_of-Byte : (text : List ℕ) → map character_of (map Byte text) ≡ text
 character_of-Byte [] = refl

@@ -1,6 +1,7 @@
 -- Where forms stand among the cells of a list of forms.
 use Rattle.trac_store.proofs.Words.{◌≡◌, ℕ, suc, ◌+◌, ◌-◌, ◌<◌, ◌≤◌, List, [], ◌∷◌, ◌++◌, length, take, drop, map, slice_range, slice_get, set, Some, refl, sym, ap, ◌∙◌, arith, remove, drop-append-add, append_assoc, append-nil, length-append, length-map, take-append-drop, drop_more, take_more}
 use Rattle.trac_store.proofs.Words.{take_at, drop_at, drop-drop, set_split, take-set, set-append_right, flat_map-append, Form, form_cells, Cell, Byte, Head, Lists, flat_text, flat_item, flat_form, flat_forms, form_at, start_of, head_number, head_at}
+use Rattle.trac_store.proofs.FlatLemmas.{length-flat_form}
 
 slice_get-append-add : (xs ys : List Cell) (n : ℕ) → slice_get (xs ++ ys) (length xs + n) ≡ slice_get ys n
 slice_get-append-add [] ys n = ap (slice_get ys) (omega arith)
@@ -64,8 +65,7 @@ module _ (forms : List Form) (store : List Cell) (k at : ℕ) (whole : flat_form
   next_start =
       let more = take_more forms k (record { name = []; body = []; pointer = 0 }) within in
       let joined = ap (λ fs. length (flat_forms fs)) more ∙ ap length (flat_map-append flat_form (take k forms) (form ∷ [])) in
-      let size : length (flat_form form) ≡ form_cells form = omega (arith, length-append (flat_text form.name) (map flat_item form.body), length-map form.name Byte, length-map form.body flat_item) in
-      omega (arith, begins, joined, length-append front (flat_form form ++ []), ap length (append-nil (flat_form form)), size)
+      omega (arith, begins, joined, length-append front (flat_form form ++ []), ap length (append-nil (flat_form form)), length-flat_form form)
 
   pub stands : Stands forms store k at
   stands =

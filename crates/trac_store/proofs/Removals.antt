@@ -1,8 +1,8 @@
 -- Forms that are marked, and then removed.
-use Rattle.trac_store.proofs.Words.{◌≡◌, ◌<◌, ℕ, zero, suc, ◌+◌, ◌≤◌, Bool, true, false, List, [], ◌∷◌, length, map, set, slice_range, sym, ap, refl, ◌∙◌, subst, arith, ◌⊎◌, ⊎_elim, if◌then◌else◌, filter, not, ◌||◌, ◌==◌, length-append, length-map, length-set, get_or-set_other, All-head}
-use Rattle.trac_store.proofs.Words.{All-tail, Text, Form, is_named, NoneNamed, IsStore, Cell, Head, Lists, flat_text, flat_form, flat_forms, flat_item, form_at, IsNamedAt, IsTextPart, part_text, part_texts, before_comma, parts_between, texts_between, AreParted, IsPlace, forms_in, start_of}
+use Rattle.trac_store.proofs.Words.{◌≡◌, ◌<◌, ℕ, zero, suc, ◌+◌, ◌≤◌, Bool, true, false, List, [], ◌∷◌, length, set, slice_range, sym, ap, refl, ◌∙◌, subst, arith, ◌⊎◌, ⊎_elim, if◌then◌else◌, filter, not, ◌||◌, ◌==◌, length-append, length-set, get_or-set_other, All-head}
+use Rattle.trac_store.proofs.Words.{All-tail, Text, Form, is_named, NoneNamed, IsStore, Cell, Head, Lists, flat_form, flat_forms, form_at, IsNamedAt, IsTextPart, part_text, part_texts, before_comma, parts_between, texts_between, AreParted, IsPlace, forms_in, start_of}
 use Rattle.trac_store.proofs.Words.{is_among, without_all, mark, is_marked, marked, marked_if, with_marks, unmarked, HaveOwnNames, IsFormed, IsMarkedFrom, begins}
-use Rattle.trac_store.proofs.FlatLemmas.{forms_in-flat}
+use Rattle.trac_store.proofs.FlatLemmas.{forms_in-flat, length-flat_form}
 use Rattle.trac_store.proofs.Places.{stands, repointed, start_of-set}
 use Rattle.trac_store.proofs.Parted.{parts-first, part-fits}
 use Rattle.trac_store.proofs.Indexed.{index-pointer, same_start}
@@ -120,7 +120,7 @@ unmarked-marks names [] h few = refl
 unmarked-marks names (form ∷ forms) h few =
     let size = length-cons form forms in
     let more = unmarked-marks names forms h.2 (omega (arith, few, size)) in
-    let small : form.pointer ≤ 16777216 = omega (arith, h.0, few, size, length-append (flat_text form.name) (map flat_item form.body), length-map form.body flat_item) in
+    let small : form.pointer ≤ 16777216 = omega (arith, h.0, few, size, length-flat_form form) in
     go (is_among names form) (no-mark form.pointer small) more
   where
     go : (b : Bool) → is_marked form ≡ false → unmarked (with_marks names forms) ≡ without_all names forms → (if not (is_marked (marked_if b form)) then marked_if b form ∷ unmarked (with_marks names forms) else unmarked (with_marks names forms)) ≡ (if not b then form ∷ without_all names forms else without_all names forms)

@@ -1,7 +1,8 @@
 -- The store while the marked forms are taken out of it, in order.
-use Rattle.trac_store.proofs.Words.{◌≡◌, ℕ, zero, suc, ◌+◌, ◌-◌, ◌<◌, ◌≤◌, true, false, List, [], ◌∷◌, ◌++◌, length, take, drop, map, slice_range, slice_get, sym, ap, refl, ◌∙◌, arith, not, append_assoc, append-nil, take-append-drop, length-append, length-map, length-drop, length-take-le}
-use Rattle.trac_store.proofs.Words.{length_push, take_more, take_at, drop_at, drop-drop, flat_map_more, flat_map-append, length-between, slice_get_past, drop-append-drop, filter-append, drop_split, Form, Cell, Byte, Lists, flat_text, part-on, flat_item, flat_form, flat_forms, form_at}
+use Rattle.trac_store.proofs.Words.{◌≡◌, ℕ, zero, suc, ◌+◌, ◌-◌, ◌<◌, ◌≤◌, true, false, List, [], ◌∷◌, ◌++◌, length, take, drop, slice_range, slice_get, sym, ap, refl, ◌∙◌, arith, not, append_assoc, append-nil, take-append-drop, length-append, length-drop, length-take-le}
+use Rattle.trac_store.proofs.Words.{length_push, take_more, take_at, drop_at, drop-drop, flat_map_more, flat_map-append, length-between, slice_get_past, drop-append-drop, filter-append, drop_split, Form, Cell, Lists, part-on, flat_form, flat_forms, form_at}
 use Rattle.trac_store.proofs.Words.{IsMarkedFrom, is_marked, unmarked, forms_in, start_of, head_number, head_at, IsPlace}
+use Rattle.trac_store.proofs.FlatLemmas.{length-flat_form}
 use Rattle.trac_store.proofs.Places.{Stands, stands}
 
 -- of the first i forms, which end at `from`, those without a mark stand before the gap from a up to
@@ -72,7 +73,7 @@ module _ {old now : Lists} {i a b from kept : ℕ} (h : IsSweptTo old now i a b 
     form-part =
         let size : end - from ≡ 3 + length form.name + length form.body = omega (arith, ends) in
         let cells = ap (drop from) f.split ∙ drop_at (flat_forms (take i forms)) (flat_form form ++ flat_forms (drop (i + 1) forms)) from (sym h.begins) in
-        let long : length (flat_form form) ≡ end - from = omega (arith, size, length-append (flat_text form.name) (map flat_item form.body), length-map form.name Byte, length-map form.body flat_item) in
+        let long : length (flat_form form) ≡ end - from = omega (arith, size, length-flat_form form) in
         ap (take (end - from)) (h.behind ∙ cells) ∙ take_at (flat_form form) (flat_forms (drop (i + 1) forms)) (end - from) long
 
     behind-next : drop end now.store ≡ drop end old.store

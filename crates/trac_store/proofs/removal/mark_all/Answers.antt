@@ -10,10 +10,9 @@ overflow_add-to c =
 
 pub mark_named-places-requires-clause-name_part : goal.mark_named-places-requires-clause-name_part
 mark_named-places-requires-clause-name_part c =
-    let s = c.loop-from.space in
     let from = c.loop-from.from in
-    let comma = found-comma c.neutral_part.result.now (slice_range s.neutral from c.args.names.1) c.before_comma.result c.neutral_part.ensures c.before_comma.ensures in
-    let part = first-part s.neutral from c.args.names.1 c.before_comma.result c.loop-from.invariant.left c.loop-from-test.true comma in
+    let comma = found-comma c.neutral_part.result.now (slice_range c.loop-from.space.neutral from c.args.names.1) c.before_comma.result c.neutral_part.ensures c.before_comma.ensures in
+    let part = first-part c.loop-from.space.neutral from c.args.names.1 c.before_comma.result c.loop-from.invariant.left c.loop-from-test.true comma in
     subst (λ cells. IsTextPart cells from (from + c.before_comma.result)) (sym (ap (λ (w : Lists). w.neutral) c.keep_index.ensures.same)) part
 
 pub overflow_add-from : goal.overflow_add-from

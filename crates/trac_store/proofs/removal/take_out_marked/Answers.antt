@@ -23,9 +23,8 @@ returns-clause-index c =
 
 pub index_from-requires-clause-place : goal.index_from-requires-clause-place
 index_from-requires-clause-place c =
-    let s = c.args.space.now in
-    let read = unmarked-read s _ _ c.unindex_from.ensures.same c.remove_marked-count.ensures.gone in
-    subst (λ fs. IsPlace fs c.args.first.0 c.args.first.1) (sym read) (place-stays (forms_in s.store) c.args.first.0 c.args.first.1 c.requires.first)
+    let read = unmarked-read c.args.space.now _ _ c.unindex_from.ensures.same c.remove_marked-count.ensures.gone in
+    subst (λ fs. IsPlace fs c.args.first.0 c.args.first.1) (sym read) (place-stays (forms_in c.args.space.now.store) c.args.first.0 c.args.first.1 c.requires.first)
 
 pub index_from-requires-clause-index : goal.index_from-requires-clause-index
 index_from-requires-clause-index c =

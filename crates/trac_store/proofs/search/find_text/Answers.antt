@@ -6,11 +6,10 @@ use Rattle.trac_store.proofs.search.find_text.Goals as goal
 
 pub returns-then-len-lt-LONG-clause-found : goal.returns-then-len-lt-LONG-clause-found
 returns-then-len-lt-LONG-clause-found c =
-    let s = c.args.space.now in
     let text = c.neutral_part-text.result.now in
-    let part = slice_range s.neutral c.args.part.0 c.args.part.1 in
+    let part = slice_range c.args.space.now.neutral c.args.part.0 c.args.part.1 in
     let raw = c.store_part.result.now in
-    let cells = slice_range s.store c.args.body.0 c.args.body.1 in
+    let cells = slice_range c.args.space.now.store c.args.body.0 c.args.body.1 in
     let size = sym (length-map raw seen) ∙ ap length c.store_part.ensures in
     first-agrees c.first_text.result (text_cells_at (map character_of text) raw) (text_cells_at (map character_of part) cells) c.args.from (length raw) (length cells) size (λ k below. texts-seen raw cells text part c.store_part.ensures c.neutral_part-text.ensures k) c.first_text.ensures
 
@@ -22,11 +21,10 @@ first_by_borders-found-requires-clause-borders c =
 
 pub returns-clause-found : goal.returns-clause-found
 returns-clause-found c =
-    let s = c.args.space.now in
     let text = c.neutral_part-text-2.result.now in
-    let part = slice_range s.neutral c.args.part.0 c.args.part.1 in
+    let part = slice_range c.args.space.now.neutral c.args.part.0 c.args.part.1 in
     let raw = c.store_part-2.result.now in
-    let cells = slice_range s.store c.args.body.0 c.args.body.1 in
+    let cells = slice_range c.args.space.now.store c.args.body.0 c.args.body.1 in
     let store = c.store_part-2.ensures ∙ ap (λ (l : Lists). slice_range l.store c.args.body.0 c.args.body.1) c.list_borders.ensures.same in
     let neutral = c.neutral_part-text-2.ensures ∙ ap (λ (l : Lists). slice_range l.neutral c.args.part.0 c.args.part.1) c.list_borders.ensures.same in
     let size = sym (length-map raw seen) ∙ ap length store in

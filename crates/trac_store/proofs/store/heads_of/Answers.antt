@@ -17,9 +17,8 @@ store_part-cells-requires-clause-within c = ends (goal.at.store_part-cells-requi
 -- the slice has them
 len : (c : After-store_part-cells) → length c.store_part-cells.result.now ≡ 3
 len c =
-    let at = c.args.form.1 in
     let f = stands _ _ _ _ c.requires.whole c.requires.known c.requires.begins in
-    omega (arith, length-map c.store_part-cells.result.now seen, ap length c.store_part-cells.ensures, length-between c.args.space.now.store at (at + 3) (omega (arith, f.end)))
+    omega (arith, length-map c.store_part-cells.result.now seen, ap length c.store_part-cells.ensures, length-between c.args.space.now.store c.args.form.1 (c.args.form.1 + 3) (omega (arith, f.end)))
 
 -- each is a head in the store
 heads : (c : Start) → IsHeadAt c.args.space.now.store (c.args.form.1 + 0) × IsHeadAt c.args.space.now.store (c.args.form.1 + 1) × IsHeadAt c.args.space.now.store (c.args.form.1 + 2)

@@ -9,9 +9,8 @@ byte_in-requires c =
     let from = c.args.from in
     let len = c.args.len in
     let some : 0 < len = omega (arith, c.requires.some) in
-    let within = c.requires.within in
-    let at = part-last cells from len some within in
-    byte-seen (get_or cells (from + len - 1) (Byte 0)) (subst IsByte at (c.requires.part_bytes (len - 1) (Byte 0) (omega (arith, part-length cells from len within))))
+    let at = part-last cells from len some c.requires.within in
+    byte-seen (get_or cells (from + len - 1) (Byte 0)) (subst IsByte at (c.requires.part_bytes (len - 1) (Byte 0) (omega (arith, part-length cells from len c.requires.within))))
 
 -- parts whose last cells differ
 last-differs : (cells text : List Cell) (from n last : ℕ) → 0 < n → from + n ≤ length cells → n ≡ length text → last ≡ character_of (get_or text (length text - 1) (Byte 0)) → map seen (slice_range cells from (from + n)) ≡ map seen text → character_of (get_or cells (from + n - 1) (Byte 0)) ≡ last
@@ -26,15 +25,12 @@ last-differs cells text from n last some within same last_is e =
 
 pub returns-then-len-text : goal.returns-then-len-text
 returns-then-len-text c =
-    let cells = c.args.cells.now in
-    let text = c.args.text.now in
-    let from = c.args.from in
     let len = c.args.len in
     let within = c.requires.within in (
       λ e. absurd (false≢true e),
       λ e. elim c.then-len-text.branch [
-        | then-len-text-via-then-len-text w ↦ absurd (omega (arith, w.if-len-text.true, ap length e, part-length cells from len within, length-map text seen))
-        | then-len-text-via-else-len-text+then-byte_in-last w ↦ absurd (let same = w.if-len-text.false in w.if-byte_in-last.true (w.byte_in.ensures ∙ last-differs cells text from len c.args.last (omega (arith, same, c.requires.some)) within same c.requires.last e))
+        | then-len-text-via-then-len-text w ↦ absurd (omega (arith, w.if-len-text.true, ap length e, part-length c.args.cells.now c.args.from len within, length-map c.args.text.now seen))
+        | then-len-text-via-else-len-text+then-byte_in-last w ↦ absurd (let same = w.if-len-text.false in w.if-byte_in-last.true (w.byte_in.ensures ∙ last-differs c.args.cells.now c.args.text.now c.args.from len c.args.last (omega (arith, same, c.requires.some)) within same c.requires.last e))
       ],
     )
 

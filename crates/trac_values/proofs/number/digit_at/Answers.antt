@@ -8,8 +8,7 @@ overflow_sub-result c =
 
 pub returns-else-place-digits-clause-below : goal.returns-else-place-digits-clause-below
 returns-else-place-digits-clause-below c =
-    let cells = c.args.digits.now in
-    let facts = digit_at cells (c.args.place + length cells - c.args.long) c.character_of.result (omega arith) c.character_of.ensures c.requires.digits in
+    let facts = digit_at c.args.digits.now (c.args.place + length c.args.digits.now - c.args.long) c.character_of.result (omega arith) c.character_of.ensures c.requires.digits in
     omega (arith, facts.0, facts.1)
 
 pub returns-else-place-digits-clause-value : goal.returns-else-place-digits-clause-value

@@ -10,11 +10,9 @@ digit-byte cell digit = absurd cc
 
 pub byte_in-requires : goal.byte_in-requires
 byte_in-requires c =
-    let cells = c.args.digits.now in
     let i = c.loop-i.i in
-    let lt = c.loop-i-test.true in
-    let same = get_or-map character_of cells i (Byte 0) 0 lt in
-    digit-byte _ (ap is_ascii_digit (sym same) ∙ c.requires.decimal i (within_text cells i lt))
+    let same = get_or-map character_of c.args.digits.now i (Byte 0) 0 c.loop-i-test.true in
+    digit-byte _ (ap is_ascii_digit (sym same) ∙ c.requires.decimal i (within_text c.args.digits.now i c.loop-i-test.true))
 
 pub overflow_sub-byte_in : goal.overflow_sub-byte_in
 overflow_sub-byte_in c =
@@ -37,8 +35,7 @@ overflow_add-value c =
 
 pub overflow_mul-power : goal.overflow_mul-power
 overflow_mul-power c =
-    let i = c.loop-i.i in
-    let at = fits_before i 0 (10 ^ i) 0 (omega (arith, c.loop-i-test.true, c.requires.few)) refl (omega (arith, c.loop-i.invariant.below)) (omega arith) in
+    let at = fits_before c.loop-i.i 0 (10 ^ c.loop-i.i) 0 (omega (arith, c.loop-i-test.true, c.requires.few)) refl (omega (arith, c.loop-i.invariant.below)) (omega arith) in
     omega (arith, at.2, c.loop-i.invariant.power)
 
 pub loop-i-preserved : goal.loop-i-preserved

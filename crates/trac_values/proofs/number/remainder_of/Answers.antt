@@ -10,10 +10,9 @@ overflow_sub-character_of c =
 pub loop-cell-preserved : goal.loop-cell-preserved
 loop-cell-preserved c =
     let i = c.loop-cell.cell-index in
-    let cells = c.args.digits.now in
     let digit = c.character_of.result - 48 in
-    let v = digits_value 10 (take i (text_of_cells cells)) in
-    let more = value_more cells i c.character_of.result c.loop-cell-test.true c.character_of.ensures c.requires.digits in
+    let v = digits_value 10 (take i (text_of_cells c.args.digits.now)) in
+    let more = value_more c.args.digits.now i c.character_of.result c.loop-cell-test.true c.character_of.ensures c.requires.digits in
     let step : (c.loop-cell.rest * 10 + c.from.result) % c.args.divisor ≡ (c.loop-cell.rest * 10 + digit) % c.args.divisor = cc in
     step
     ∙ ap (λ n. (n * 10 + digit) % c.args.divisor) c.loop-cell.invariant

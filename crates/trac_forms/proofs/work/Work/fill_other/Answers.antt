@@ -4,9 +4,8 @@ use Rattle.trac_forms.proofs.work.Work.fill_other.Goals as goal
 
 pub invariant_of-self : goal.invariant_of-self
 invariant_of-self c =
-    let s = c.self.inside.space in
-    let text = filled_body (shown s) c.args.form.0 c.args.first c.args.end in
-    appended-or-kept _ s c.fill_form.new.space _ _ _ text c.fill_form.result c.fill_form.ensures.kept c.self.invariant c.fill_form.ensures.put.0 c.fill_form.ensures.last c.fill_form.ensures.full
+    let text = filled_body (shown c.self.inside.space) c.args.form.0 c.args.first c.args.end in
+    appended-or-kept _ c.self.inside.space c.fill_form.new.space _ _ _ text c.fill_form.result c.fill_form.ensures.kept c.self.invariant c.fill_form.ensures.put.0 c.fill_form.ensures.last c.fill_form.ensures.full
 
 pub returns-clause-put : goal.returns-clause-put
 returns-clause-put c =

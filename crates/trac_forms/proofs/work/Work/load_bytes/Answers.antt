@@ -15,9 +15,8 @@ invariant_of-self c =
     let text = c.args.text.now in
     let used = used-stored s c.self.invariant.whole in
     let fits = rw (← c.self.view_is) at c.requires in
-    let mid = c.make_way.new.self in
     let room : lists.used s + length (bytes text) ≤ s.room = omega (arith, length-map text Byte) in
-    before-active _ s mid _ _ _ _ (bytes text) (way-kept (length text) s) c.self.invariant (All-map IsByte Byte text (λ k d l. tt)) room c.make_way.ensures.same c.load_bytes.ensures
+    before-active _ s c.make_way.new.self _ _ _ _ (bytes text) (way-kept (length text) s) c.self.invariant (All-map IsByte Byte text (λ k d l. tt)) room c.make_way.ensures.same c.load_bytes.ensures
 
 pub returns-clause-loaded : goal.returns-clause-loaded
 returns-clause-loaded c =

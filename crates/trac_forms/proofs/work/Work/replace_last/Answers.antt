@@ -1,4 +1,4 @@
-use Rattle.trac_forms.proofs.Words.{◌+◌, ◌≤◌, length, ap, ◌∙◌, arith, IsSound, part_text, forms_in, stands, defined-last}
+use Rattle.trac_forms.proofs.Words.{◌+◌, ◌≤◌, length, ap, ◌∙◌, arith, IsSound, part_text, defined-last}
 use Rattle.trac_forms.proofs.Strings.{known, used-stored}
 use Rattle.trac_forms.proofs.work.Work.replace_last.Goals as goal
 
@@ -15,9 +15,8 @@ returns-clause-fits c = λ _.
 
 pub returns-clause-done : goal.returns-clause-done
 returns-clause-done c =
-    let h = c.self.invariant in
     let now = c.args.self.now in
     let found = rw c.in-Some.is at c.requires.found in
-    let sound : IsSound now = rw (← c.self.view_is) h.sound in
-    let last : length now.forms ≤ c.in-Some.k + 1 = rw (← c.self.view_is) (omega (arith, h.count_is, c.if-k-count.false)) in
+    let sound : IsSound now = rw (← c.self.view_is) c.self.invariant.sound in
+    let last : length now.forms ≤ c.in-Some.k + 1 = rw (← c.self.view_is) (omega (arith, c.self.invariant.count_is, c.if-k-count.false)) in
     c.write_body.ensures.written ∙ ap (λ forms. record now { forms = forms }) (defined-last (part_text now.neutral c.args.name.0 c.args.name.1) (part_text now.neutral c.args.text.0 c.args.text.1) now.forms c.in-Some.k sound.forms found.named last)

@@ -1,4 +1,4 @@
-use Rattle.trac_forms.proofs.Words.{◌+◌, ◌≤◌, [], length, refl, arith, forms_in}
+use Rattle.trac_forms.proofs.Words.{arith, forms_in}
 use Rattle.trac_forms.proofs.Listing.{stored-form, stored-is_form}
 use Rattle.trac_forms.proofs.Strings.{known}
 use Rattle.trac_forms.proofs.work.Work.stored.Goals as goal
@@ -33,7 +33,6 @@ invariant_of-result c =
 
 pub returns : goal.returns
 returns c =
-    let s = c.self.inside.space in
     let h = c.heads-name.ensures in
     let within = rw (← c.self.view_is) at c.requires in
-    rw (← c.self.view_is) (stored-form (forms_in s.store) s.store _ _ c.args.form.0 c.place_of-start.result _ _ _ c.self.invariant.whole within c.place_of-start.ensures h.name h.body h.pointer c.store_part.ensures c.store_part-2.ensures)
+    rw (← c.self.view_is) (stored-form (forms_in c.self.inside.space.store) c.self.inside.space.store _ _ c.args.form.0 c.place_of-start.result _ _ _ c.self.invariant.whole within c.place_of-start.ensures h.name h.body h.pointer c.store_part.ensures c.store_part-2.ensures)
