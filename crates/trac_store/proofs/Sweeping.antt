@@ -30,15 +30,10 @@ swept-heads was now from i behind =
     sym (ap head_number (slice_get-drop from now i)) ∙ ap (λ cells. head_number (slice_get cells i)) behind ∙ ap head_number (slice_get-drop from was i)
 
 -- the forms without a mark up to the next
-next-marked : (forms : List Form) (i : ℕ) → i < length forms → is_marked (form_at forms i) ≡ true → unmarked (take (i + 1) forms) ≡ unmarked (take i forms)
-next-marked forms i within is =
-    let more = take_more forms i (record { name = []; body = []; pointer = 0 }) within in
-    ap unmarked more ∙ filter-append (λ form. not (is_marked form)) (take i forms) (form_at forms i ∷ []) ∙ rw is (append-nil (unmarked (take i forms)))
-
-next-unmarked : (forms : List Form) (i : ℕ) → i < length forms → is_marked (form_at forms i) ≡ false → unmarked (take (i + 1) forms) ≡ unmarked (take i forms) ++ form_at forms i ∷ []
-next-unmarked forms i within plain =
-    let more = take_more forms i (record { name = []; body = []; pointer = 0 }) within in
-    ap unmarked more ∙ filter-append (λ form. not (is_marked form)) (take i forms) (form_at forms i ∷ []) ∙ rw plain refl
+next-unmarked : (forms : List Form) (i : ℕ) → i < length forms → unmarked (take (i + 1) forms) ≡ unmarked (take i forms) ++ unmarked (form_at forms i ∷ [])
+next-unmarked forms i within =
+    ap unmarked (take_more forms i (record { name = []; body = []; pointer = 0 }) within)
+    ∙ filter-append (λ form. not (is_marked form)) (take i forms) (form_at forms i ∷ [])
 
 module _ {old now : Lists} {i a b from kept : ℕ} (h : IsSweptTo old now i a b from kept) (whole : flat_forms (forms_in old.store) ≡ old.store) (within : i < length (forms_in old.store)) where
   abbrev forms : List Form
@@ -83,7 +78,7 @@ module _ {old now : Lists} {i a b from kept : ℕ} (h : IsSweptTo old now i a b 
 
     pub swept-more : is_marked form ≡ false → IsSweptTo old now (i + 1) a b end (kept + 1)
     swept-more plain =
-        let next = next-unmarked forms i within plain in
+        let next : unmarked (take (i + 1) forms) ≡ unmarked (take i forms) ++ form ∷ [] = next-unmarked forms i within ∙ rw plain refl in
         let size : b + ((from - b) + (end - from)) ≡ end = omega (arith, h.order, ends) in
         let first : b + (from - b) ≡ from = omega (arith, h.order) in
         let last : b + (from - b) + (end - from) ≡ end = omega (arith, h.order, ends) in
@@ -108,7 +103,7 @@ module _ {old now : Lists} {i a b from kept : ℕ} (h : IsSweptTo old now i a b 
 
     pub swept-gone : (new : Lists) → is_marked form ≡ true → new ≡ record now { store = take a now.store ++ slice_range now.store b from ++ drop (a + (from - b)) now.store } → IsSweptTo old new (i + 1) (a + (from - b)) end end kept
     swept-gone new is moved =
-        let next = next-marked forms i within is in
+        let next : unmarked (take (i + 1) forms) ≡ unmarked (take i forms) = next-unmarked forms i within ∙ rw is (append-nil (unmarked (take i forms))) in
         let there = take a now.store ++ slice_range now.store b from in
         let at = a + (from - b) in
         let fits = swept-end in

@@ -1,6 +1,6 @@
 -- Changes of a table of forms.
 use Rattle.trac_store.proofs.Words.{◌≡◌, ◌≢◌, ℕ, ◌+◌, ◌-◌, ◌*◌, ◌/◌, ◌<◌, ◌≤◌, false, List, length, set, sym, ap, ◌∙◌, arith, ⊎_elim, inl, inr, subst, ◌⊎◌, bit_and, and_le_r, cases_lt, length-set, get_or-set_same, get_or-set_other, Text, Cell, Byte, Comma, Head, hash, quarter, slots, slot}
-use Rattle.trac_store.proofs.Words.{cell_at, start_place, home_place, is_blank, IsReached, IsEntry, HasEntry, IsHeld, IsIndexBut, with_entry, begins}
+use Rattle.trac_store.proofs.Words.{cell_at, start_place, home_place, is_blank, IsReached, IsEntry, HasEntry, IsHeld, IsIndexBut, with_entry, begins, reads}
 
 pub same_or : (a b : ℕ) → (a ≡ b) ⊎ (a ≢ b)
 same_or a b =
@@ -52,19 +52,13 @@ module _ (table : List Cell) (s k start : ℕ) (s_in : s < slots table) (k_in : 
   long = length-set (set (set table s (Head k)) (start_place table k) (Head start)) (home_place table k) (Head s) ∙ length-set (set table s (Head k)) (start_place table k) (Head start) ∙ length-set table s (Head k)
 
   entry-slot : cell_at (with_entry table s k start) s ≡ Head k
-  entry-slot =
-      get_or-set_other (set (set table s (Head k)) (start_place table k) (Head start)) (home_place table k) s (Head s) (Byte 0) (λ e. absurd (omega (arith, e, s_in)))
-      ∙ get_or-set_other (set table s (Head k)) (start_place table k) s (Head start) (Byte 0) (λ e. absurd (omega (arith, e, s_in)))
-      ∙ get_or-set_same table s (Head k) (Byte 0) (omega (arith, s_in))
+  entry-slot = grind (arith, reads)
 
   entry-start : cell_at (with_entry table s k start) (start_place table k) ≡ Head start
-  entry-start =
-      get_or-set_other (set (set table s (Head k)) (start_place table k) (Head start)) (home_place table k) (start_place table k) (Head s) (Byte 0) (λ e. absurd (omega (arith, e, k_in)))
-      ∙ get_or-set_same (set table s (Head k)) (start_place table k) (Head start) (Byte 0) (omega (arith, k_in, length-set table s (Head k)))
+  entry-start = grind (arith, reads)
 
   entry-home : cell_at (with_entry table s k start) (home_place table k) ≡ Head s
-  entry-home =
-      get_or-set_same (set (set table s (Head k)) (start_place table k) (Head start)) (home_place table k) (Head s) (Byte 0) (omega (arith, k_in, length-set (set table s (Head k)) (start_place table k) (Head start), length-set table s (Head k)))
+  entry-home = grind (arith, reads)
 
   entry-other : (x : ℕ) → x ≢ s → x ≢ start_place table k → x ≢ home_place table k → cell_at (with_entry table s k start) x ≡ cell_at table x
   entry-other x a b c =
