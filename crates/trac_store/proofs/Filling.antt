@@ -2,12 +2,12 @@
 use Rattle.trac_store.proofs.Words.{◌≡◌, ℕ, zero, suc, ◌+◌, ◌-◌, ◌<◌, ◌≤◌, true, false, List, [], ◌∷◌, ◌++◌, length, take, drop, map, get_or, slice_get, slice_range, Some, All, refl, sym, ap, ◌∙◌, arith, append_assoc, subst, ⊎_elim, false≢true, cases_lt, slice_get-get_or, drop-map, take-take}
 use Rattle.trac_store.proofs.Words.{drop_more, append-nil, length-append, length-map, map-append, get_or_past, All-head, All-tail, All-nil, All-cons, All-get_or, All-map, length-between, Item, Text, fill, is_character, text_of, IsStore, Cell, Byte, Call, Comma, IsNoCall, NoCall, Lists}
 use Rattle.trac_store.proofs.Words.{used, HasWay, flat_text, text_of_cells, character_of, IsByte, is_byte_cell, byte_cell_at, flat_item, flat_forms, IsTextPart, part_text, AreTextParts, part_texts, form_at, body_at, pointer_at, parts_between, numbered_part, AreParted, gap_ordinal, gap_number}
-use Rattle.trac_store.proofs.Words.{item_of, forms_in, start_of, head_at, begins}
+use Rattle.trac_store.proofs.Words.{item_of, forms_in, start_of, head_at, begins, places, rules, same_lists}
 use Rattle.std.proofs.Math.ListN.{get_or-map as get_or-map-same}
 use Rattle.trac_store.proofs.Places.{stands}
 use Rattle.trac_store.proofs.Stores.{pointer-within}
-use Rattle.trac_store.proofs.Parted.{drop-part, parts-longer}
-use Rattle.trac_store.proofs.FlatLemmas.{part_of_longer, Byte-character_of, item_of-cell, length-part_text}
+use Rattle.trac_store.proofs.Parted.{parts-longer}
+use Rattle.trac_store.proofs.FlatLemmas.{drop-part, part_of_longer, Byte-character_of, item_of-cell, length-part_text}
 
 -- the text of cells that stand for items
 abbrev pub filled : List Text → List Cell → Text
@@ -72,9 +72,7 @@ body-items store body at from within part =
 -- the text of characters comes first
 run-first : (given : List Text) (store : List Cell) (at n end : ℕ) → at + n ≤ end → All IsByte (slice_range store at (at + n)) → filled given (slice_range store at end) ≡ text_of_cells (slice_range store at (at + n)) ++ filled given (slice_range store (at + n) end)
 run-first given store at n end few bytes =
-    let less : n ≤ end - at = omega (arith, few) in
-    let size : n ≡ at + n - at = omega arith in
-    let front : take n (slice_range store at end) ≡ slice_range store at (at + n) = take-take n (end - at) (drop at store) less ∙ ap (λ k. take k (drop at store)) size in
+    let front : take n (slice_range store at end) ≡ slice_range store at (at + n) = same_lists _ _ (search (rules, places)) (λ k d less. grind (arith, places)) in
     filled-run given (slice_range store at end) n (subst (All IsByte) (sym front) bytes)
     ∙ ap (λ c. text_of_cells c ++ filled given (drop n (slice_range store at end))) front
     ∙ ap (λ c. text_of_cells (slice_range store at (at + n)) ++ filled given c) (drop-part store at n end few)

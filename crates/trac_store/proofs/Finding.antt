@@ -1,6 +1,6 @@
 -- What stands where a form begins, in a slice of the whole store.
 use Rattle.trac_store.proofs.Words.{◌≡◌, ℕ, ◌+◌, ◌-◌, ◌<◌, ◌≤◌, List, length, take, drop, map, All, get_or, slice_range, slice_get, Some, sym, ap, ◌∙◌, subst, arith, option_map, slice_get-map, slice_get-get_or, take-map, drop-map, length-map, get_or-map, get_or-take, get_or-drop, length-between}
-use Rattle.trac_store.proofs.Words.{All-map, Cell, Byte, Head, seen, flat_text, text_of_cells, IsByte, flat_forms, form_at, forms_in, start_of, head_number, Bool, Decides, begins}
+use Rattle.trac_store.proofs.Words.{All-map, Cell, Byte, Head, seen, flat_text, text_of_cells, IsByte, flat_forms, form_at, forms_in, start_of, head_number, Bool, Decides, begins, places}
 use Rattle.trac_store.proofs.FlatLemmas.{Byte-character_of}
 use Rattle.trac_store.proofs.Gaps.{bytes-seen}
 use Rattle.trac_store.proofs.HeadCells.{seen-head}
@@ -57,11 +57,8 @@ part-length cells from n within =
 
 pub part-last : (cells : List Cell) (from n : ℕ) → 0 < n → from + n ≤ length cells → get_or (map seen (slice_range cells from (from + n))) (n - 1) (Byte 0) ≡ seen (get_or cells (from + n - 1) (Byte 0))
 part-last cells from n some within =
-    let size : from + n - from ≡ n = omega arith in
-    let place : from + (n - 1) ≡ from + n - 1 = omega arith in
     let long = length-between cells from (from + n) within in
-    get_or-map seen (slice_range cells from (from + n)) (n - 1) (Byte 0) (Byte 0) (omega arith)
-    ∙ ap seen (get_or-take (from + n - from) (drop from cells) (n - 1) (Byte 0) (omega arith) ∙ get_or-drop from cells (n - 1) (Byte 0) ∙ ap (λ i. get_or cells i (Byte 0)) place)
+    get_or-map seen (slice_range cells from (from + n)) (n - 1) (Byte 0) (Byte 0) (omega arith) ∙ ap seen (grind (arith, places))
 
 -- cells that are seen as bytes are bytes, and are seen as their text
 pub bytes-of-seen : (cells : List Cell) → All IsByte (map seen cells) → All IsByte cells

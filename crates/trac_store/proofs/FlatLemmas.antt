@@ -1,7 +1,7 @@
 -- Forms as cells and back.
 use Rattle.trac_store.proofs.Words.{◌≡◌, ℕ, zero, suc, ◌+◌, ◌-◌, ◌≤◌, List, [], ◌∷◌, ◌++◌, length, take, drop, map, refl, sym, ap, ◌∙◌, arith, slice_range, All, get_or, false, append_assoc, length-append, length-map, take_at, drop_at, drop-take, take-append-le, length-between, All-nil, All-head}
 use Rattle.trac_store.proofs.Words.{All-tail, All-cons, All-append, All-map, sum_by-cons, Item, Form, items_of, form_cells, cells, Cell, Byte, Head, Lists, is_call, IsNoCall, NoCall, character_of, IsByte, flat_item, flat_form, flat_forms, IsTextPart, part_text, new_form}
-use Rattle.trac_store.proofs.Words.{item_of, read_forms, forms_in}
+use Rattle.trac_store.proofs.Words.{item_of, read_forms, forms_in, places, rules, same_lists}
 use Rattle.trac_language.specs.declared.item.Item.TheVariants as item
 
 -- how many cells a form has
@@ -48,11 +48,11 @@ forms_in-flat forms = read_forms-flat (length (flat_forms forms)) forms (omega a
 
 -- a part of a list is that part of a longer list
 pub part_of_longer : {X : Type 0} (xs ys : List X) (a b : ℕ) → a ≤ b → b ≤ length xs → slice_range (xs ++ ys) a b ≡ slice_range xs a b
-part_of_longer xs ys a b order within =
-    let e : a + (b - a) ≡ b = omega arith in
-    let long = drop-take a (b - a) (xs ++ ys) in
-    let short = drop-take a (b - a) xs in
-    sym long ∙ ap (drop a) (take-append-le (a + (b - a)) xs ys (omega arith)) ∙ short
+part_of_longer xs ys a b order within = same_lists _ _ (search (rules, places)) (λ k d less. grind (arith, places))
+
+-- a part without its first n cells
+pub drop-part : (cells : List Cell) (at n end : ℕ) → at + n ≤ end → drop n (slice_range cells at end) ≡ slice_range cells (at + n) end
+drop-part cells at n end within = same_lists _ _ (search (rules, places)) (λ k d less. grind (arith, places))
 
 pub Byte-character_of : (cells : List Cell) → All IsByte cells → map Byte (map character_of cells) ≡ cells
 Byte-character_of [] h = refl

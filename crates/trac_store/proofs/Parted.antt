@@ -2,12 +2,7 @@
 use Rattle.trac_store.proofs.Words.{◌≡◌, ℕ, zero, suc, ◌+◌, ◌-◌, ◌<◌, ◌≤◌, Bool, true, false, List, [], ◌∷◌, ◌++◌, All, length, take, drop, map, slice_range, get_or, refl, sym, ap, ◌∙◌, arith, cond, nat_le, ⊎_elim, append_assoc, cases_lt, drop_more, length-append, length-drop, length-take-le}
 use Rattle.trac_store.proofs.Words.{drop-take, drop-drop, take-append-drop, get_or_append_left, All-head, All-tail, get_or-append_seam, length-between, Cell, Byte, Comma, Head, seen, is_comma, IsByte, Lists, used, HasWay, before_comma, parts_at, parts_between, numbered_part, IsHeadAt}
 use Rattle.trac_store.proofs.Words.{IsListed, head_at}
-use Rattle.trac_store.proofs.FlatLemmas.{part_of_longer}
-
-pub drop-part : (cells : List Cell) (at n end : ℕ) → at + n ≤ end → drop n (slice_range cells at end) ≡ slice_range cells (at + n) end
-drop-part cells at n end within =
-    let split : end - at ≡ n + (end - (at + n)) = omega (arith, within) in
-    ap (λ k. drop n (take k (drop at cells))) split ∙ drop-take n (end - (at + n)) (drop at cells) ∙ ap (take (end - (at + n))) (drop-drop n at cells)
+use Rattle.trac_store.proofs.FlatLemmas.{drop-part, part_of_longer}
 
 pub before_comma-within : (cells : List Cell) → before_comma cells ≤ length cells
 before_comma-within [] = omega arith

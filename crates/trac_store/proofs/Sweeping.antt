@@ -1,7 +1,7 @@
 -- The store while the marked forms are taken out of it, in order.
 use Rattle.trac_store.proofs.Words.{◌≡◌, ℕ, zero, suc, ◌+◌, ◌-◌, ◌<◌, ◌≤◌, true, false, List, [], ◌∷◌, ◌++◌, length, take, drop, slice_range, slice_get, sym, ap, refl, ◌∙◌, arith, not, append_assoc, append-nil, take-append-drop, length-append, length-drop, length-take-le}
 use Rattle.trac_store.proofs.Words.{length_push, take_more, take_at, drop_at, drop-drop, flat_map_more, flat_map-append, length-between, slice_get_past, drop-append-drop, filter-append, drop_split, Form, Cell, Lists, part-on, flat_form, flat_forms, form_at}
-use Rattle.trac_store.proofs.Words.{IsMarkedFrom, is_marked, unmarked, forms_in, start_of, head_number, head_at, IsPlace}
+use Rattle.trac_store.proofs.Words.{IsMarkedFrom, is_marked, unmarked, forms_in, start_of, head_number, head_at, IsPlace, places, rules, same_lists}
 use Rattle.trac_store.proofs.FlatLemmas.{length-flat_form}
 use Rattle.trac_store.proofs.Places.{Stands, stands}
 
@@ -174,11 +174,4 @@ module _ (forms : List Form) (k at : ℕ) (h : IsMarkedFrom forms k at) where
 
 -- where there is no gap nothing moves
 pub unmoved : (s : Lists) (a b from : ℕ) → a ≡ b → b ≤ from → s ≡ record s { store = take a s.store ++ slice_range s.store b from ++ drop (a + (from - b)) s.store }
-unmoved s a b from same order =
-    let e : a + (from - b) ≡ from = omega (arith, same, order) in
-    ap (λ cells. record s { store = cells }) (
-    sym (take-append-drop a s.store)
-    ∙ ap (λ k. take a s.store ++ drop k s.store) same
-    ∙ ap (λ cells. take a s.store ++ cells) (drop_split s.store b from order)
-    ∙ sym (append_assoc (take a s.store) (slice_range s.store b from) (drop from s.store))
-    ∙ ap (λ k. take a s.store ++ slice_range s.store b from ++ drop k s.store) (sym e))
+unmoved s a b from same order = ap (λ cells. record s { store = cells }) (same_lists _ _ (search (rules, places)) (λ k d less. grind (arith, places)))

@@ -49,7 +49,7 @@ module _ (table now : List Cell) (long : length now ≡ length table) (full : (x
 -- the cells of a table with one entry more
 module _ (table : List Cell) (s k start : ℕ) (s_in : s < slots table) (k_in : k < quarter table) where
   long : length (with_entry table s k start) ≡ length table
-  long = length-set (set (set table s (Head k)) (start_place table k) (Head start)) (home_place table k) (Head s) ∙ length-set (set table s (Head k)) (start_place table k) (Head start) ∙ length-set table s (Head k)
+  long = simp length-set
 
   entry-slot : cell_at (with_entry table s k start) s ≡ Head k
   entry-slot = grind (arith, reads)
@@ -61,10 +61,7 @@ module _ (table : List Cell) (s k start : ℕ) (s_in : s < slots table) (k_in : 
   entry-home = grind (arith, reads)
 
   entry-other : (x : ℕ) → x ≢ s → x ≢ start_place table k → x ≢ home_place table k → cell_at (with_entry table s k start) x ≡ cell_at table x
-  entry-other x a b c =
-      get_or-set_other (set (set table s (Head k)) (start_place table k) (Head start)) (home_place table k) x (Head s) (Byte 0) c
-      ∙ get_or-set_other (set table s (Head k)) (start_place table k) x (Head start) (Byte 0) b
-      ∙ get_or-set_other table s x (Head k) (Byte 0) a
+  entry-other x a b c = grind (arith, reads)
 
   -- a slot is changed only where the entry is
   entry-other_slot : (x : ℕ) → x < slots table → x ≢ s → cell_at (with_entry table s k start) x ≡ cell_at table x
