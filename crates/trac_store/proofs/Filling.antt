@@ -1,5 +1,5 @@
 -- The text of a form whose gaps are filled, part by part.
-use Rattle.trac_store.proofs.Words.{◌≡◌, ℕ, zero, suc, ◌+◌, ◌-◌, ◌<◌, ◌≤◌, true, false, List, [], ◌∷◌, ◌++◌, length, take, drop, map, get_or, slice_get, slice_range, Some, All, refl, sym, ap, ◌∙◌, arith, append_assoc, subst, ⊎_elim, false≢true, cases_lt, slice_get-get_or, drop-map, take-take}
+use Rattle.trac_store.proofs.Words.{◌≡◌, ℕ, zero, suc, ◌+◌, ◌-◌, ◌<◌, ◌≤◌, true, false, List, [], ◌∷◌, ◌++◌, length, take, drop, map, get_or, slice_get, slice_range, Some, All, refl, sym, ap, ◌∙◌, arith, append_assoc, subst, ⊎_elim, false≢true, cases_lt, slice_get-get_or, drop-map}
 use Rattle.trac_store.proofs.Words.{drop_more, append-nil, length-append, length-map, map-append, get_or_past, All-head, All-tail, All-nil, All-cons, All-get_or, All-map, length-between, Item, Text, fill, is_character, text_of, IsStore, Cell, Byte, Call, Comma, IsNoCall, NoCall, Lists}
 use Rattle.trac_store.proofs.Words.{used, HasWay, flat_text, text_of_cells, character_of, IsByte, is_byte_cell, byte_cell_at, flat_item, flat_forms, IsTextPart, part_text, AreTextParts, part_texts, form_at, body_at, pointer_at, parts_between, numbered_part, AreParted, gap_ordinal, gap_number}
 use Rattle.trac_store.proofs.Words.{item_of, forms_in, start_of, head_at, begins, places, rules, same_lists}

@@ -1,5 +1,5 @@
 -- How a walk over a body makes gaps of a text.
-use Rattle.trac_store.proofs.Words.{◌≡◌, ℕ, zero, suc, ◌+◌, ◌-◌, ◌<◌, ◌≤◌, ◌&&◌, Bool, true, false, List, [], ◌∷◌, ◌++◌, length, take, drop, map, slice_range, set, get_or, refl, sym, ap, ◌∙◌, arith, append_assoc, drop_more, drop-drop, drop-take, take_more_set, and-false, false≢true, Cell, Byte}
+use Rattle.trac_store.proofs.Words.{◌≡◌, ℕ, zero, suc, ◌+◌, ◌-◌, ◌<◌, ◌≤◌, ◌&&◌, Bool, true, false, List, [], ◌∷◌, ◌++◌, length, take, drop, map, slice_range, set, get_or, refl, sym, ap, ◌∙◌, arith, append_assoc, drop_more, take_more_set, and-false, false≢true, Cell, Byte}
 use Rattle.trac_store.proofs.Words.{Gap, seen, character_of, is_byte, begins_cells, segment_cells, character-seen}
 use Rattle.trac_store.proofs.FlatLemmas.{drop-part}
 

@@ -1,6 +1,6 @@
 -- What stands between comma marks, part by part, and a list of where the parts begin.
 use Rattle.trac_store.proofs.Words.{◌≡◌, ℕ, zero, suc, ◌+◌, ◌-◌, ◌<◌, ◌≤◌, Bool, true, false, List, [], ◌∷◌, ◌++◌, All, length, take, drop, map, slice_range, get_or, refl, sym, ap, ◌∙◌, arith, cond, nat_le, ⊎_elim, append_assoc, cases_lt, drop_more, length-append, length-drop, length-take-le}
-use Rattle.trac_store.proofs.Words.{drop-take, drop-drop, take-append-drop, get_or_append_left, All-head, All-tail, get_or-append_seam, length-between, Cell, Byte, Comma, Head, seen, is_comma, IsByte, Lists, used, HasWay, before_comma, parts_at, parts_between, numbered_part, IsHeadAt}
+use Rattle.trac_store.proofs.Words.{drop-drop, take-append-drop, get_or_append_left, All-head, All-tail, get_or-append_seam, length-between, Cell, Byte, Comma, Head, seen, is_comma, IsByte, Lists, used, HasWay, before_comma, parts_at, parts_between, numbered_part, IsHeadAt}
 use Rattle.trac_store.proofs.Words.{IsListed, head_at}
 use Rattle.trac_store.proofs.FlatLemmas.{drop-part, part_of_longer}
 
