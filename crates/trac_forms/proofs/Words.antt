@@ -2,7 +2,7 @@
 pub use Rattle.std.proofs.Common.{All, Bool, List, MatchOption, None, Option, Some, [], ap, arith, drop, false, get_or, inl, length, map, refl, rules, set, slice_range, subst, sym, take, true, ℕ, ◌++◌, ◌+◌, ◌-◌, ◌<◌, ◌∙◌, ◌∷◌, ◌≡◌, ◌≢◌, ◌≤◌}
 pub use Rattle.std.proofs.Math.Seq.{take-length}
 pub use Rattle.std.proofs.lemmas.Bool.{false≢true}
-pub use Rattle.std.proofs.lemmas.List.{drop-drop, drop-map, drop-take, drop_more, flat_map_more, length-append, length-drop, length-map, length-set, length-take-le, length_push, places, same_lists, take-map, take-take, take_all, take_at}
+pub use Rattle.std.proofs.lemmas.List.{drop-map, drop_more, flat_map_more, length-append, length-drop, length-map, length-set, length-take-le, length_push, places, same_lists, take-map, take_all, take_at}
 pub use Rattle.std.proofs.lemmas.List.Edits.{get_or-between, length-between, length-remove}
 pub use Rattle.std.proofs.lemmas.List.Elements.{All-append, All-cons, All-drop, All-from_get_or, All-head, All-map, All-nil, All-tail, All-take}
 pub use Rattle.std.proofs.lemmas.List.Sums.{sum_by_push}
