@@ -1,14 +1,13 @@
 -- The first of the forms that cells stand for, and those behind it.
-use Rattle.trac_forms.proofs.Words.{◌≡◌, ◌≢◌, ℕ, ◌+◌, ◌-◌, ◌<◌, ◌≤◌, List, [], ◌∷◌, length, take, drop, map, get_or, slice_range, Some, refl, sym, ap, ◌∙◌, subst, arith, take-length, length-map, length-drop, drop_more, length-between, Form, IsStore, Cell, Byte, Call, Comma, Gap, Head, seen}
+use Rattle.trac_forms.proofs.Words.{◌≡◌, ◌≢◌, ℕ, ◌+◌, ◌-◌, ◌<◌, ◌≤◌, List, [], ◌∷◌, length, take, drop, map, get_or, slice_range, Some, refl, sym, ap, ◌∙◌, subst, arith, take-length, length-map, length-drop, drop_more, length-between, Form, IsStore, Cell, Byte, Call, Comma, Head, seen}
 use Rattle.trac_forms.proofs.Words.{text_of_cells, flat_forms, form_at, item_of, forms_in, start_of, head_number, head_at, form_of, IsListed, IsForm, character_of-Byte, item_of-cell, forms_in-flat, part-seen, bytes-seen, number-at, stands, pointer-within}
+use Rattle.trac_forms.proofs.Strings.{name-there, body-there}
 
 item_of-seen : (cells : List Cell) → map item_of (map seen cells) ≡ map item_of cells
 item_of-seen [] = refl
-item_of-seen (Byte b ∷ cells) = ap (λ items. item_of (Byte b) ∷ items) (item_of-seen cells)
 item_of-seen (Call mode k ∷ cells) = ap (λ items. item_of Comma ∷ items) (item_of-seen cells)
-item_of-seen (Comma ∷ cells) = ap (λ items. item_of Comma ∷ items) (item_of-seen cells)
-item_of-seen (Gap k ∷ cells) = ap (λ items. item_of (Gap k) ∷ items) (item_of-seen cells)
 item_of-seen (Head k ∷ cells) = ap (λ items. item_of Comma ∷ items) (item_of-seen cells)
+item_of-seen (cell ∷ cells) = ap (λ items. item_of cell ∷ items) (item_of-seen cells)
 
 -- the cells of a form in the store, and what they are seen as
 module _ (forms : List Form) (store name body : List Cell) (k at n m p : ℕ) (whole : flat_forms forms ≡ store) (within : k < length forms) (begins : at ≡ start_of forms k) (n_is : n ≡ head_at store at) (m_is : m ≡ head_at store (at + 1)) (p_is : p ≡ head_at store (at + 2)) where
@@ -22,12 +21,8 @@ module _ (forms : List Form) (store name body : List Cell) (k at n m p : ℕ) (w
     stored-form =
         let form = form_at forms k in
         let f = stands forms store k at whole within begins in
-        let name_len = n_is ∙ f.name_len in
-        let text : text_of_cells name ≡ form.name =
-        sym (bytes-seen name) ∙ ap text_of_cells (named ∙ ap (λ i. slice_range store (at + 3) (at + 3 + i)) name_len ∙ f.name_part) ∙ character_of-Byte form.name in
-        let items : map item_of body ≡ form.body =
-        sym (item_of-seen body) ∙ ap (map item_of) (bodied ∙ ap (λ i. slice_range store (at + 3 + i) (at + 3 + i + m)) name_len ∙ ap (λ i. slice_range store (at + 3 + length form.name) (at + 3 + length form.name + i)) (m_is ∙ f.body_len) ∙ f.body_part)
-        ∙ item_of-cell form.body in
+        let text : text_of_cells name ≡ form.name = sym (bytes-seen name) ∙ ap text_of_cells (named ∙ name-there f n n_is) ∙ character_of-Byte form.name in
+        let items : map item_of body ≡ form.body = sym (item_of-seen body) ∙ ap (map item_of) (bodied ∙ body-there f n n_is m m_is) ∙ item_of-cell form.body in
         let pointer : p ≡ form.pointer = p_is ∙ f.pointer in
         λ i. record { name = text i; body = items i; pointer = pointer i }
 

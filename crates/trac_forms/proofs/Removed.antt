@@ -28,7 +28,7 @@ formed s count last start h =
     }
 
 -- the forms of these names are marked, and then gone
-module _ (s t : Lists) (count last start : ℕ) (names : List Text) (h : IsStored s count last start) (marks : t ≡ record s { store = flat_forms (with_marks names (forms_in s.store)); spare = t.spare }) where
+module _ {s t : Lists} {count last start : ℕ} (names : List Text) (h : IsStored s count last start) (marks : t ≡ record s { store = flat_forms (with_marks names (forms_in s.store)); spare = t.spare }) where
   abbrev forms : List Form
   forms = forms_in s.store
 

@@ -1,7 +1,7 @@
 -- What `define` and `segment` leave in a store, from what they put there.
-use Rattle.trac_forms.proofs.Words.{◌≡◌, ℕ, ◌+◌, ◌-◌, ◌<◌, ◌≤◌, List, ◌∷◌, [], ◌++◌, length, take, drop, map, set, slice_range, refl, sym, ap, subst, ◌∙◌, arith, length_push, length-append, length-map, length-set, length-take-le, length-drop, take_at, length-between, sum_by_push, Form, items_of}
-use Rattle.trac_forms.proofs.Words.{segment, without, defined, form_cells, Text, Cell, Byte, Head, flat_text, character_of, Lists, flat_item, flat_form, flat_forms, form_at, name_at, part_text, new_form, IsTextPart, segmented_cells, IsIndexed, IsIndexBut, started, forms_in, head_at, start_of}
-use Rattle.trac_forms.proofs.Words.{IsStored, forms_in-flat, length-flat, length-new_form, flat_items_of, Byte-character_of, stands, start_of-set, IsStore-defined, IsStore-set, cells-without, cells-set, index-set, index-replaced, flat-segment, regapped, written}
+use Rattle.trac_forms.proofs.Words.{◌≡◌, ℕ, ◌+◌, ◌-◌, ◌<◌, ◌≤◌, List, ◌∷◌, [], ◌++◌, length, take, drop, map, set, slice_range, refl, sym, ap, subst, ◌∙◌, arith, length_push, length-append, length-map, length-set, length-take-le, length-drop, take_at, length-between, sum_by_push, items_of}
+use Rattle.trac_forms.proofs.Words.{segment, without, defined, form_cells, Text, Cell, Head, character_of, Lists, flat_item, flat_form, flat_forms, form_at, name_at, part_text, new_form, IsTextPart, segmented_cells, IsIndexed, IsIndexBut, started, forms_in, head_at, start_of}
+use Rattle.trac_forms.proofs.Words.{IsStored, forms_in-flat, length-flat, length-new_form, flat_items_of, Byte-character_of, stands, start_of-set, IsStore-defined, IsStore-set, cells-without, cells-set, index-set, index-replaced, flat-segment, regapped, written, length-flat_form}
 use Rattle.trac_language.specs.declared.item.Item.TheVariants as item
 use Rattle.trac_space.specs.Lists as lists
 use Rattle.trac_forms.proofs.Strings.{used-stored, restored, redefined}
@@ -85,8 +85,5 @@ rewritten-stored s t u v count last begins k start body a b h within start_is bo
     let is = all ∙ ap (λ cells. record s { store = cells }) (regapped forms s.store k start body (body + (b - a)) items within start_is f from_is to_is) in
     let less = cells-set forms k new within (omega (arith, size, same)) in
     let used = used-stored s h.whole in
-    let long : length (flat_form new) ≡ length (flat_form form) = length_form new ∙ omega (arith, size, same) ∙ sym (length_form form) in
+    let long : length (flat_form new) ≡ length (flat_form form) = omega (arith, size, same, length-flat_form new, length-flat_form form) in
     (is, restored s.spare s v (set forms k new) count k start (index-replaced forms k new s.spare refl long h.index) h.sound (IsStore-set forms k new refl (omega arith) h.sound.forms) (omega (arith, less, ap length h.whole, h.sound.fits)) is (omega (arith, h.count_is, length-set forms k new)) (omega (arith, h.count_is, within)) (start_is ∙ sym (start_of-set forms k new)))
-  where
-    length_form : (f : Form) → length (flat_form f) ≡ 3 + length f.name + length f.body
-    length_form f = omega (arith, length-append (flat_text f.name) (map flat_item f.body), length-map f.name Byte, length-map f.body flat_item)

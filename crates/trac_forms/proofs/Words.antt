@@ -1,8 +1,8 @@
 -- The words that the proofs of this crate cite.
-pub use Rattle.std.proofs.Common.{All, Bool, List, MatchOption, None, Option, Some, [], ap, arith, drop, false, get_or, inl, length, map, refl, set, slice_range, subst, sym, take, true, ℕ, ◌++◌, ◌+◌, ◌-◌, ◌<◌, ◌∙◌, ◌∷◌, ◌≡◌, ◌≢◌, ◌≤◌}
+pub use Rattle.std.proofs.Common.{All, Bool, List, MatchOption, None, Option, Some, [], ap, arith, drop, false, get_or, inl, length, map, refl, rules, set, slice_range, subst, sym, take, true, ℕ, ◌++◌, ◌+◌, ◌-◌, ◌<◌, ◌∙◌, ◌∷◌, ◌≡◌, ◌≢◌, ◌≤◌}
 pub use Rattle.std.proofs.Math.Seq.{take-length}
 pub use Rattle.std.proofs.lemmas.Bool.{false≢true}
-pub use Rattle.std.proofs.lemmas.List.{drop-drop, drop-map, drop-take, drop_more, flat_map_more, length-append, length-drop, length-map, length-set, length-take-le, length_push, take-map, take-take, take_all, take_at}
+pub use Rattle.std.proofs.lemmas.List.{drop-map, drop_more, flat_map_more, length-append, length-drop, length-map, length-set, length-take-le, length_push, places, same_lists, take-map, take_all, take_at}
 pub use Rattle.std.proofs.lemmas.List.Edits.{get_or-between, length-between, length-remove}
 pub use Rattle.std.proofs.lemmas.List.Elements.{All-append, All-cons, All-drop, All-from_get_or, All-head, All-map, All-nil, All-tail, All-take}
 pub use Rattle.std.proofs.lemmas.List.Sums.{sum_by_push}
@@ -27,7 +27,7 @@ pub use Rattle.trac_space.specs.declared.cell.Cell.{Cell}
 pub use Rattle.trac_space.specs.declared.cell.Cell.TheVariants.{Byte, Call, Comma, Gap, Head}
 pub use Rattle.trac_store.proofs.Filling.{AreItems, items}
 pub use Rattle.trac_store.proofs.Finding.{bytes-flat, part-seen}
-pub use Rattle.trac_store.proofs.FlatLemmas.{Byte-character_of, character_of-Byte, count-le, flat_items_of, forms_in-flat, item_of-cell, length-flat, length-new_form, no_call-flat_forms}
+pub use Rattle.trac_store.proofs.FlatLemmas.{Byte-character_of, character_of-Byte, count-le, flat_items_of, forms_in-flat, item_of-cell, length-flat, length-flat_form, length-new_form, no_call-flat_forms}
 pub use Rattle.trac_store.proofs.FormTables.{front-cells, index-set}
 pub use Rattle.trac_store.proofs.Gaps.{bytes-seen}
 pub use Rattle.trac_store.proofs.HeadCells.{number-at}

@@ -1,6 +1,6 @@
 -- Characters that are put once more at a place behind, one after the other.
 use Rattle.trac_space.proofs.Words.{◌≡◌, ◌↔◌, ℕ, ◌+◌, ◌<◌, ◌≤◌, true, false, IsTrue, nat_eq, All, List, [], ◌∷◌, ◌++◌, length, take, drop, map, get_or, slice_range, sum_by, refl, sym, ◌-◌, ap, ◌∙◌, subst, ⊎_elim, arith, rules, places, same_lists, length-drop, length-take-le, get_or-take}
-use Rattle.trac_space.proofs.Words.{get_or-map, get_or-drop, take_more, take-map, drop-map, drop-drop, take-add, cases_lt, All-append, All-push, All-map, All-cons, All-head, All-tail, sum_by-cons, Cell, Byte, Call, Comma, Gap, Head, seen, IsNoCall, NoCall, IsByte, is_byte_cell, byte_cell_at}
+use Rattle.trac_space.proofs.Words.{get_or-map, get_or-drop, take_more, take-map, drop-map, drop-drop, take-add, cases_lt, All-append, All-push, All-map, All-cons, All-head, All-tail, sum_by-cons, Cell, Byte, Call, Comma, seen, IsNoCall, NoCall, IsByte, is_byte_cell, byte_cell_at}
 use Rattle.trac_space.proofs.Words.{kind_number, paste}
 
 -- the cells before that place are as they were
@@ -16,6 +16,18 @@ pub bytes-more : (was : List Cell) (start k : ℕ) (d : Cell) → start + k < le
 bytes-more was start k d within bytes next =
     rw (take_more (drop start was) k d (omega (arith, length-drop start was))) (All-push IsByte _ _ bytes (rw get_or-drop next))
 
+-- so many characters stand from a place on, and no more than may
+pub record AreUpTo (cells : List Cell) (start most count : ℕ) : Type 0 where
+  pub within : count ≤ most
+  pub bytes : All IsByte (take count (drop start cells))
+
+-- the next cell is one too
+pub up-to-next : (cells : List Cell) (start most count : ℕ) → start + most ≤ length cells → count < most → AreUpTo cells start most count → is_byte_cell (get_or cells (start + count) (Byte 0)) ≡ true → AreUpTo cells start most (count + 1)
+up-to-next cells start most count room less done is = record {
+  within = omega (arith, less);
+  bytes = bytes-more cells start count (Byte 0) (omega (arith, room, less)) done.bytes (tested-byte (get_or cells (start + count) (Byte 0)) is);
+}
+
 -- characters, and others behind them
 pub bytes-join : (cells : List Cell) (start k j : ℕ) → All IsByte (take k (drop start cells)) → All IsByte (take j (drop (start + k) cells)) → All IsByte (take (k + j) (drop start cells))
 bytes-join cells start k j bytes more =
@@ -24,18 +36,12 @@ bytes-join cells start k j bytes more =
 -- links don't count
 pub tested-seen : (cell : Cell) → is_byte_cell (seen cell) ≡ is_byte_cell cell
 tested-seen (Byte b) = refl
-tested-seen (Call mode distance) = refl
-tested-seen Comma = refl
-tested-seen (Gap ordinal) = refl
-tested-seen (Head n) = refl
+tested-seen cell = refl
 
 -- no character is a call mark
 byte-no_call : (cell : Cell) → IsByte cell → IsNoCall cell
-byte-no_call (Byte b) h = refl
 byte-no_call (Call mode distance) h = absurd h
-byte-no_call Comma h = refl
-byte-no_call (Gap ordinal) h = refl
-byte-no_call (Head n) h = refl
+byte-no_call cell h = refl
 
 -- so many characters from a place of the block on are a part of the store
 module _ (cells : List Cell) (store a n : ℕ) (within : a + n ≤ store) where
@@ -65,17 +71,11 @@ part-on xs a n m = same_lists _ _ (search (rules, places)) (λ i d less. grind (
 -- whether a cell is a character, by the number of its kind
 byte-kind : (cell : Cell) → kind_number cell ≡ 0 → IsByte cell
 byte-kind (Byte b) none = search rules
-byte-kind (Call mode number) none = absurd (omega (arith, none))
-byte-kind Comma none = absurd (omega (arith, none))
-byte-kind (Gap ordinal) none = absurd (omega (arith, none))
-byte-kind (Head n) none = absurd (omega (arith, none))
+byte-kind cell none = absurd (omega (arith, none))
 
 kind-byte : (cell : Cell) → IsByte cell → kind_number cell ≡ 0
 kind-byte (Byte b) byte = refl
-kind-byte (Call mode number) byte = absurd byte
-kind-byte Comma byte = absurd byte
-kind-byte (Gap ordinal) byte = absurd byte
-kind-byte (Head n) byte = absurd byte
+kind-byte cell byte = absurd byte
 
 -- cells whose kinds come to nothing are characters
 pub bytes-kinds : (cells : List Cell) → sum_by kind_number cells ≡ 0 → All IsByte cells

@@ -24,10 +24,7 @@ module _ (neutral list : List Cell) (count : ℕ) where
   filled-run cells zero h = refl
   filled-run [] (suc n) h = refl
   filled-run (Byte c ∷ cells) (suc n) h = ap (λ more. Byte c ∷ more) (filled-run cells n (All-tail IsByte (Byte c) (take n cells) h))
-  filled-run (Call m d ∷ cells) (suc n) h = absurd (All-head IsByte (Call m d) (take n cells) h)
-  filled-run (Comma ∷ cells) (suc n) h = absurd (All-head IsByte Comma (take n cells) h)
-  filled-run (Gap k ∷ cells) (suc n) h = absurd (All-head IsByte (Gap k) (take n cells) h)
-  filled-run (Head k ∷ cells) (suc n) h = absurd (All-head IsByte (Head k) (take n cells) h)
+  filled-run (cell ∷ cells) (suc n) h = absurd (All-head IsByte cell (take n cells) h)
 
 -- the cells up to a place stand, filled, and these are left
 pub record Along (old now neutral list : List Cell) (count from stop first at to last : ℕ) : Type 0 where
@@ -189,17 +186,12 @@ part-is cells base bound last count number place from next is less order within 
 
 number-seen : (cell : Cell) → number_of (seen cell) ≡ number_of cell
 number-seen (Byte b) = refl
-number-seen (Call mode k) = refl
-number-seen Comma = refl
-number-seen (Gap k) = refl
-number-seen (Head n) = refl
+number-seen cell = refl
 
 head-seen : (cell : Cell) → IsHead (seen cell) → IsHead cell
-head-seen (Byte b) h = h
 head-seen (Call mode k) h = absurd cc
-head-seen Comma h = h
-head-seen (Gap k) h = h
 head-seen (Head n) h = refl
+head-seen cell h = h
 
 module _ (neutral list seen_list : List Cell) (count : ℕ) (same : (i : ℕ) → i ≤ count → number_at list i ≡ number_at seen_list i) where
   part-as-seen : (number : ℕ) → map seen (listed_part neutral list count number) ≡ listed_part (map seen neutral) seen_list count number
@@ -220,11 +212,8 @@ module _ (neutral list seen_list : List Cell) (count : ℕ) (same : (i : ℕ) �
       go false = refl
 
   filling-as-seen : (cell : Cell) → map seen (filling neutral list count cell) ≡ filling (map seen neutral) seen_list count (seen cell)
-  filling-as-seen (Byte b) = refl
-  filling-as-seen (Call mode k) = refl
-  filling-as-seen Comma = refl
   filling-as-seen (Gap k) = part-as-seen k
-  filling-as-seen (Head n) = refl
+  filling-as-seen cell = refl
 
   pub filled-as-seen : (cells : List Cell) → map seen (filled neutral list count cells) ≡ filled (map seen neutral) seen_list count (map seen cells)
   filled-as-seen [] = refl
@@ -248,7 +237,7 @@ module _ (s : Inside) {v : Lists} (h : IsLaidOut s) (is : lists s ≡ v) (count 
       rw (← is) (grind (arith, places, get_or-map))
 
   count-fits : count + 1 ≤ s.active
-  count-fits = omega (arith, listed.within, (sizes s h is).active)
+  count-fits = omega (arith, listed.within, (sizes h is).active)
 
   pub numbers-seen : (i : ℕ) → i ≤ count → number_at list i ≡ number_at v.active i
   numbers-seen i within =
@@ -260,7 +249,7 @@ module _ (s : Inside) {v : Lists} (h : IsLaidOut s) (is : lists s ≡ v) (count 
       let fits = count-fits in
       let laid = h.fits in
       let behind = h.behind in
-      let sizes_are = sizes s h is in
+      let sizes_are = sizes h is in
       let long : length (slice_range s.cells.now s.store (s.store + s.neutral)) ≡ s.neutral = omega (arith, length-between s.cells.now s.store (s.store + s.neutral) (omega (arith, laid, behind))) in
       record {
         within = omega (arith, fits, length-drop (s.end - s.active) s.cells.now, laid, behind);
@@ -278,7 +267,7 @@ module _ (s : Inside) {v : Lists} (h : IsLaidOut s) (is : lists s ≡ v) (count 
       let size : s.store + s.neutral - s.store ≡ s.neutral = omega arith in
       ap (λ n. map seen (take n (drop s.store s.cells.now))) size ∙ ap (λ (l : Lists). l.neutral) is in
       let items : map seen (slice_range s.cells.now a b) ≡ slice_range v.store a b =
-      ap (map seen) (store-part s h a b order within) ∙ simp (take-map, drop-map) refl ∙ ap (λ (l : Lists). slice_range l.store a b) is in
+      ap (map seen) (store-part h a b order within) ∙ simp (take-map, drop-map) refl ∙ ap (λ (l : Lists). slice_range l.store a b) is in
       filled-as-seen (slice_range s.cells.now s.store (s.store + s.neutral)) list v.active count numbers-seen (slice_range s.cells.now a b)
       ∙ ap (λ cells. filled cells v.active count (map seen (slice_range s.cells.now a b))) neutral
       ∙ ap (filled v.neutral v.active count) items

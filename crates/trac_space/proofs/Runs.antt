@@ -1,6 +1,6 @@
 -- Characters that are moved to a place before, one after the other, and become what a table says.
 use Rattle.trac_space.proofs.Words.{◌≡◌, ℕ, ◌+◌, ◌<◌, ◌≤◌, Bool, true, false, All, List, [], ◌∷◌, length, take, drop, map, get_or, refl, sym, ap, ◌∙◌, arith, subst, ◌==◌, if◌then◌else◌, places, length-drop, length-map, length-take-le, get_or-drop, get_or-take, get_or-map, take_more, take-take}
-use Rattle.trac_space.proofs.Words.{take-map, drop-append-le, drop_all, All-nil, All-push, All-map, elements, Cell, Byte, Call, Comma, Gap, Head, seen, is_comma, IsNoCall, NoCall, NoComma, IsByte, character_of, number_in, IsInRun, turned_by, turned, paste}
+use Rattle.trac_space.proofs.Words.{take-map, drop-append-le, drop_all, All-nil, All-push, All-map, elements, Cell, Byte, Comma, seen, is_comma, IsNoCall, NoCall, NoComma, IsByte, character_of, number_in, IsInRun, turned_by, turned, paste}
 use Rattle.trac_space.proofs.Characters.{tested-seen}
 
 -- the cell that is next to be moved is as it was
@@ -59,10 +59,7 @@ turned-calls table cells = All-map IsNoCall (turned_by table) cells (λ k d less
 -- a cell has the character that it is seen with
 pub character-seen : (cell : Cell) → character_of (seen cell) ≡ character_of cell
 character-seen (Byte b) = refl
-character-seen (Call mode distance) = refl
-character-seen Comma = refl
-character-seen (Gap ordinal) = refl
-character-seen (Head n) = refl
+character-seen cell = refl
 
 turned-seen : (table : List ℕ) (cells : List Cell) → turned table (map seen cells) ≡ turned table cells
 turned-seen table [] = refl

@@ -1,5 +1,5 @@
 -- A list of borders before active.
-use Rattle.trac_store.proofs.Words.{◌≡◌, ℕ, suc, ◌+◌, ◌-◌, ◌<◌, ◌≤◌, List, ◌∷◌, length, take, drop, map, slice_range, get_or, refl, sym, ap, subst, ◌∙◌, arith, All, length-map, length-take-le, get_or-map, All-get_or, slice_get-get_or, get_or_from_slice_get, Cell, Byte, Call, Comma, Gap, Head}
+use Rattle.trac_store.proofs.Words.{◌≡◌, ℕ, suc, ◌+◌, ◌-◌, ◌<◌, ◌≤◌, List, ◌∷◌, length, take, drop, map, slice_range, get_or, refl, sym, ap, subst, ◌∙◌, arith, All, length-map, length-take-le, get_or-map, All-get_or, slice_get-get_or, get_or_from_slice_get, Cell, Byte, Head}
 use Rattle.trac_store.proofs.Words.{seen, Lists, used, HasWay, character_of, IsByte, byte_at, IsLongestBorder, AreBorders}
 use Rattle.trac_store.proofs.TextBorders.{borders-more, byte-in}
 
@@ -10,10 +10,7 @@ front-part cells n = let e : n - 0 ≡ n = omega arith in ap (λ k. take k cells
 -- a cell in which a character is seen
 is-character : (cell : Cell) → IsByte (seen cell) → cell ≡ Byte (character_of cell)
 is-character (Byte b) is = refl
-is-character (Call mode number) is = absurd is
-is-character Comma is = absurd is
-is-character (Gap k) is = absurd is
-is-character (Head n) is = absurd is
+is-character cell is = absurd is
 
 pub character-in : (text : List Cell) (k : ℕ) → k < length text → All IsByte (map seen text) → get_or text k (Byte 0) ≡ Byte (byte_at (map character_of text) k)
 character-in text k within bytes =
@@ -34,6 +31,12 @@ pub record BordersUpTo (old now : Lists) (text : List ℕ) (len count border : �
   pub borders : AreBorders text (take count now.active)
   pub longest : IsLongestBorder text count border
   pub way : HasWay (len - count) now
+
+-- the slice of active that has them
+pub listed-table : {old now : Lists} {text : List ℕ} {len count border : ℕ} (h : BordersUpTo old now text len count border) (table : List Cell) → map seen table ≡ slice_range now.active 0 count → (map seen table ≡ take count now.active) × (length table ≡ count)
+listed-table {now = now} {count = count} h table shown =
+    let front = shown ∙ front-part now.active count in
+    (front, omega (arith, length-map table seen, ap length front, length-take-le count now.active h.within))
 
 pub borders-next : (old now new : Lists) (text : List ℕ) (len count border next : ℕ) → BordersUpTo old now text len count border → count < len → IsLongestBorder text (count + 1) next → new ≡ record now { active = Head next ∷ now.active } → BordersUpTo old new text len (count + 1) next
 borders-next old now new text len count border next h less long pushed =

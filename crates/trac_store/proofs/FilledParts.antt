@@ -1,5 +1,5 @@
 -- What fills the gaps of a body, where the arguments are listed before active.
-use Rattle.trac_store.proofs.Words.{Bool, ◌≡◌, ℕ, zero, suc, ◌+◌, ◌-◌, ◌<◌, ◌≤◌, true, false, List, [], ◌∷◌, ◌++◌, length, drop, get_or, nat_lt, refl, sym, ap, ◌∙◌, arith, subst, slice_range, ⊎_elim, cases_lt, length-map, map-append, get_or_past, get_or_from_slice_get, Text, Cell, Byte, Call}
+use Rattle.trac_store.proofs.Words.{Bool, ◌≡◌, ℕ, zero, suc, ◌+◌, ◌-◌, ◌<◌, ◌≤◌, true, false, List, [], ◌∷◌, ◌++◌, length, drop, get_or, nat_lt, refl, sym, ap, ◌∙◌, arith, subst, slice_range, ⊎_elim, cases_lt, length-map, map-append, get_or_past, get_or_from_slice_get, Text, Cell, Byte}
 use Rattle.trac_store.proofs.Words.{Comma, Gap, Head, NoCall, number_at, ListsParts, listed_part, filled, OnTrue, Lists, flat_text, numbered_part, IsHeadAt, IsListed, AreTextParts, part_text, part_texts, head_at}
 use Rattle.trac_space.specs.Filled.{number_of}
 use Rattle.trac_store.proofs.Filling.{filled as filled_text, part-there, part-text, text-no_call}
@@ -57,13 +57,11 @@ module _ (neutral active : List Cell) (parts : List (ℕ × ℕ)) (count : ℕ) 
   pub filled-flat : (cells : List Cell) → filled neutral active count cells ≡ flat_text (filled_text (part_texts neutral parts) cells)
   filled-flat [] = refl
   filled-flat (Byte b ∷ cells) = ap (λ more. Byte b ∷ more) (filled-flat cells)
-  filled-flat (Call mode k ∷ cells) = filled-flat cells
-  filled-flat (Comma ∷ cells) = filled-flat cells
   filled-flat (Gap k ∷ cells) =
       ap (λ more. listed_part neutral active count k ++ more) (filled-flat cells)
       ∙ ap (λ more. more ++ flat_text (filled_text (part_texts neutral parts) cells)) (part-flat k)
       ∙ sym (map-append Byte (get_or ([] ∷ part_texts neutral parts) k []) (filled_text (part_texts neutral parts) cells))
-  filled-flat (Head n ∷ cells) = filled-flat cells
+  filled-flat (cell ∷ cells) = filled-flat cells
 
   pub filled-no_call : (cells : List Cell) → NoCall (filled neutral active count cells)
   filled-no_call cells = subst NoCall (sym (filled-flat cells)) (text-no_call (flat_text (filled_text (part_texts neutral parts) cells)) (bytes-flat (filled_text (part_texts neutral parts) cells)))

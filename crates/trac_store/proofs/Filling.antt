@@ -1,13 +1,13 @@
 -- The text of a form whose gaps are filled, part by part.
-use Rattle.trac_store.proofs.Words.{◌≡◌, ℕ, zero, suc, ◌+◌, ◌-◌, ◌<◌, ◌≤◌, true, false, List, [], ◌∷◌, ◌++◌, length, take, drop, map, get_or, slice_get, slice_range, Some, All, refl, sym, ap, ◌∙◌, arith, append_assoc, subst, ⊎_elim, false≢true, cases_lt, slice_get-get_or, drop-map, take-take}
-use Rattle.trac_store.proofs.Words.{drop_more, append-nil, length-append, length-map, map-append, get_or_past, All-head, All-tail, All-nil, All-cons, All-get_or, All-map, length-between, Item, Text, fill, is_character, text_of, IsStore, Cell, Byte, Call, Comma, Gap, Head, IsNoCall, NoCall, Lists}
+use Rattle.trac_store.proofs.Words.{◌≡◌, ℕ, zero, suc, ◌+◌, ◌-◌, ◌<◌, ◌≤◌, true, false, List, [], ◌∷◌, ◌++◌, length, take, drop, map, get_or, slice_get, slice_range, Some, All, refl, sym, ap, ◌∙◌, arith, append_assoc, subst, ⊎_elim, false≢true, cases_lt, slice_get-get_or, drop-map}
+use Rattle.trac_store.proofs.Words.{drop_more, append-nil, length-append, length-map, map-append, get_or_past, All-head, All-tail, All-nil, All-cons, All-get_or, All-map, length-between, Item, Text, fill, is_character, text_of, IsStore, Cell, Byte, Call, Comma, IsNoCall, NoCall, Lists}
 use Rattle.trac_store.proofs.Words.{used, HasWay, flat_text, text_of_cells, character_of, IsByte, is_byte_cell, byte_cell_at, flat_item, flat_forms, IsTextPart, part_text, AreTextParts, part_texts, form_at, body_at, pointer_at, parts_between, numbered_part, AreParted, gap_ordinal, gap_number}
-use Rattle.trac_store.proofs.Words.{item_of, forms_in, start_of, head_at}
+use Rattle.trac_store.proofs.Words.{item_of, forms_in, start_of, head_at, begins, places, rules, same_lists}
 use Rattle.std.proofs.Math.ListN.{get_or-map as get_or-map-same}
 use Rattle.trac_store.proofs.Places.{stands}
 use Rattle.trac_store.proofs.Stores.{pointer-within}
-use Rattle.trac_store.proofs.Parted.{drop-part, parts-longer}
-use Rattle.trac_store.proofs.FlatLemmas.{part_of_longer, Byte-character_of, item_of-cell}
+use Rattle.trac_store.proofs.Parted.{parts-longer}
+use Rattle.trac_store.proofs.FlatLemmas.{drop-part, part_of_longer, Byte-character_of, item_of-cell, length-part_text}
 
 -- the text of cells that stand for items
 abbrev pub filled : List Text → List Cell → Text
@@ -18,19 +18,13 @@ filled-run : (given : List Text) (cells : List Cell) (n : ℕ) → All IsByte (t
 filled-run given cells zero h = refl
 filled-run given [] (suc n) h = refl
 filled-run given (Byte c ∷ cells) (suc n) h = ap (λ text. c ∷ text) (filled-run given cells n (All-tail IsByte (Byte c) (take n cells) h))
-filled-run given (Call m d ∷ cells) (suc n) h = absurd (All-head IsByte (Call m d) (take n cells) h)
-filled-run given (Comma ∷ cells) (suc n) h = absurd (All-head IsByte Comma (take n cells) h)
-filled-run given (Gap k ∷ cells) (suc n) h = absurd (All-head IsByte (Gap k) (take n cells) h)
-filled-run given (Head k ∷ cells) (suc n) h = absurd (All-head IsByte (Head k) (take n cells) h)
+filled-run given (cell ∷ cells) (suc n) h = absurd (All-head IsByte cell (take n cells) h)
 
 -- characters alone are their text, which stands as they do and is as long
 filled-plain : (given : List Text) (cells : List Cell) → All IsByte cells → filled given cells ≡ text_of_cells cells
 filled-plain given [] h = refl
 filled-plain given (Byte c ∷ cells) h = ap (λ text. c ∷ text) (filled-plain given cells (All-tail IsByte (Byte c) cells h))
-filled-plain given (Call m d ∷ cells) h = absurd (All-head IsByte (Call m d) cells h)
-filled-plain given (Comma ∷ cells) h = absurd (All-head IsByte Comma cells h)
-filled-plain given (Gap k ∷ cells) h = absurd (All-head IsByte (Gap k) cells h)
-filled-plain given (Head k ∷ cells) h = absurd (All-head IsByte (Head k) cells h)
+filled-plain given (cell ∷ cells) h = absurd (All-head IsByte cell cells h)
 
 pub plain-flat : (given : List Text) (cells : List Cell) → All IsByte cells → flat_text (filled given cells) ≡ cells
 plain-flat given cells h = ap flat_text (filled-plain given cells h) ∙ Byte-character_of cells h
@@ -45,40 +39,25 @@ plain-items cells h = All-map (λ item. is_character item ≡ true) item_of cell
   where
     character-item : (cell : Cell) → IsByte cell → is_character (item_of cell) ≡ true
     character-item (Byte c) h = refl
-    character-item (Call m d) h = absurd h
-    character-item Comma h = absurd h
-    character-item (Gap k) h = absurd h
-    character-item (Head k) h = absurd h
+    character-item cell h = absurd h
 
 pub plain-text : (cells : List Cell) → All IsByte cells → flat_text (text_of (map item_of cells)) ≡ cells
 plain-text [] h = refl
 plain-text (Byte c ∷ cells) h = ap (λ l. Byte c ∷ l) (plain-text cells (All-tail IsByte (Byte c) cells h))
-plain-text (Call m d ∷ cells) h = absurd (All-head IsByte (Call m d) cells h)
-plain-text (Comma ∷ cells) h = absurd (All-head IsByte Comma cells h)
-plain-text (Gap k ∷ cells) h = absurd (All-head IsByte (Gap k) cells h)
-plain-text (Head k ∷ cells) h = absurd (All-head IsByte (Head k) cells h)
+plain-text (cell ∷ cells) h = absurd (All-head IsByte cell cells h)
 
 -- so does one, and a cell that is none has the text of its number
 filled-character : (given : List Text) (cell : Cell) (cells : List Cell) → is_byte_cell cell ≡ true → filled given (cell ∷ cells) ≡ (character_of cell ∷ []) ++ filled given cells
 filled-character given (Byte c) cells h = refl
-filled-character given (Call m d) cells h = absurd (false≢true h)
-filled-character given Comma cells h = absurd (false≢true h)
-filled-character given (Gap k) cells h = absurd (false≢true h)
-filled-character given (Head k) cells h = absurd (false≢true h)
+filled-character given cell cells h = absurd (false≢true h)
 
 filled-cell : (given : List Text) (cell : Cell) (cells : List Cell) → is_byte_cell cell ≡ false → filled given (cell ∷ cells) ≡ get_or ([] ∷ given) (gap_number (Some cell)) [] ++ filled given cells
 filled-cell given (Byte c) cells h = absurd (false≢true (sym h))
-filled-cell given (Call m d) cells h = refl
-filled-cell given Comma cells h = refl
-filled-cell given (Gap k) cells h = refl
-filled-cell given (Head k) cells h = refl
+filled-cell given cell cells h = refl
 
 text-goes : (cell : Cell) → IsByte cell → IsNoCall cell
-text-goes (Byte c) h = refl
 text-goes (Call m d) h = absurd h
-text-goes Comma h = refl
-text-goes (Gap k) h = refl
-text-goes (Head k) h = refl
+text-goes cell h = refl
 
 pub text-no_call : (cells : List Cell) → All IsByte cells → NoCall cells
 text-no_call [] h = All-nil IsNoCall
@@ -93,9 +72,7 @@ body-items store body at from within part =
 -- the text of characters comes first
 run-first : (given : List Text) (store : List Cell) (at n end : ℕ) → at + n ≤ end → All IsByte (slice_range store at (at + n)) → filled given (slice_range store at end) ≡ text_of_cells (slice_range store at (at + n)) ++ filled given (slice_range store (at + n) end)
 run-first given store at n end few bytes =
-    let less : n ≤ end - at = omega (arith, few) in
-    let size : n ≡ at + n - at = omega arith in
-    let front : take n (slice_range store at end) ≡ slice_range store at (at + n) = take-take n (end - at) (drop at store) less ∙ ap (λ k. take k (drop at store)) size in
+    let front : take n (slice_range store at end) ≡ slice_range store at (at + n) = same_lists _ _ (search (rules, places)) (λ k d less. grind (arith, places)) in
     filled-run given (slice_range store at end) n (subst (All IsByte) (sym front) bytes)
     ∙ ap (λ c. text_of_cells c ++ filled given (drop n (slice_range store at end))) front
     ∙ ap (λ c. text_of_cells (slice_range store at (at + n)) ++ filled given c) (drop-part store at n end few)
@@ -247,7 +224,7 @@ module _ (old now : Lists) (first last : ℕ) (parted : AreParted old.neutral fi
       let stays = part-stays old now whole _ put part.0 part.1 is_part in
       let cells = slice_range now.neutral part.0 part.1 in
       let flat : cells ≡ flat_text text = sym (Byte-character_of cells stays.bytes) ∙ ap flat_text (text-stays old now whole _ put part.0 part.1 is_part) in
-      let size : length text ≡ part.1 - part.0 = length-map (slice_range old.neutral part.0 part.1) character_of ∙ length-between old.neutral part.0 part.1 is_part.within in
+      let size = length-part_text old.neutral part.0 part.1 is_part.within in
       record {
         part = stays;
         no_call = text-no_call cells stays.bytes;

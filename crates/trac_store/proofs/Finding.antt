@@ -1,29 +1,20 @@
 -- What stands where a form begins, in a slice of the whole store.
-use Rattle.trac_store.proofs.Words.{◌≡◌, ℕ, ◌+◌, ◌-◌, ◌<◌, ◌≤◌, List, length, take, drop, map, All, get_or, slice_range, slice_get, Some, sym, ap, ◌∙◌, subst, arith, option_map, slice_get-map, slice_get-get_or, take-map, drop-map, length-map, get_or-map, get_or-take, get_or-drop, length-between}
-use Rattle.trac_store.proofs.Words.{All-map, Cell, Byte, Call, Comma, Gap, Head, seen, flat_text, text_of_cells, IsByte, flat_forms, form_at, forms_in, start_of, head_number}
+use Rattle.trac_store.proofs.Words.{◌≡◌, ℕ, ◌+◌, ◌-◌, ◌<◌, ◌≤◌, List, length, take, drop, map, All, get_or, slice_range, slice_get, Some, sym, ap, ◌∙◌, subst, arith, option_map, slice_get-map, slice_get-get_or, take-map, drop-map, length-map, get_or-map, length-between}
+use Rattle.trac_store.proofs.Words.{All-map, Cell, Byte, Head, seen, flat_text, text_of_cells, IsByte, flat_forms, form_at, forms_in, start_of, head_number, Bool, Decides, begins, places}
 use Rattle.trac_store.proofs.FlatLemmas.{Byte-character_of}
 use Rattle.trac_store.proofs.Gaps.{bytes-seen}
+use Rattle.trac_store.proofs.HeadCells.{seen-head}
 use Rattle.trac_store.proofs.Places.{stands, head_cells}
 
--- a cell that is seen as a head or as a byte is one
-pub head-seen : (cell : Cell) (n : ℕ) → seen cell ≡ Head n → cell ≡ Head n
-head-seen (Byte b) n e = absurd cc
-head-seen (Call mode k) n e = absurd cc
-head-seen Comma n e = absurd cc
-head-seen (Gap k) n e = absurd cc
-head-seen (Head m) n e = e
-
+-- a cell that is seen as a byte is one
 pub byte-seen : (cell : Cell) → IsByte (seen cell) → IsByte cell
 byte-seen (Byte b) h = tt
-byte-seen (Call mode k) h = h
-byte-seen Comma h = h
-byte-seen (Gap k) h = h
-byte-seen (Head n) h = h
+byte-seen cell h = h
 
 head-at : (cells : List Cell) (i n : ℕ) → i < length cells → slice_get (map seen cells) i ≡ Some (Head n) → get_or cells i (Byte 0) ≡ Head n
 head-at cells i n within is =
     let there : Some (seen (get_or cells i (Byte 0))) ≡ Some (Head n) = sym (slice_get-map seen cells i ∙ ap (option_map seen) (slice_get-get_or cells i (Byte 0) within)) ∙ is in
-    head-seen (get_or cells i (Byte 0)) n cc
+    seen-head (get_or cells i (Byte 0)) n cc
 
 pub part-seen : (cells : List Cell) (a b : ℕ) → map seen (slice_range cells a b) ≡ slice_range (map seen cells) a b
 part-seen cells a b = sym (take-map seen (b - a) (drop a cells)) ∙ ap (take (b - a)) (sym (drop-map seen a cells))
@@ -66,16 +57,20 @@ part-length cells from n within =
 
 pub part-last : (cells : List Cell) (from n : ℕ) → 0 < n → from + n ≤ length cells → get_or (map seen (slice_range cells from (from + n))) (n - 1) (Byte 0) ≡ seen (get_or cells (from + n - 1) (Byte 0))
 part-last cells from n some within =
-    let size : from + n - from ≡ n = omega arith in
-    let place : from + (n - 1) ≡ from + n - 1 = omega arith in
     let long = length-between cells from (from + n) within in
-    get_or-map seen (slice_range cells from (from + n)) (n - 1) (Byte 0) (Byte 0) (omega arith)
-    ∙ ap seen (get_or-take (from + n - from) (drop from cells) (n - 1) (Byte 0) (omega arith) ∙ get_or-drop from cells (n - 1) (Byte 0) ∙ ap (λ i. get_or cells i (Byte 0)) place)
+    get_or-map seen (slice_range cells from (from + n)) (n - 1) (Byte 0) (Byte 0) (omega arith) ∙ ap seen (grind (arith, places))
 
 -- cells that are seen as bytes are bytes, and are seen as their text
 pub bytes-of-seen : (cells : List Cell) → All IsByte (map seen cells) → All IsByte cells
 bytes-of-seen cells h = λ k d within.
     byte-seen (get_or cells k d) (subst IsByte (get_or-map seen cells k d d within) (h k d (omega (arith, length-map cells seen))))
 
-pub seen-text : (cells : List Cell) → All IsByte (map seen cells) → flat_text (text_of_cells cells) ≡ map seen cells
+seen-text : (cells : List Cell) → All IsByte (map seen cells) → flat_text (text_of_cells cells) ≡ map seen cells
 seen-text cells h = ap flat_text (sym (bytes-seen cells)) ∙ Byte-character_of (map seen cells) h
+
+-- a test whether their texts are the same tells whether cells are seen as the same
+pub seen-decides : (cells text : List Cell) (same : Bool) → All IsByte (map seen cells) → All IsByte (map seen text) → Decides same (text_of_cells cells ≡ text_of_cells text) → Decides same (map seen cells ≡ map seen text)
+seen-decides cells text same bytes text_bytes decides = (
+  λ t. sym (seen-text cells bytes) ∙ ap flat_text (decides.0 t) ∙ seen-text text text_bytes,
+  λ e. decides.1 (sym (bytes-seen cells) ∙ ap text_of_cells e ∙ bytes-seen text),
+)

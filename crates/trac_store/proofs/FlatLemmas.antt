@@ -1,14 +1,17 @@
 -- Forms as cells and back.
-use Rattle.trac_store.proofs.Words.{◌≡◌, ℕ, zero, suc, ◌+◌, ◌-◌, ◌≤◌, List, [], ◌∷◌, ◌++◌, length, take, drop, map, refl, sym, ap, ◌∙◌, arith, slice_range, All, get_or, false, append_assoc, length-append, length-map, take_at, drop_at, drop-take, take-append-le, length-between, All-nil, All-head}
-use Rattle.trac_store.proofs.Words.{All-tail, All-cons, All-append, All-map, sum_by-cons, Item, Form, items_of, form_cells, cells, Cell, Byte, Call, Comma, Gap, Head, Lists, is_call, IsNoCall, NoCall, character_of, IsByte, flat_item, flat_form, flat_forms, IsTextPart, part_text, new_form}
-use Rattle.trac_store.proofs.Words.{item_of, read_forms, forms_in}
+use Rattle.trac_store.proofs.Words.{◌≡◌, ℕ, zero, suc, ◌+◌, ◌-◌, ◌≤◌, List, [], ◌∷◌, ◌++◌, length, take, drop, map, refl, sym, ap, ◌∙◌, arith, slice_range, All, get_or, false, append_assoc, length-append, length-map, take_at, drop_at, length-between, All-nil, All-head}
+use Rattle.trac_store.proofs.Words.{All-tail, All-cons, All-append, All-map, sum_by-cons, Item, Form, items_of, form_cells, cells, Cell, Byte, Head, Lists, is_call, IsNoCall, NoCall, character_of, IsByte, flat_item, flat_form, flat_forms, IsTextPart, part_text, new_form}
+use Rattle.trac_store.proofs.Words.{item_of, read_forms, forms_in, places, rules, same_lists}
 use Rattle.trac_language.specs.declared.item.Item.TheVariants as item
 
--- forms have as many cells as they form_cells
+-- how many cells a form has
+pub length-flat_form : (form : Form) → length (flat_form form) ≡ form_cells form
+length-flat_form form = omega (arith, length-append (map Byte form.name) (map flat_item form.body), length-map form.name Byte, length-map form.body flat_item)
+
 pub length-flat : (forms : List Form) → length (flat_forms forms) ≡ cells forms
 length-flat [] = refl
 length-flat (form ∷ forms) =
-    omega (arith, length-flat forms, length-append (flat_form form) (flat_forms forms), length-append (map Byte form.name) (map flat_item form.body), length-map form.name Byte, length-map form.body flat_item, sum_by-cons form_cells form forms)
+    omega (arith, length-flat forms, length-append (flat_form form) (flat_forms forms), length-flat_form form, sum_by-cons form_cells form forms)
 
 pub character_of-Byte : (text : List ℕ) → map character_of (map Byte text) ≡ text
 character_of-Byte [] = refl
@@ -45,11 +48,11 @@ forms_in-flat forms = read_forms-flat (length (flat_forms forms)) forms (omega a
 
 -- a part of a list is that part of a longer list
 pub part_of_longer : {X : Type 0} (xs ys : List X) (a b : ℕ) → a ≤ b → b ≤ length xs → slice_range (xs ++ ys) a b ≡ slice_range xs a b
-part_of_longer xs ys a b order within =
-    let e : a + (b - a) ≡ b = omega arith in
-    let long = drop-take a (b - a) (xs ++ ys) in
-    let short = drop-take a (b - a) xs in
-    sym long ∙ ap (drop a) (take-append-le (a + (b - a)) xs ys (omega arith)) ∙ short
+part_of_longer xs ys a b order within = same_lists _ _ (search (rules, places)) (λ k d less. grind (arith, places))
+
+-- a part without its first n cells
+pub drop-part : (cells : List Cell) (at n end : ℕ) → at + n ≤ end → drop n (slice_range cells at end) ≡ slice_range cells (at + n) end
+drop-part cells at n end within = same_lists _ _ (search (rules, places)) (λ k d less. grind (arith, places))
 
 pub Byte-character_of : (cells : List Cell) → All IsByte cells → map Byte (map character_of cells) ≡ cells
 Byte-character_of [] h = refl
@@ -60,21 +63,22 @@ Byte-character_of (cell ∷ cells) h =
   where
     one : (c : Cell) → IsByte c → Byte (character_of c) ≡ c
     one (Byte b) p = refl
-    one (Call m n) p = absurd p
-    one Comma p = absurd p
-    one (Gap n) p = absurd p
-    one (Head n) p = absurd p
+    one cell p = absurd p
 
 -- the items of a text as cells
 pub flat_items_of : (text : List ℕ) → map flat_item (items_of text) ≡ map Byte text
 flat_items_of [] = refl
 flat_items_of (b ∷ text) = ap (λ cs. Byte b ∷ cs) (flat_items_of text)
 
+-- a part's text has as many characters as the part cells
+pub length-part_text : (string : List Cell) (a b : ℕ) → b ≤ length string → length (part_text string a b) ≡ b - a
+length-part_text string a b within = length-map (slice_range string a b) character_of ∙ length-between string a b within
+
 -- a new form as cells
 pub flat_form_of : (string : List Cell) (a b from to : ℕ) → IsTextPart string a b → IsTextPart string from to → flat_form (new_form string a b from to) ≡ Head (b - a) ∷ Head (to - from) ∷ Head 0 ∷ (slice_range string a b ++ slice_range string from to)
 flat_form_of string a b from to name text =
-    let name_len : length (part_text string a b) ≡ b - a = length-map (slice_range string a b) character_of ∙ length-between string a b name.within in
-    let text_len : length (items_of (part_text string from to)) ≡ to - from = length-map (part_text string from to) item.Byte ∙ length-map (slice_range string from to) character_of ∙ length-between string from to text.within in
+    let name_len = length-part_text string a b name.within in
+    let text_len : length (items_of (part_text string from to)) ≡ to - from = length-map (part_text string from to) item.Byte ∙ length-part_text string from to text.within in
     let n = Byte-character_of (slice_range string a b) name.bytes in
     let t = flat_items_of (part_text string from to) ∙ Byte-character_of (slice_range string from to) text.bytes in
     rw (name_len, text_len, n, t)
@@ -112,7 +116,7 @@ moved s put after more from len is then =
 -- how many cells a new form has
 pub length-new_form : (string : List Cell) (a b from to : ℕ) → b ≤ length string → to ≤ length string → form_cells (new_form string a b from to) ≡ 3 + (b - a) + (to - from)
 length-new_form string a b from to name text =
-    omega (arith, length-map (slice_range string a b) character_of, length-between string a b name, length-map (part_text string from to) item.Byte, length-map (slice_range string from to) character_of, length-between string from to text)
+    omega (arith, length-part_text string a b name, length-map (part_text string from to) item.Byte, length-part_text string from to text)
 
 -- nor have forms
 pub no_call-flat_forms : (forms : List Form) → NoCall (flat_forms forms)

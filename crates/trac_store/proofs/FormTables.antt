@@ -1,9 +1,10 @@
 -- The table of the forms of a store, as they come and go.
 use Rattle.trac_store.proofs.Words.{◌≡◌, ◌≢◌, ℕ, zero, suc, ◌+◌, ◌-◌, ◌<◌, ◌≤◌, true, false, List, [], ◌∷◌, length, set, take, if◌then◌else◌, refl, sym, ap, ◌∙◌, arith, subst, nat_lt, nat_le, remove, lt-ltb, le-ltb, ltb-true, ltb-false, lt-leb, leb-true, leb-false, false≢true, get_or-take}
 use Rattle.trac_store.proofs.Words.{take-take, length-take-le, length-set, length-remove, get_or-remove_below, get_or-remove_above, sum_by-cons, Text, Form, form_cells, cells, Cell, Comma, Head, flat_forms, name_at, form_at, start_of, hash, quarter, slots, cell_at, home_place, is_open, number_of}
-use Rattle.trac_store.proofs.Words.{home_in, start_in, buried, forward, earlier, started, IsReached, IsIndexBut, IsIndex, IsOpenFor, with_entry}
-use Rattle.trac_store.proofs.TableChanges.{index-put, index-bury, index-begin, index-as, reached-within, head-same}
+use Rattle.trac_store.proofs.Words.{home_in, start_in, buried, forward, earlier, started, IsReached, IsIndexBut, IsIndex, IsOpenFor, with_entry, Bool, take-set-le}
+use Rattle.trac_store.proofs.TableChanges.{index-put, index-bury, index-begin, index-as, index-renamed, reached-within, head-same}
 use Rattle.trac_store.proofs.FlatLemmas.{length-flat}
+use Rattle.trac_store.proofs.Indexed.{name-set}
 
 pub if-below : {A : Type 0} (i g : ℕ) (a b : A) → i < g → (if nat_lt i g then a else b) ≡ a
 if-below i g a b less = ap (λ t. if t then a else b) (lt-ltb i g less)
@@ -11,30 +12,34 @@ if-below i g a b less = ap (λ t. if t then a else b) (lt-ltb i g less)
 pub if-past : {A : Type 0} (i g : ℕ) (a b : A) → g ≤ i → (if nat_lt i g then a else b) ≡ b
 if-past i g a b past = ap (λ t. if t then a else b) (le-ltb i g past)
 
+-- a condition taken both ways
+if-is : {A : Type 0} (b : Bool) (x y z : A) → (b ≡ true → x ≡ z) → (b ≡ false → y ≡ z) → (if b then x else y) ≡ z
+if-is true x y z then_is else_is = then_is refl
+if-is false x y z then_is else_is = else_is refl
+
+-- a bound that is one higher changes the answer for that number alone
+if-next : {A : Type 0} (g i : ℕ) (a b : A) → i ≢ g → (if nat_lt i (g + 1) then a else b) ≡ (if nat_lt i g then a else b)
+if-next g i a b differs =
+    sym (if-is (nat_lt i g) a b _ (λ e. sym (if-below i (g + 1) a b (omega (arith, ltb-true i g e)))) (λ e. sym (if-past i (g + 1) a b (omega (arith, differs, ltb-false i g e)))))
+
+-- the first forms are named as they were, and begin where they did
+front-same : (forms : List Form) (k j : ℕ) → j < k → (name_at (take k forms) j ≡ name_at forms j) × (start_of (take k forms) j ≡ start_of forms j)
+front-same forms k j less = (
+  ap (λ (f : Form). f.name) (get_or-take k forms j (record { name = []; body = []; pointer = 0 }) less),
+  ap (λ fs. length (flat_forms fs)) (take-take j k forms (omega (arith, less))),
+)
+
 -- the table of the first forms
 pub index-front : (table : List Cell) (forms : List Form) (k : ℕ) → k ≤ length forms → IsIndex table (take k forms) → IsIndexBut table k k (name_at forms) (start_of forms)
 index-front table forms k within index =
-    let size = length-take-le k forms within in
-    index-as table (length (take k forms)) (length (take k forms)) k k (name_at (take k forms)) (name_at forms) (start_of (take k forms)) (start_of forms) (omega (arith, size, index.roomy))
-    (λ j less there. (
-      omega (arith, size, less),
-      λ e. absurd (omega (arith, e, size, less)),
-      ap (λ (f : Form). f.name) (sym (get_or-take k forms j (record { name = []; body = []; pointer = 0 }) less)),
-      ap (λ fs. length (flat_forms fs)) (sym (take-take j k forms (omega (arith, less)))),
-    ))
-    (λ j less there. (omega (arith, size, less), λ e. absurd (omega (arith, e, size, less)))) index
+    let front = take k forms in
+    index-renamed table (length front) k (name_at front) (name_at forms) (start_of front) (start_of forms) (sym (length-take-le k forms within)) (λ j less. (let same = front-same forms k j less in (sym same.0, sym same.1))) index
 
 pub front-index : (table : List Cell) (forms : List Form) (k : ℕ) → k ≤ length forms → IsIndexBut table k k (name_at forms) (start_of forms) → IsIndex table (take k forms)
 front-index table forms k within index =
+    let front = take k forms in
     let size = length-take-le k forms within in
-    index-as table k k (length (take k forms)) (length (take k forms)) (name_at forms) (name_at (take k forms)) (start_of forms) (start_of (take k forms)) (omega (arith, size, index.roomy))
-    (λ j less there. (
-      omega (arith, size, less),
-      λ e. absurd (omega (arith, e, size, less)),
-      ap (λ (f : Form). f.name) (get_or-take k forms j (record { name = []; body = []; pointer = 0 }) (omega (arith, size, less))),
-      ap (λ fs. length (flat_forms fs)) (take-take j k forms (omega (arith, less, size))),
-    ))
-    (λ j less there. (omega (arith, size, less), λ e. absurd (omega (arith, e, size, less)))) index
+    index-renamed table k (length front) (name_at forms) (name_at front) (start_of forms) (start_of front) size (λ j less. front-same forms k j (omega (arith, size, less))) index
 
 open-head : (cell : Cell) (k : ℕ) → is_open cell ≡ true → cell ≡ Head k → ⊥
 open-head cell k free is = false≢true (sym (ap is_open is) ∙ free)
@@ -110,17 +115,11 @@ module _ (forms : List Form) (k : ℕ) (within : k < length forms) where
     where
       names : (j : ℕ) → names_now forms k k j ≡ name_at forms j
       names j =
-          elim (nat_lt j k) as (λ b. (nat_lt j k ≡ b) → (if b then name_at (remove forms k) j else name_at forms j) ≡ name_at forms j) [
-            | true ↦ λ e. ap (λ (f : Form). f.name) (get_or-remove_below forms k (record { name = []; body = []; pointer = 0 }) j (ltb-true j k e) within)
-            | false ↦ λ e. refl
-          ] refl
+          if-is (nat_lt j k) _ _ (name_at forms j) (λ e. ap (λ (f : Form). f.name) (get_or-remove_below forms k (record { name = []; body = []; pointer = 0 }) j (ltb-true j k e) within)) (λ _. refl)
 
       starts : (j : ℕ) → starts_now forms k k j ≡ start_of forms j
       starts j =
-          elim (nat_lt j k) as (λ b. (nat_lt j k ≡ b) → (if b then start_of (remove forms k) j else start_of forms j) ≡ start_of forms j) [
-            | true ↦ λ e. ap (λ fs. length (flat_forms fs)) (take-removed forms k j (omega (arith, ltb-true j k e)) within)
-            | false ↦ λ e. refl
-          ] refl
+          if-is (nat_lt j k) _ _ (start_of forms j) (λ e. ap (λ fs. length (flat_forms fs)) (take-removed forms k j (omega (arith, ltb-true j k e)) within)) (λ _. refl)
 
   -- what the table says of the form behind the gap
   pub next-home : (table : List Cell) (gap : ℕ) → gap + 1 < length forms → IsIndexBut table (length forms) gap (names_now forms k gap) (starts_now forms k gap) → home_in table (gap + 1) < slots table
@@ -161,18 +160,11 @@ module _ (forms : List Form) (k : ℕ) (within : k < length forms) where
       ∙ ap (λ b. with_entry table s gap b) begins in
       subst (λ t. IsIndexBut t (length forms) (gap + 1) (names_now forms k (gap + 1)) (starts_now forms k (gap + 1))) (sym now) put
     where
-      both : {A : Type 0} (gap j : ℕ) (a b : A) → j ≢ gap → (if nat_lt j (gap + 1) then a else b) ≡ (if nat_lt j gap then a else b)
-      both gap j a b differs =
-          elim (nat_lt j gap) as (λ t. (nat_lt j gap ≡ t) → (if nat_lt j (gap + 1) then a else b) ≡ (if t then a else b)) [
-            | true ↦ λ e. if-below j (gap + 1) a b (omega (arith, ltb-true j gap e))
-            | false ↦ λ e. if-past j (gap + 1) a b (omega (arith, differs, ltb-false j gap e))
-          ] refl
-
       same_name : (gap j : ℕ) → j ≢ gap + 1 → j ≢ gap → names_now forms k (gap + 1) j ≡ names_now forms k gap j
-      same_name gap j there differs = both gap j (name_at (remove forms k) j) (name_at forms j) differs
+      same_name gap j there differs = if-next gap j (name_at (remove forms k) j) (name_at forms j) differs
 
       same_start : (gap j : ℕ) → j ≢ gap + 1 → j ≢ gap → starts_now forms k (gap + 1) j ≡ starts_now forms k gap j
-      same_start gap j there differs = both gap j (start_of (remove forms k) j) (start_of forms j) differs
+      same_start gap j there differs = if-next gap j (start_of (remove forms k) j) (start_of forms j) differs
 
   -- all have come forward
   pub index-removed : (table : List Cell) (gap : ℕ) → gap + 1 ≡ length forms → IsIndexBut table (length forms) gap (names_now forms k gap) (starts_now forms k gap) → IsIndex table (remove forms k)
@@ -191,14 +183,11 @@ module _ (forms : List Form) (k : ℕ) (within : k < length forms) where
 module _ (k n less : ℕ) (name : ℕ → Text) (start : ℕ → ℕ) where
   started-none : (j : ℕ) → started k (k + 1) less start j ≡ start j
   started-none j =
-      elim (nat_le j k) as (λ b. (nat_le j k ≡ b) → (if b then start j else (if nat_lt j (k + 1) then start j - less else start j)) ≡ start j) [
-        | true ↦ λ e. refl
-        | false ↦ λ e. if-past j (k + 1) (start j - less) (start j) (omega (arith, leb-false j k e))
-      ] refl
+      if-is (nat_le j k) (start j) _ (start j) (λ _. refl) (λ e. if-past j (k + 1) (start j - less) (start j) (omega (arith, leb-false j k e)))
 
   pub index-started : (table : List Cell) → IsIndexBut table n n name start → IsIndexBut table n n name (started k (k + 1) less start)
   index-started table index =
-      index-as table n n n n name name start (started k (k + 1) less start) index.roomy (λ j inside there. (inside, there, refl, started-none j)) (λ j inside there. (inside, there)) index
+      index-renamed table n n name name start (started k (k + 1) less start) refl (λ j _. (refl, started-none j)) index
 
   -- form `next` begins earlier too
   started-here : (next : ℕ) → k < next → started k (next + 1) less start next ≡ start next - less
@@ -212,12 +201,7 @@ module _ (k n less : ℕ) (name : ℕ → Text) (start : ℕ → ℕ) where
       ∙ if-past j next (start j - less) (start j) past
 
   started-other : (next j : ℕ) → j ≢ next → started k (next + 1) less start j ≡ started k next less start j
-  started-other next j differs =
-      ap (λ v. if nat_le j k then start j else v)
-      (elim (nat_lt j next) as (λ t. (nat_lt j next ≡ t) → (if nat_lt j (next + 1) then start j - less else start j) ≡ (if t then start j - less else start j)) [
-        | true ↦ λ e. if-below j (next + 1) (start j - less) (start j) (omega (arith, ltb-true j next e))
-        | false ↦ λ e. if-past j (next + 1) (start j - less) (start j) (omega (arith, differs, ltb-false j next e))
-      ] refl)
+  started-other next j differs = ap (λ v. if nat_le j k then start j else v) (if-next next j (start j - less) (start j) differs)
 
   pub start-there : (table : List Cell) (next : ℕ) → k < next → next < n → IsIndexBut table n n name (started k next less start) → start_in table next ≡ start next
   start-there table next behind inside index =
@@ -232,24 +216,8 @@ module _ (k n less : ℕ) (name : ℕ → Text) (start : ℕ → ℕ) where
 
 -- another form of the same name at place k, so many cells shorter
 module _ (forms : List Form) (k : ℕ) (new : Form) (within : k < length forms) (named : new.name ≡ name_at forms k) (less : ℕ) (shorter : form_cells new + less ≡ form_cells (form_at forms k)) where
-  name-set : (j : ℕ) → name_at (set forms k new) j ≡ name_at forms j
-  name-set = go forms k named
-    where
-      go : (fs : List Form) (i : ℕ) → new.name ≡ name_at fs i → (j : ℕ) → name_at (set fs i new) j ≡ name_at fs j
-      go [] i same j = refl
-      go (form ∷ fs) zero same zero = same
-      go (form ∷ fs) zero same (suc j) = refl
-      go (form ∷ fs) (suc i) same zero = refl
-      go (form ∷ fs) (suc i) same (suc j) = go fs i same j
-
   start-before : (j : ℕ) → j ≤ k → start_of (set forms k new) j ≡ start_of forms j
-  start-before j order = ap (λ fs. length (flat_forms fs)) (go forms k j order)
-    where
-      go : (fs : List Form) (i j : ℕ) → j ≤ i → take j (set fs i new) ≡ take j fs
-      go [] i j order = refl
-      go (form ∷ fs) i zero order = refl
-      go (form ∷ fs) zero (suc j) order = absurd (omega (arith, order))
-      go (form ∷ fs) (suc i) (suc j) order = ap (λ rest. form ∷ rest) (go fs i j (omega (arith, order)))
+  start-before j order = ap (λ fs. length (flat_forms fs)) (take-set-le j forms k new order)
 
   cells-behind : (fs : List Form) (i j : ℕ) → i < j → i < length fs → cells (take j (set fs i new)) + form_cells (form_at fs i) ≡ cells (take j fs) + form_cells new
   cells-behind [] i j order inside = absurd (omega (arith, inside))
@@ -260,21 +228,16 @@ module _ (forms : List Form) (k : ℕ) (new : Form) (within : k < length forms) 
 
   start-set : (count j : ℕ) → j < count → start_of (set forms k new) j ≡ started k count less (start_of forms) j
   start-set count j inside =
-      elim (nat_le j k) as (λ t. (nat_le j k ≡ t) → start_of (set forms k new) j ≡ (if t then start_of forms j else (if nat_lt j count then start_of forms j - less else start_of forms j))) [
-        | true ↦ λ e. start-before j (leb-true j k e)
-        | false ↦ λ e.
-            let behind = cells-behind forms k j (leb-false j k e) within in
-            let there = if-below j count (start_of forms j - less) (start_of forms j) inside in
-            let is : start_of (set forms k new) j ≡ start_of forms j - less = omega (arith, behind, shorter, start-cells (set forms k new) j, start-cells forms j) in
-            is ∙ sym there
-      ] refl
+      sym (if-is (nat_le j k) _ _ (start_of (set forms k new) j) (λ e. sym (start-before j (leb-true j k e)))
+      (λ e.
+      let behind = cells-behind forms k j (leb-false j k e) within in
+      if-below j count (start_of forms j - less) (start_of forms j) inside ∙ omega (arith, behind, shorter, start-cells (set forms k new) j, start-cells forms j)))
 
   pub index-set : (table : List Cell) (count : ℕ) → count ≡ length forms → IsIndexBut table count count (name_at forms) (started k count less (start_of forms)) → IsIndex table (set forms k new)
   index-set table count all index =
-      let size = length-set forms k new in
-      index-as table count count (length (set forms k new)) (length (set forms k new)) (name_at forms) (name_at (set forms k new)) (started k count less (start_of forms)) (start_of (set forms k new)) (omega (arith, size, all, index.roomy))
-      (λ j inside there. (omega (arith, size, all, inside), λ e. absurd (omega (arith, e, size, all, inside)), name-set j, start-set count j (omega (arith, size, all, inside))))
-      (λ j inside there. (omega (arith, size, all, inside), λ e. absurd (omega (arith, e, size, all, inside)))) index
+      let now = set forms k new in
+      let size : length now ≡ count = omega (arith, length-set forms k new, all) in
+      index-renamed table count (length now) (name_at forms) (name_at now) (started k count less (start_of forms)) (start_of now) size (λ j inside. (name-set new forms k j named, start-set count j (omega (arith, size, inside)))) index
 
 -- the forms behind form k begin behind its cells
 pub front-cells : (forms : List Form) (k j : ℕ) → k < length forms → k < j → form_cells (form_at forms k) ≤ start_of forms j
@@ -285,15 +248,9 @@ front-cells forms k j within behind =
 -- forms that begin no earlier
 pub index-unmoved : (k count cells : ℕ) (name : ℕ → Text) (start : ℕ → ℕ) (table : List Cell) → cells ≡ 0 → IsIndexBut table count count name start → IsIndexBut table count count name (started k count cells start)
 index-unmoved k count cells name start table none index =
-    index-as table count count count count name name start (started k count cells start) index.roomy (λ j less there. (less, there, refl, same j)) (λ j less there. (less, there)) index
+    index-renamed table count count name name start (started k count cells start) refl (λ j _. (refl, same j)) index
   where
     same : (j : ℕ) → started k count cells start j ≡ start j
     same j =
         let least : start j - cells ≡ start j = omega (arith, none) in
-        elim (nat_le j k) as (λ b. (if b then start j else (if nat_lt j count then start j - cells else start j)) ≡ start j) [
-          | true ↦ refl
-          | false ↦ elim (nat_lt j count) as (λ b. (if b then start j - cells else start j) ≡ start j) [
-            | true ↦ least
-            | false ↦ refl
-          ]
-        ]
+        if-is (nat_le j k) (start j) _ (start j) (λ _. refl) (λ _. if-is (nat_lt j count) _ (start j) (start j) (λ _. least) (λ _. refl))

@@ -1,24 +1,19 @@
 -- How a walk over a body makes gaps of a text.
-use Rattle.trac_store.proofs.Words.{◌≡◌, ℕ, zero, suc, ◌+◌, ◌-◌, ◌<◌, ◌≤◌, ◌&&◌, Bool, true, false, List, [], ◌∷◌, ◌++◌, length, take, drop, map, slice_range, set, get_or, refl, sym, ap, ◌∙◌, arith, append_assoc, drop_more, drop-drop, drop-take, take_more_set, and-false, false≢true, Cell, Byte}
-use Rattle.trac_store.proofs.Words.{Call, Comma, Gap, Head, seen, character_of, is_byte, begins_cells, segment_cells}
+use Rattle.trac_store.proofs.Words.{◌≡◌, ℕ, zero, suc, ◌+◌, ◌-◌, ◌<◌, ◌≤◌, ◌&&◌, Bool, true, false, List, [], ◌∷◌, ◌++◌, length, take, drop, map, slice_range, set, get_or, refl, sym, ap, ◌∙◌, arith, append_assoc, drop_more, take_more_set, and-false, false≢true, Cell, Byte}
+use Rattle.trac_store.proofs.Words.{Gap, seen, character_of, is_byte, begins_cells, segment_cells, character-seen}
+use Rattle.trac_store.proofs.FlatLemmas.{drop-part}
 
 is_byte-seen : (b : ℕ) (cell : Cell) → is_byte b (seen cell) ≡ is_byte b cell
 is_byte-seen b (Byte c) = refl
-is_byte-seen b (Call mode number) = refl
-is_byte-seen b Comma = refl
-is_byte-seen b (Gap k) = refl
-is_byte-seen b (Head n) = refl
-
-pub character_of-seen : (cell : Cell) → character_of (seen cell) ≡ character_of cell
-character_of-seen (Byte c) = refl
-character_of-seen (Call mode number) = refl
-character_of-seen Comma = refl
-character_of-seen (Gap k) = refl
-character_of-seen (Head n) = refl
+is_byte-seen b cell = refl
 
 pub bytes-seen : (cells : List Cell) → map character_of (map seen cells) ≡ map character_of cells
 bytes-seen [] = refl
-bytes-seen (cell ∷ cells) = let e = character_of-seen cell in let f = bytes-seen cells in rw (e, f)
+bytes-seen (cell ∷ cells) = let e = character-seen cell in let f = bytes-seen cells in rw (e, f)
+
+-- the text of cells of which a slice is seen
+pub text-shown : (cells part : List Cell) → map seen cells ≡ part → map character_of cells ≡ map character_of part
+text-shown cells part shown = sym (bytes-seen cells) ∙ ap (map character_of) shown
 
 pub begins-map_seen : (text : List ℕ) (cells : List Cell) → begins_cells text (map seen cells) ≡ begins_cells text cells
 begins-map_seen [] cells = refl
@@ -52,7 +47,7 @@ begins-other neutral part (cell ∷ cells) a b first order within some part_is f
     let size : b - a ≡ suc (b - (a + 1)) = omega arith in
     let next = drop_more neutral a (Byte 0) (omega arith) in
     let text : slice_range neutral a b ≡ get_or neutral a (Byte 0) ∷ slice_range neutral (a + 1) b = rw (size, next) in
-    let other : is_byte (character_of (get_or neutral a (Byte 0))) (seen cell) ≡ false = ap (λ x. is_byte (character_of x) (seen cell)) (sym first_is) ∙ ap (λ n. is_byte n (seen cell)) (character_of-seen first) ∙ is_byte-seen (character_of first) cell ∙ differ in
+    let other : is_byte (character_of (get_or neutral a (Byte 0))) (seen cell) ≡ false = ap (λ x. is_byte (character_of x) (seen cell)) (sym first_is) ∙ ap (λ n. is_byte n (seen cell)) (character-seen first) ∙ is_byte-seen (character_of first) cell ∙ differ in
     rw (text, ← part_is, other)
 
 segment-skip : (text : List ℕ) (k n : ℕ) (cells : List Cell) → segment_cells text k n cells ≡ segment_cells text k 0 (drop n cells)
@@ -72,14 +67,6 @@ segment-found (b ∷ text) k (cell ∷ cells) some h =
 pub segment-other : (text : List ℕ) (k : ℕ) (cell : Cell) (cells : List Cell) → begins_cells text (cell ∷ cells) ≡ false → segment_cells text k 0 (cell ∷ cells) ≡ cell ∷ segment_cells text k 0 cells
 segment-other text k cell cells h = rw h
 
--- a part without its first n cells
-part-drop : (cells : List Cell) (a b n : ℕ) → a + n ≤ b → slice_range cells (a + n) b ≡ drop n (slice_range cells a b)
-part-drop cells a b n within =
-    let e : n + (b - (a + n)) ≡ b - a = omega arith in
-    let uncut = drop-take n (b - (a + n)) (drop a cells) in
-    let cut : drop n (take (b - a) (drop a cells)) ≡ take (b - (a + n)) (drop n (drop a cells)) = rw e at uncut in
-    sym (cut ∙ ap (take (b - (a + n))) (drop-drop n a cells))
-
 module _ (text : List ℕ) (k : ℕ) (was now : List Cell) (read to write : ℕ) (all : List Cell) (order : write ≤ read) (inside : read < to) (within : to ≤ length was) (len : length now ≡ length was) (written : take write now ++ segment_cells text k 0 (slice_range was read to) ≡ all) where
   put : (cell : Cell) → take (write + 1) (set now write cell) ≡ take write now ++ cell ∷ []
   put cell = take_more_set now write cell (omega arith)
@@ -87,7 +74,7 @@ module _ (text : List ℕ) (k : ℕ) (was now : List Cell) (read to write : ℕ)
   pub written-gap : 0 < length text → read + length text ≤ to → begins_cells text (slice_range was read to) ≡ true → take (write + 1) (set now write (Gap k)) ++ segment_cells text k 0 (slice_range was (read + length text) to) ≡ all
   written-gap some short found =
       let s = segment-found text k (slice_range was read to) some found in
-      let p = part-drop was read to (length text) short in
+      let p = sym (drop-part was read (length text) to short) in
       let joined = append_assoc (take write now) (Gap k ∷ []) (segment_cells text k 0 (drop (length text) (slice_range was read to))) in
       rw (put (Gap k), p, joined) (ap (λ cs. take write now ++ cs) (sym s) ∙ written)
 

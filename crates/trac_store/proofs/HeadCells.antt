@@ -1,6 +1,6 @@
 -- Head cells, as a slice of the store holds them.
 use Rattle.trac_store.proofs.Words.{◌≡◌, ℕ, ◌+◌, ◌<◌, ◌≤◌, List, length, map, get_or, slice_range, slice_get, Option, Some, refl, sym, ap, ◌∙◌, arith, length-map, get_or-map, length-between, get_or-between, option_map, slice_get-map, slice_get-get_or, get_or_from_slice_get, Cell, Byte, Call}
-use Rattle.trac_store.proofs.Words.{Comma, Gap, Head, seen, head_number, head_at, IsHeadAt}
+use Rattle.trac_store.proofs.Words.{Head, seen, head_number, head_at, IsHeadAt}
 
 -- a cell that is a number
 pub is_head : (cell : Cell) (n : ℕ) → cell ≡ Head n → cell ≡ Head (head_number (Some cell))
@@ -8,10 +8,7 @@ is_head cell n e = e ∙ sym (ap (λ (c : Cell). Head (head_number (Some c))) e)
 
 pub number-seen : (cell : Cell) → head_number (Some (seen cell)) ≡ head_number (Some cell)
 number-seen (Byte b) = refl
-number-seen (Call mode k) = refl
-number-seen Comma = refl
-number-seen (Gap k) = refl
-number-seen (Head n) = refl
+number-seen cell = refl
 
 -- the number in a cell of the slice is that in the store
 pub number-at : (cells store : List Cell) (i : ℕ) → map seen cells ≡ store → i < length cells → head_number (Some (get_or cells i (Byte 0))) ≡ head_at store i
@@ -20,12 +17,10 @@ number-at cells store i e within =
     ∙ sym (ap head_number (slice_get-map seen cells i ∙ ap (option_map seen) (slice_get-get_or cells i (Byte 0) within)))
     ∙ ap (λ s. head_at s i) e
 
+-- a cell that is seen as a head is one
 pub seen-head : (cell : Cell) (n : ℕ) → seen cell ≡ Head n → cell ≡ Head n
-seen-head (Byte b) n e = e
 seen-head (Call mode k) n e = absurd cc
-seen-head Comma n e = e
-seen-head (Gap k) n e = e
-seen-head (Head k) n e = e
+seen-head cell n e = e
 
 -- and so in a slice of a part of it
 pub head-in-part : (list cells : List Cell) (at end i : ℕ) → end ≤ length list → map seen cells ≡ slice_range list at end → at + i < end → IsHeadAt list (at + i) → get_or cells i (Byte 0) ≡ Head (head_number (Some (get_or cells i (Byte 0))))
@@ -34,12 +29,16 @@ head-in-part list cells at end i within shown inside head =
     let there = sym (get_or-map seen cells i (Byte 0) (Byte 0) some) ∙ ap (λ cs. get_or cs i (Byte 0)) shown ∙ get_or-between list at end i (Byte 0) inside ∙ get_or_from_slice_get list (at + i) (Head (head_at list (at + i))) (Byte 0) head in
     is_head (get_or cells i (Byte 0)) (head_at list (at + i)) (seen-head (get_or cells i (Byte 0)) (head_at list (at + i)) there)
 
-pub number-in-part : (list cells : List Cell) (at end i : ℕ) → end ≤ length list → map seen cells ≡ slice_range list at end → at + i < end → head_number (Some (get_or cells i (Byte 0))) ≡ head_at list (at + i)
-number-in-part list cells at end i within shown inside =
+-- what is read of a cell of the slice is what is read of it in the list, where the number of a call mark counts for nothing
+pub read-in-part : (read : Option Cell → ℕ) → ((cell : Cell) → read (Some (seen cell)) ≡ read (Some cell)) → (list cells : List Cell) (at end i : ℕ) → end ≤ length list → map seen cells ≡ slice_range list at end → at + i < end → read (Some (get_or cells i (Byte 0))) ≡ read (slice_get list (at + i))
+read-in-part read same list cells at end i within shown inside =
     let some : i < length cells = omega (arith, inside, length-map cells seen, ap length shown, length-between list at end within) in
-    sym (number-seen (get_or cells i (Byte 0)))
-    ∙ ap (λ (cell : Cell). head_number (Some cell)) (sym (get_or-map seen cells i (Byte 0) (Byte 0) some) ∙ ap (λ cs. get_or cs i (Byte 0)) shown ∙ get_or-between list at end i (Byte 0) inside)
-    ∙ ap head_number (sym (slice_get-get_or list (at + i) (Byte 0) (omega (arith, inside, within))))
+    sym (same (get_or cells i (Byte 0)))
+    ∙ ap (λ (cell : Cell). read (Some cell)) (sym (get_or-map seen cells i (Byte 0) (Byte 0) some) ∙ ap (λ cs. get_or cs i (Byte 0)) shown ∙ get_or-between list at end i (Byte 0) inside)
+    ∙ ap read (sym (slice_get-get_or list (at + i) (Byte 0) (omega (arith, inside, within))))
+
+pub number-in-part : (list cells : List Cell) (at end i : ℕ) → end ≤ length list → map seen cells ≡ slice_range list at end → at + i < end → head_number (Some (get_or cells i (Byte 0))) ≡ head_at list (at + i)
+number-in-part = read-in-part head_number number-seen
 
 -- a number that stands at a place
 pub is-head-at : (store : List Cell) (i n : ℕ) → slice_get store i ≡ Some (Head n) → IsHeadAt store i

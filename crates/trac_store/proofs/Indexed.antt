@@ -1,7 +1,7 @@
 -- A search by the table.
 use Rattle.trac_store.proofs.Words.{◌≡◌, ◌≢◌, ℕ, zero, suc, ◌+◌, ◌-◌, ◌*◌, ◌/◌, ◌<◌, ◌≤◌, true, false, List, [], ◌∷◌, length, map, set, take, get_or, Bool, inl, inr, if◌then◌else◌, nat_le, refl, subst, sym, ap, ◌∙◌, arith, ⊎_elim, bit_and, and_le_r, false≢true, cases_lt, length-map}
 use Rattle.trac_store.proofs.Words.{length-append, length-set, get_or-map, Text, Form, NoneNamed, Cell, Byte, Head, seen, Lists, used, with_way, flat_form, flat_forms, name_at, form_at, start_of, IsIndexed, IsKept, hash, quarter, slots, slot, start_place, cell_at, is_blank, IsIndex}
-use Rattle.trac_store.proofs.TableChanges.{index-as}
+use Rattle.trac_store.proofs.TableChanges.{index-renamed}
 
 pub NoneNamed-from : (name : Text) (forms : List Form) → ((k : ℕ) → k < length forms → name_at forms k ≢ name) → NoneNamed name forms
 NoneNamed-from name [] h = tt
@@ -68,36 +68,27 @@ kept-if false xs = inr refl
 pub way-kept : (n : ℕ) (s : Lists) → IsKept s.spare (with_way n s).spare
 way-kept n s = kept-if (nat_le (used s + n + length s.spare) s.room) s.spare
 
--- forms of the same names and lengths
-pub index-same : (table : List Cell) (was now : List Form) → length now ≡ length was → ((k : ℕ) → name_at now k ≡ name_at was k) → ((k : ℕ) → start_of now k ≡ start_of was k) → IsIndexed table was → IsIndexed table now
-index-same table was now len names starts h some =
-    let i = h some in
-    index-as table (length was) (length was) (length now) (length now) (name_at was) (name_at now) (start_of was) (start_of now) (omega (arith, len, i.roomy)) (λ k within there. (omega (arith, len, within), λ e. absurd (omega (arith, e, within, len)), names k, starts k)) (λ k within there. (omega (arith, len, within), λ e. absurd (omega (arith, e, within, len)))) i
-
 -- another form of the same name and length at place k
-same_name : (new : Form) (forms : List Form) (k j : ℕ) → new.name ≡ (form_at forms k).name → name_at (set forms k new) j ≡ name_at forms j
-same_name new [] k j named = refl
-same_name new (form ∷ forms) zero zero named = named
-same_name new (form ∷ forms) zero (suc j) named = refl
-same_name new (form ∷ forms) (suc k) zero named = refl
-same_name new (form ∷ forms) (suc k) (suc j) named = same_name new forms k j named
+pub name-set : (new : Form) (forms : List Form) (k j : ℕ) → new.name ≡ (form_at forms k).name → name_at (set forms k new) j ≡ name_at forms j
+name-set new [] k j named = refl
+name-set new (form ∷ forms) zero zero named = named
+name-set new (form ∷ forms) zero (suc j) named = refl
+name-set new (form ∷ forms) (suc k) zero named = refl
+name-set new (form ∷ forms) (suc k) (suc j) named = name-set new forms k j named
 
 pub same_start : (new : Form) (forms : List Form) (k j : ℕ) → length (flat_form new) ≡ length (flat_form (form_at forms k)) → start_of (set forms k new) j ≡ start_of forms j
 same_start new [] k j long = refl
 same_start new (form ∷ forms) zero zero long = refl
 same_start new (form ∷ forms) (suc k) zero long = refl
 same_start new (form ∷ forms) zero (suc j) long =
-    length-append (flat_form new) (flat_forms (take j forms))
-    ∙ ap (λ n. n + length (flat_forms (take j forms))) long
-    ∙ sym (length-append (flat_form form) (flat_forms (take j forms)))
+    omega (arith, long, length-append (flat_form new) (flat_forms (take j forms)), length-append (flat_form form) (flat_forms (take j forms)))
 same_start new (form ∷ forms) (suc k) (suc j) long =
-    length-append (flat_form form) (flat_forms (take j (set forms k new)))
-    ∙ ap (λ n. length (flat_form form) + n) (same_start new forms k j long)
-    ∙ sym (length-append (flat_form form) (flat_forms (take j forms)))
+    omega (arith, same_start new forms k j long, length-append (flat_form form) (flat_forms (take j (set forms k new))), length-append (flat_form form) (flat_forms (take j forms)))
 
 pub index-replaced : (forms : List Form) (k : ℕ) (new : Form) (table : List Cell) → new.name ≡ (form_at forms k).name → length (flat_form new) ≡ length (flat_form (form_at forms k)) → IsIndexed table forms → IsIndexed table (set forms k new)
-index-replaced forms k new table named long h =
-    index-same table forms (set forms k new) (length-set forms k new) (λ j. same_name new forms k j named) (λ j. same_start new forms k j long) h
+index-replaced forms k new table named long h = λ some.
+    let now = set forms k new in
+    index-renamed table (length forms) (length now) (name_at forms) (name_at now) (start_of forms) (start_of now) (length-set forms k new) (λ j _. (name-set new forms k j named, same_start new forms k j long)) (h some)
 
 -- form k with another pointer
 pub index-pointer : (forms : List Form) (k p : ℕ) (table : List Cell) → IsIndexed table forms → IsIndexed table (set forms k (record (form_at forms k) { pointer = p }))

@@ -1,13 +1,8 @@
 -- What stands between comma marks, part by part, and a list of where the parts begin.
 use Rattle.trac_store.proofs.Words.{◌≡◌, ℕ, zero, suc, ◌+◌, ◌-◌, ◌<◌, ◌≤◌, Bool, true, false, List, [], ◌∷◌, ◌++◌, All, length, take, drop, map, slice_range, get_or, refl, sym, ap, ◌∙◌, arith, cond, nat_le, ⊎_elim, append_assoc, cases_lt, drop_more, length-append, length-drop, length-take-le}
-use Rattle.trac_store.proofs.Words.{drop-take, drop-drop, take-append-drop, get_or_append_left, All-head, All-tail, get_or-append_seam, length-between, Cell, Byte, Call, Comma, Gap, Head, seen, is_comma, IsByte, Lists, used, HasWay, before_comma, parts_at, parts_between, numbered_part, IsHeadAt}
+use Rattle.trac_store.proofs.Words.{drop-drop, take-append-drop, get_or_append_left, All-head, All-tail, get_or-append_seam, length-between, Cell, Byte, Comma, Head, seen, is_comma, IsByte, Lists, used, HasWay, before_comma, parts_at, parts_between, numbered_part, IsHeadAt}
 use Rattle.trac_store.proofs.Words.{IsListed, head_at}
-use Rattle.trac_store.proofs.FlatLemmas.{part_of_longer}
-
-pub drop-part : (cells : List Cell) (at n end : ℕ) → at + n ≤ end → drop n (slice_range cells at end) ≡ slice_range cells (at + n) end
-drop-part cells at n end within =
-    let split : end - at ≡ n + (end - (at + n)) = omega (arith, within) in
-    ap (λ k. drop n (take k (drop at cells))) split ∙ drop-take n (end - (at + n)) (drop at cells) ∙ ap (take (end - (at + n))) (drop-drop n at cells)
+use Rattle.trac_store.proofs.FlatLemmas.{drop-part, part_of_longer}
 
 pub before_comma-within : (cells : List Cell) → before_comma cells ≤ length cells
 before_comma-within [] = omega arith
@@ -18,11 +13,8 @@ before_comma-within (cell ∷ cells) = go (is_comma cell) (before_comma-within c
     go false h = omega arith
 
 no-comma : (cell : Cell) → (cell ≡ Comma → ⊥) → is_comma cell ≡ false
-no-comma (Byte b) h = refl
-no-comma (Call mode link) h = refl
 no-comma Comma h = absurd (h refl)
-no-comma (Gap ordinal) h = refl
-no-comma (Head n) h = refl
+no-comma cell h = refl
 
 -- a cell that is no comma mark is passed
 module _ (cells : List Cell) where
@@ -40,11 +32,8 @@ module _ (cells : List Cell) where
       before-one 3 d (omega (arith, within)) fourth c
 
 byte-no-comma : (cell : Cell) → IsByte cell → is_comma cell ≡ false
-byte-no-comma (Byte b) byte = refl
-byte-no-comma (Call mode link) byte = refl
 byte-no-comma Comma byte = absurd byte
-byte-no-comma (Gap ordinal) byte = refl
-byte-no-comma (Head n) byte = refl
+byte-no-comma cell byte = refl
 
 -- characters are passed
 before-bytes : (cells rest : List Cell) → All IsByte cells → before_comma (cells ++ rest) ≡ length cells + before_comma rest
@@ -64,10 +53,7 @@ before-eight cells i within bytes is =
 
 is_comma-seen : (cell : Cell) → is_comma (seen cell) ≡ is_comma cell
 is_comma-seen (Byte b) = refl
-is_comma-seen (Call mode link) = refl
-is_comma-seen Comma = refl
-is_comma-seen (Gap ordinal) = refl
-is_comma-seen (Head n) = refl
+is_comma-seen cell = refl
 
 before_comma-seen : (cells : List Cell) → before_comma (map seen cells) ≡ before_comma cells
 before_comma-seen [] = refl
@@ -128,6 +114,10 @@ module _ (neutral : List Cell) (from end n : ℕ) (le : from ≤ end) (within : 
 
   pub parts-first : parts_between neutral from end ≡ (from, from + n) ∷ parts_between neutral (from + n + 1) end
   parts-first = parts-some neutral from end le ∙ behind ∙ ap (λ k. (from, from + k) ∷ parts_between neutral (from + k + 1) end) (sym is)
+
+-- the first part ends where the slice of neutral shows that it does
+pub shown-fits : (neutral cells : List Cell) (from end n : ℕ) → from ≤ end → end ≤ length neutral → map seen cells ≡ slice_range neutral from end → n ≡ before_comma cells → from + n ≤ end
+shown-fits neutral cells from end n le within shown found = part-fits neutral from end n le within (found-comma cells (slice_range neutral from end) n shown found)
 
 -- cells behind them change nothing
 pub parts-longer : (neutral more : List Cell) (from end : ℕ) → end ≤ length neutral → parts_between (neutral ++ more) from end ≡ parts_between neutral from end

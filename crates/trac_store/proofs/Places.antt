@@ -1,6 +1,7 @@
 -- Where forms stand among the cells of a list of forms.
 use Rattle.trac_store.proofs.Words.{◌≡◌, ℕ, suc, ◌+◌, ◌-◌, ◌<◌, ◌≤◌, List, [], ◌∷◌, ◌++◌, length, take, drop, map, slice_range, slice_get, set, Some, refl, sym, ap, ◌∙◌, arith, remove, drop-append-add, append_assoc, append-nil, length-append, length-map, take-append-drop, drop_more, take_more}
 use Rattle.trac_store.proofs.Words.{take_at, drop_at, drop-drop, set_split, take-set, set-append_right, flat_map-append, Form, form_cells, Cell, Byte, Head, Lists, flat_text, flat_item, flat_form, flat_forms, form_at, start_of, head_number, head_at}
+use Rattle.trac_store.proofs.FlatLemmas.{length-flat_form}
 
 slice_get-append-add : (xs ys : List Cell) (n : ℕ) → slice_get (xs ++ ys) (length xs + n) ≡ slice_get ys n
 slice_get-append-add [] ys n = ap (slice_get ys) (omega arith)
@@ -27,105 +28,67 @@ start_of-le forms k =
     let split = ap flat_forms (sym (take-append-drop k forms)) ∙ flat_map-append flat_form (take k forms) (drop k forms) in
     omega (arith, ap length split, length-append (flat_forms (take k forms)) (flat_forms (drop k forms)))
 
--- a form followed by others, after cells of a known number
-module _ (front name body rest store : List Cell) (at n m p : ℕ) (split : store ≡ front ++ ((Head n ∷ Head m ∷ Head p ∷ (name ++ body)) ++ rest)) (front_len : length front ≡ at) (name_len : length name ≡ n) (body_len : length body ≡ m) where
-  read : (i : ℕ) → slice_get store (at + i) ≡ slice_get ((Head n ∷ Head m ∷ Head p ∷ (name ++ body)) ++ rest) i
-  read i =
-      let e : at + i ≡ length front + i = omega arith in
-      ap (slice_get store) e ∙ ap (λ cells. slice_get cells (length front + i)) split ∙ slice_get-append-add front ((Head n ∷ Head m ∷ Head p ∷ (name ++ body)) ++ rest) i
-
-  behind_heads : drop (at + 3) store ≡ name ++ (body ++ rest)
-  behind_heads =
-      let e : at + 3 ≡ length front + 3 = omega arith in
-      rw (e, split) (drop-append-add front ((Head n ∷ Head m ∷ Head p ∷ (name ++ body)) ++ rest) 3 ∙ append_assoc name body rest)
-
-  behind_name : drop (at + 3 + n) store ≡ body ++ rest
-  behind_name = sym (drop-drop n (at + 3) store) ∙ ap (drop n) behind_heads ∙ drop_at name (body ++ rest) n name_len
-
-  pub read_name_len : head_at store at ≡ n
-  read_name_len =
-      let e : at ≡ at + 0 = omega arith in
-      ap (head_at store) e ∙ ap head_number (read 0)
-
-  pub read_body_len : head_at store (at + 1) ≡ m
-  read_body_len = ap head_number (read 1)
-
-  pub read_pointer : head_at store (at + 2) ≡ p
-  read_pointer = ap head_number (read 2)
-
-  pub read_name : slice_range store (at + 3) (at + 3 + n) ≡ name
-  read_name =
-      let size : at + 3 + n - (at + 3) ≡ n = omega arith in
-      rw (size, behind_heads) (take_at name (body ++ rest) n name_len)
-
-  pub read_body : slice_range store (at + 3 + n) (at + 3 + n + m) ≡ body
-  read_body =
-      let size : at + 3 + n + m - (at + 3 + n) ≡ m = omega arith in
-      rw (size, behind_name) (take_at body rest m body_len)
-
-  pub read_front : take at store ≡ front
-  read_front = ap (take at) split ∙ take_at front ((Head n ∷ Head m ∷ Head p ∷ (name ++ body)) ++ rest) at front_len
-
-  pub read_behind : drop (at + (3 + n + m)) store ≡ rest
-  read_behind =
-      let e : at + (3 + n + m) ≡ at + 3 + n + m = omega arith in
-      ap (λ i. drop i store) e ∙ sym (drop-drop m (at + 3 + n) store) ∙ ap (drop m) behind_name ∙ drop_at body rest m body_len
-
 module _ (forms : List Form) (store : List Cell) (k at : ℕ) (whole : flat_forms forms ≡ store) (within : k < length forms) (begins : at ≡ start_of forms k) where
-  split : store ≡ flat_forms (take k forms) ++ (flat_form (form_at forms k) ++ flat_forms (drop (k + 1) forms))
+  abbrev form : Form
+  form = form_at forms k
+
+  abbrev front : List Cell
+  front = flat_forms (take k forms)
+
+  abbrev rest : List Cell
+  rest = flat_forms (drop (k + 1) forms)
+
+  split : store ≡ front ++ (flat_form form ++ rest)
   split =
-      let here : drop k forms ≡ form_at forms k ∷ drop (k + 1) forms = drop_more forms k (record { name = []; body = []; pointer = 0 }) within in
-      sym whole ∙ ap flat_forms (sym (take-append-drop k forms)) ∙ flat_map-append flat_form (take k forms) (drop k forms) ∙ ap (λ fs. flat_forms (take k forms) ++ flat_forms fs) here
+      let here : drop k forms ≡ form ∷ drop (k + 1) forms = drop_more forms k (record { name = []; body = []; pointer = 0 }) within in
+      sym whole ∙ ap flat_forms (sym (take-append-drop k forms)) ∙ flat_map-append flat_form (take k forms) (drop k forms) ∙ ap (λ fs. front ++ flat_forms fs) here
 
-  length-form : length (flat_form (form_at forms k)) ≡ form_cells (form_at forms k)
-  length-form =
-      let form = form_at forms k in
-      omega (arith, length-append (flat_text form.name) (map flat_item form.body), length-map form.name Byte, length-map form.body flat_item)
+  read : (i : ℕ) → slice_get store (at + i) ≡ slice_get (flat_form form ++ rest) i
+  read i =
+      let e : at + i ≡ length front + i = omega (arith, begins) in
+      ap (slice_get store) e ∙ ap (λ cells. slice_get cells (length front + i)) split ∙ slice_get-append-add front (flat_form form ++ rest) i
 
-  next_start : start_of forms (k + 1) ≡ at + form_cells (form_at forms k)
+  at_is : at ≡ at + 0
+  at_is = omega arith
+
+  behind_heads : drop (at + 3) store ≡ flat_text form.name ++ (map flat_item form.body ++ rest)
+  behind_heads =
+      let e : at + 3 ≡ length front + 3 = omega (arith, begins) in
+      rw (e, split) (drop-append-add front (flat_form form ++ rest) 3 ∙ append_assoc (flat_text form.name) (map flat_item form.body) rest)
+
+  behind_name : drop (at + 3 + length form.name) store ≡ map flat_item form.body ++ rest
+  behind_name =
+      sym (drop-drop (length form.name) (at + 3) store) ∙ ap (drop (length form.name)) behind_heads
+      ∙ drop_at (flat_text form.name) (map flat_item form.body ++ rest) (length form.name) (length-map form.name Byte)
+
+  next_start : start_of forms (k + 1) ≡ at + form_cells form
   next_start =
-      let form = form_at forms k in
       let more = take_more forms k (record { name = []; body = []; pointer = 0 }) within in
       let joined = ap (λ fs. length (flat_forms fs)) more ∙ ap length (flat_map-append flat_form (take k forms) (form ∷ [])) in
-      omega (arith, joined, length-append (flat_forms (take k forms)) (flat_form form ++ []), ap length (append-nil (flat_form form)), length-form)
+      omega (arith, begins, joined, length-append front (flat_form form ++ []), ap length (append-nil (flat_form form)), length-flat_form form)
 
   pub stands : Stands forms store k at
   stands =
-      let form = form_at forms k in
-      let front = flat_forms (take k forms) in
-      let name = flat_text form.name in
-      let body = map flat_item form.body in
-      let rest = flat_forms (drop (k + 1) forms) in
-      let n = length-map form.name Byte in
-      let m = length-map form.body flat_item in
+      let name_size : at + 3 + length form.name - (at + 3) ≡ length form.name = omega arith in
+      let body_size : at + 3 + length form.name + length form.body - (at + 3 + length form.name) ≡ length form.body = omega arith in
+      let end : at + (3 + length form.name + length form.body) ≡ at + 3 + length form.name + length form.body = omega arith in
       record {
-        name_len = read_name_len front name body rest store at (length form.name) (length form.body) form.pointer split (sym begins) n m;
-        body_len = read_body_len front name body rest store at (length form.name) (length form.body) form.pointer split (sym begins) n m;
-        pointer = read_pointer front name body rest store at (length form.name) (length form.body) form.pointer split (sym begins) n m;
+        name_len = ap (head_at store) at_is ∙ ap head_number (read 0);
+        body_len = ap head_number (read 1);
+        pointer = ap head_number (read 2);
         next = next_start;
         end = omega (arith, next_start, start_of-le forms (k + 1), ap length whole);
         split = split;
-        name_part = read_name front name body rest store at (length form.name) (length form.body) form.pointer split (sym begins) n m;
-        body_part = read_body front name body rest store at (length form.name) (length form.body) form.pointer split (sym begins) n m;
-        front = read_front front name body rest store at (length form.name) (length form.body) form.pointer split (sym begins) n m;
-        behind = read_behind front name body rest store at (length form.name) (length form.body) form.pointer split (sym begins) n m;
+        name_part = rw (name_size, behind_heads) (take_at (flat_text form.name) (map flat_item form.body ++ rest) (length form.name) (length-map form.name Byte));
+        body_part = rw (body_size, behind_name) (take_at (map flat_item form.body) rest (length form.body) (length-map form.body flat_item));
+        front = ap (take at) split ∙ take_at front (flat_form form ++ rest) at (sym begins);
+        behind = ap (λ i. drop i store) end ∙ sym (drop-drop (length form.body) (at + 3 + length form.name) store)
+            ∙ ap (drop (length form.body)) behind_name ∙ drop_at (map flat_item form.body) rest (length form.body) (length-map form.body flat_item);
       }
 
   -- the cells with the lengths and the pointer
-  pub head_cells : (slice_get store at ≡ Some (Head (length (form_at forms k).name))) × (slice_get store (at + 1) ≡ Some (Head (length (form_at forms k).body))) × (slice_get store (at + 2) ≡ Some (Head (form_at forms k).pointer))
-  head_cells =
-      let form = form_at forms k in
-      let front = flat_forms (take k forms) in
-      let name = flat_text form.name in
-      let body = map flat_item form.body in
-      let rest = flat_forms (drop (k + 1) forms) in
-      let n = length-map form.name Byte in
-      let m = length-map form.body flat_item in
-      let at_is : at ≡ at + 0 = omega arith in (
-        ap (slice_get store) at_is ∙ read front name body rest store at (length form.name) (length form.body) form.pointer split (sym begins) n m 0,
-        read front name body rest store at (length form.name) (length form.body) form.pointer split (sym begins) n m 1,
-        read front name body rest store at (length form.name) (length form.body) form.pointer split (sym begins) n m 2,
-      )
+  pub head_cells : (slice_get store at ≡ Some (Head (length form.name))) × (slice_get store (at + 1) ≡ Some (Head (length form.body))) × (slice_get store (at + 2) ≡ Some (Head form.pointer))
+  head_cells = (ap (slice_get store) at_is ∙ read 0, read 1, read 2)
 
 -- the cells without one form
 pub removed : (forms : List Form) (store : List Cell) (k at : ℕ) → Stands forms store k at → take at store ++ drop (at + (3 + length (form_at forms k).name + length (form_at forms k).body)) store ≡ flat_forms (remove forms k)

@@ -1,8 +1,8 @@
 -- Forms that are marked, and then removed.
-use Rattle.trac_store.proofs.Words.{◌≡◌, ◌<◌, ℕ, zero, suc, ◌+◌, ◌≤◌, Bool, true, false, List, [], ◌∷◌, length, map, set, slice_range, sym, ap, refl, ◌∙◌, subst, arith, ◌⊎◌, ⊎_elim, if◌then◌else◌, filter, not, ◌||◌, ◌==◌, length-append, length-map, length-set, get_or-set_other, All-head}
-use Rattle.trac_store.proofs.Words.{All-tail, Text, Form, is_named, NoneNamed, IsStore, Cell, Head, Lists, flat_text, flat_form, flat_forms, flat_item, form_at, IsNamedAt, IsTextPart, part_text, part_texts, before_comma, parts_between, texts_between, AreParted, IsPlace, forms_in, start_of}
-use Rattle.trac_store.proofs.Words.{is_among, without_all, mark, is_marked, marked, marked_if, with_marks, unmarked, HaveOwnNames, IsFormed, IsMarkedFrom}
-use Rattle.trac_store.proofs.FlatLemmas.{forms_in-flat}
+use Rattle.trac_store.proofs.Words.{◌≡◌, ◌<◌, ℕ, zero, suc, ◌+◌, ◌≤◌, Bool, true, false, List, [], ◌∷◌, length, set, slice_range, sym, ap, refl, ◌∙◌, subst, arith, ◌⊎◌, ⊎_elim, if◌then◌else◌, filter, not, ◌||◌, ◌==◌, length-append, length-set, get_or-set_other, All-head}
+use Rattle.trac_store.proofs.Words.{All-tail, Text, Form, is_named, NoneNamed, IsStore, Cell, Head, Lists, flat_form, flat_forms, form_at, IsNamedAt, IsTextPart, part_text, part_texts, before_comma, parts_between, texts_between, AreParted, IsPlace, forms_in, start_of}
+use Rattle.trac_store.proofs.Words.{is_among, without_all, mark, is_marked, marked, marked_if, with_marks, unmarked, HaveOwnNames, IsFormed, IsMarkedFrom, begins}
+use Rattle.trac_store.proofs.FlatLemmas.{forms_in-flat, length-flat_form}
 use Rattle.trac_store.proofs.Places.{stands, repointed, start_of-set}
 use Rattle.trac_store.proofs.Parted.{parts-first, part-fits}
 use Rattle.trac_store.proofs.Indexed.{index-pointer, same_start}
@@ -61,8 +61,8 @@ mark-at name (form ∷ forms) (suc k) h at =
     rw e (ap (λ fs. form ∷ fs) more)
 
 -- the cells once a form is marked that is found
-pub marked-lists : (s t : Lists) (count last start k at : ℕ) (name : Text) → IsFormed s count last start → IsNamedAt (forms_in s.store) name k → at ≡ start_of (forms_in s.store) k → t ≡ record s { store = set s.store (at + 2) (Head mark) } → (t ≡ record s { store = flat_forms (with_marks (name ∷ []) (forms_in s.store)) }) × IsFormed t count k at
-marked-lists s t count last start k at name h named begins written =
+pub marked-lists : {s t : Lists} {count last start k at : ℕ} {name : Text} → IsFormed s count last start → IsNamedAt (forms_in s.store) name k → at ≡ start_of (forms_in s.store) k → t ≡ record s { store = set s.store (at + 2) (Head mark) } → (t ≡ record s { store = flat_forms (with_marks (name ∷ []) (forms_in s.store)) }) × IsFormed t count k at
+marked-lists {s = s} {t = t} {count = count} {k = k} {at = at} {name = name} h named begins written =
     let forms = forms_in s.store in
     let form = marked (form_at forms k) in
     let new = set forms k form in
@@ -120,7 +120,7 @@ unmarked-marks names [] h few = refl
 unmarked-marks names (form ∷ forms) h few =
     let size = length-cons form forms in
     let more = unmarked-marks names forms h.2 (omega (arith, few, size)) in
-    let small : form.pointer ≤ 16777216 = omega (arith, h.0, few, size, length-append (flat_text form.name) (map flat_item form.body), length-map form.body flat_item) in
+    let small : form.pointer ≤ 16777216 = omega (arith, h.0, few, size, length-flat_form form) in
     go (is_among names form) (no-mark form.pointer small) more
   where
     go : (b : Bool) → is_marked form ≡ false → unmarked (with_marks names forms) ≡ without_all names forms → (if not (is_marked (marked_if b form)) then marked_if b form ∷ unmarked (with_marks names forms) else unmarked (with_marks names forms)) ≡ (if not b then form ∷ without_all names forms else without_all names forms)
@@ -173,15 +173,12 @@ module _ (neutral : List Cell) (from end n : ℕ) (h : AreParted neutral from en
   parts-split : parts_between neutral from end ≡ (from, from + n) ∷ parts_between neutral (from + n + 1) end
   parts-split = parts-first neutral from end n le h.within is
 
-  pub part-within : from + n ≤ end
-  part-within = part-fits neutral from end n le h.within is
-
   pub first-part : IsTextPart neutral from (from + n)
   first-part = All-head (λ part. IsTextPart neutral part.0 part.1) (from, from + n) (parts_between neutral (from + n + 1) end) (rw parts-split at h.texts)
 
   pub left-parted : AreParted neutral (from + n + 1) end
   left-parted = record {
-    order = omega (arith, part-within);
+    order = omega (arith, part-fits neutral from end n le h.within is);
     within = h.within;
     bounded = h.bounded;
     texts = All-tail (λ part. IsTextPart neutral part.0 part.1) (from, from + n) (parts_between neutral (from + n + 1) end) (rw parts-split at h.texts);

@@ -1,8 +1,8 @@
 -- What a search over the cells of a body says of its items.
-use Rattle.trac_store.proofs.Words.{◌≡◌, ℕ, ◌+◌, ◌<◌, ◌≤◌, ◌&&◌, ◌==◌, Bool, true, false, List, [], ◌∷◌, length, drop, map, get_or, Option, Some, None, MatchOption, ⊎_elim, refl, sym, ap, ◌∙◌, arith, get_or-map, length-map, drop-map, cases_eq, and_parts, Item, Text, is_character, begins, Cell}
-use Rattle.trac_store.proofs.Words.{Byte, Call, Comma, Gap, Head, seen, character_of, is_byte_cell, byte_cell_at, flat_item, is_gap, gap_at, character_at, text_at, NonePasses, IsFirst, IsLast, is_gap_cell, gap_cell_at, text_cells_at, begins_cells}
+use Rattle.trac_store.proofs.Words.{◌≡◌, ℕ, ◌<◌, ◌≤◌, ◌&&◌, ◌==◌, Bool, true, List, [], ◌∷◌, length, drop, map, get_or, Option, Some, None, MatchOption, refl, sym, ap, ◌∙◌, arith, get_or-map, length-map, drop-map, and_parts, Item, Text, is_character, begins, Cell}
+use Rattle.trac_store.proofs.Words.{Byte, Comma, seen, character_of, is_byte_cell, byte_cell_at, flat_item, is_gap, gap_at, character_at, text_at, NonePasses, IsFirst, IsLast, is_gap_cell, gap_cell_at, text_cells_at, begins_cells, tested-seen}
 use Rattle.trac_language.specs.declared.item.Item.TheVariants as item
-use Rattle.trac_store.proofs.Gaps.{begins-map_seen, bytes-seen}
+use Rattle.trac_store.proofs.Gaps.{begins-map_seen, text-shown}
 
 -- another test that agrees gives the same places
 pub first-agrees : (r : Option ℕ) (p q : ℕ → Bool) (from n to : ℕ) → n ≡ to → ((k : ℕ) → k < to → p k ≡ q k) → MatchOption r (NonePasses p from n) (λ i. IsFirst p from n i) → MatchOption r (NonePasses q from to) (λ i. IsFirst q from to i)
@@ -24,17 +24,7 @@ last-agrees (Some i) p q to same h = record {
 
 gap-seen : (cell : Cell) → is_gap_cell (seen cell) ≡ is_gap_cell cell
 gap-seen (Byte b) = refl
-gap-seen (Call m n) = refl
-gap-seen Comma = refl
-gap-seen (Gap k) = refl
-gap-seen (Head n) = refl
-
-byte-seen : (cell : Cell) → is_byte_cell (seen cell) ≡ is_byte_cell cell
-byte-seen (Byte b) = refl
-byte-seen (Call m n) = refl
-byte-seen Comma = refl
-byte-seen (Gap k) = refl
-byte-seen (Head n) = refl
+gap-seen cell = refl
 
 gap-flat : (i : Item) → is_gap_cell (flat_item i) ≡ is_gap i
 gap-flat (item.Byte b) = refl
@@ -64,13 +54,12 @@ module _ (cells : List Cell) (items : List Item) (same : map seen cells ≡ map 
   gaps-agree k below = sym (gap-seen (get_or cells k Comma)) ∙ ap is_gap_cell (cell_at k below) ∙ gap-flat (get_or items k (item.Byte 0))
 
   pub characters-agree : (k : ℕ) → k < length items → byte_cell_at cells k ≡ character_at items k
-  characters-agree k below = sym (byte-seen (get_or cells k Comma)) ∙ ap is_byte_cell (cell_at k below) ∙ byte-flat (get_or items k (item.Byte 0))
+  characters-agree k below = sym (tested-seen (get_or cells k Comma)) ∙ ap is_byte_cell (cell_at k below) ∙ byte-flat (get_or items k (item.Byte 0))
 
 -- cells as contracts see them hold a text where the cells do
 pub texts-seen : (cells seen_cells text part : List Cell) → map seen cells ≡ seen_cells → map seen text ≡ part → (k : ℕ) → text_cells_at (map character_of text) cells k ≡ text_cells_at (map character_of part) seen_cells k
 texts-seen cells seen_cells text part same is k =
-    let t : map character_of text ≡ map character_of part = sym (bytes-seen text) ∙ ap (map character_of) is in
-    ap (λ bs. begins_cells bs (drop k cells)) t ∙ sym (begins-map_seen (map character_of part) (drop k cells)) ∙ ap (begins_cells (map character_of part)) (sym (drop-map seen k cells) ∙ ap (drop k) same)
+    ap (λ bs. begins_cells bs (drop k cells)) (text-shown text part is) ∙ sym (begins-map_seen (map character_of part) (drop k cells)) ∙ ap (begins_cells (map character_of part)) (sym (drop-map seen k cells) ∙ ap (drop k) same)
 
 -- and those of items where the items do
 pub texts-agree : (cells : List Cell) (items : List Item) (text : Text) → cells ≡ map flat_item items → (k : ℕ) → text_cells_at text cells k ≡ text_at text items k

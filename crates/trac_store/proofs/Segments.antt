@@ -1,6 +1,6 @@
 -- The cells of a segmented body.
-use Rattle.trac_store.proofs.Words.{◌≡◌, ℕ, zero, suc, ◌+◌, ◌-◌, ◌<◌, Bool, true, false, List, [], ◌∷◌, ◌++◌, length, take, drop, map, set, refl, sym, ap, ◌∙◌, arith, if◌then◌else◌, append_assoc, length-append, length-map, take_at, set-append_right, Item, Text, Form, begins, segment_after}
-use Rattle.trac_store.proofs.Words.{segment, Cell, Byte, Gap, Head, Lists, flat_text, flat_item, flat_form, flat_forms, form_at, segment_cells, segmented_cells, start_of}
+use Rattle.trac_store.proofs.Words.{◌≡◌, ℕ, zero, suc, ◌+◌, ◌-◌, ◌<◌, Bool, true, false, List, [], ◌∷◌, ◌++◌, length, take, drop, map, set, refl, sym, ap, ◌∙◌, arith, if◌then◌else◌, append_assoc, length-append, length-map, take_at, Item, Text, Form, begins, segment_after}
+use Rattle.trac_store.proofs.Words.{segment, Cell, Byte, Gap, Head, Lists, flat_text, flat_item, flat_form, flat_forms, form_at, segment_cells, segmented_cells, start_of, places, reads, rules, same_lists}
 use Rattle.trac_store.proofs.Searches.{begins-flat}
 use Rattle.trac_store.proofs.Places.{Stands, flat-set}
 
@@ -35,6 +35,10 @@ written s t u v store i j a b first second third =
     let e = second ∙ ap (λ (l : Lists). record l { store = set l.store i a }) first in
     third ∙ ap (λ (l : Lists). record l { store = set l.store j b }) e
 
+-- the two cells behind the first of some are written
+set-two : (front after : List Cell) (at : ℕ) (first a b x y : Cell) → length front ≡ at → set (set (front ++ (first ∷ a ∷ b ∷ after)) (at + 1) x) (at + 2) y ≡ front ++ (first ∷ x ∷ y ∷ after)
+set-two front after at first a b x y long = same_lists _ _ (search (rules, places)) (λ k d less. grind (arith, reads))
+
 -- the store with other items in the body of a form, and pointer 0
 pub regapped : (forms : List Form) (store : List Cell) (k at from to : ℕ) (items : List Item) → k < length forms → at ≡ start_of forms k → Stands forms store k at → from ≡ at + 3 + length (form_at forms k).name → to ≡ from + length (form_at forms k).body → set (set (take from store ++ map flat_item items ++ drop to store) (at + 1) (Head (length items))) (at + 2) (Head 0) ≡ flat_forms (set forms k (record (form_at forms k) { body = items; pointer = 0 }))
 regapped forms store k at from to items within begins f from_is to_is =
@@ -50,11 +54,10 @@ regapped forms store k at from to items within begins f from_is to_is =
     let before : take from store ≡ front ++ (heads ++ name) = ap (take from) split ∙ take_at (front ++ (heads ++ name)) (body ++ rest) from front_len in
     let end : to ≡ at + (3 + length form.name + length form.body) = omega arith in
     let behind : drop to store ≡ rest = ap (λ i. drop i store) end ∙ f.behind in
-    let one : at + 1 - length front ≡ 1 = omega arith in
-    let two : at + 2 - length front ≡ 2 = omega arith in
     let after = name ++ (gaps ++ rest) in
     let joined : take from store ++ gaps ++ drop to store ≡ front ++ (Head (length form.name) ∷ Head (length form.body) ∷ Head form.pointer ∷ after) = rw (before, behind) (append_assoc (front ++ (heads ++ name)) gaps rest ∙ append_assoc front (heads ++ name) (gaps ++ rest)) in
-    let first : set (front ++ (Head (length form.name) ∷ Head (length form.body) ∷ Head form.pointer ∷ after)) (at + 1) (Head (length items)) ≡ front ++ (Head (length form.name) ∷ Head (length items) ∷ Head form.pointer ∷ after) = set-append_right front _ (length front) (at + 1) (Head (length items)) refl (omega arith) ∙ ap (λ i. front ++ set (Head (length form.name) ∷ Head (length form.body) ∷ Head form.pointer ∷ after) i (Head (length items))) one in
-    let second : set (front ++ (Head (length form.name) ∷ Head (length items) ∷ Head form.pointer ∷ after)) (at + 2) (Head 0) ≡ front ++ (Head (length form.name) ∷ Head (length items) ∷ Head 0 ∷ after) = set-append_right front _ (length front) (at + 2) (Head 0) refl (omega arith) ∙ ap (λ i. front ++ set (Head (length form.name) ∷ Head (length items) ∷ Head form.pointer ∷ after) i (Head 0)) two in
     let whole : front ++ (Head (length form.name) ∷ Head (length items) ∷ Head 0 ∷ after) ≡ front ++ (flat_form (record form { body = items; pointer = 0 }) ++ rest) = ap (λ cells. front ++ (Head (length form.name) ∷ Head (length items) ∷ Head 0 ∷ cells)) (sym (append_assoc name gaps rest)) in
-    ap (λ cells. set (set cells (at + 1) (Head (length items))) (at + 2) (Head 0)) joined ∙ ap (λ cells. set cells (at + 2) (Head 0)) first ∙ second ∙ whole ∙ sym (flat-set forms k (record form { body = items; pointer = 0 }) within)
+    ap (λ cells. set (set cells (at + 1) (Head (length items))) (at + 2) (Head 0)) joined
+    ∙ set-two front after at _ _ _ (Head (length items)) (Head 0) (sym begins)
+    ∙ whole
+    ∙ sym (flat-set forms k (record form { body = items; pointer = 0 }) within)

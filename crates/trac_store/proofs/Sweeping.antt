@@ -1,7 +1,8 @@
 -- The store while the marked forms are taken out of it, in order.
-use Rattle.trac_store.proofs.Words.{◌≡◌, ℕ, zero, suc, ◌+◌, ◌-◌, ◌<◌, ◌≤◌, true, false, List, [], ◌∷◌, ◌++◌, length, take, drop, map, slice_range, slice_get, sym, ap, refl, ◌∙◌, arith, not, append_assoc, append-nil, take-append-drop, length-append, length-map, length-drop, length-take-le}
-use Rattle.trac_store.proofs.Words.{length_push, take_more, take_at, drop_at, drop-drop, flat_map_more, flat_map-append, length-between, slice_get_past, drop-append-drop, filter-append, drop_split, Form, Cell, Byte, Lists, flat_text, part-on, flat_item, flat_form, flat_forms, form_at}
-use Rattle.trac_store.proofs.Words.{IsMarkedFrom, is_marked, unmarked, forms_in, start_of, head_number, head_at, IsPlace}
+use Rattle.trac_store.proofs.Words.{◌≡◌, ℕ, zero, suc, ◌+◌, ◌-◌, ◌<◌, ◌≤◌, true, false, List, [], ◌∷◌, ◌++◌, length, take, drop, slice_range, slice_get, sym, ap, refl, ◌∙◌, arith, not, append_assoc, append-nil, take-append-drop, length-append, length-drop, length-take-le}
+use Rattle.trac_store.proofs.Words.{length_push, take_more, take_at, drop_at, drop-drop, flat_map_more, flat_map-append, length-between, slice_get_past, drop-append-drop, filter-append, Form, Cell, Lists, part-on, flat_form, flat_forms, form_at}
+use Rattle.trac_store.proofs.Words.{IsMarkedFrom, is_marked, unmarked, forms_in, start_of, head_number, head_at, IsPlace, places, rules, same_lists}
+use Rattle.trac_store.proofs.FlatLemmas.{length-flat_form}
 use Rattle.trac_store.proofs.Places.{Stands, stands}
 
 -- of the first i forms, which end at `from`, those without a mark stand before the gap from a up to
@@ -29,17 +30,12 @@ swept-heads was now from i behind =
     sym (ap head_number (slice_get-drop from now i)) ∙ ap (λ cells. head_number (slice_get cells i)) behind ∙ ap head_number (slice_get-drop from was i)
 
 -- the forms without a mark up to the next
-next-marked : (forms : List Form) (i : ℕ) → i < length forms → is_marked (form_at forms i) ≡ true → unmarked (take (i + 1) forms) ≡ unmarked (take i forms)
-next-marked forms i within is =
-    let more = take_more forms i (record { name = []; body = []; pointer = 0 }) within in
-    ap unmarked more ∙ filter-append (λ form. not (is_marked form)) (take i forms) (form_at forms i ∷ []) ∙ rw is (append-nil (unmarked (take i forms)))
+next-unmarked : (forms : List Form) (i : ℕ) → i < length forms → unmarked (take (i + 1) forms) ≡ unmarked (take i forms) ++ unmarked (form_at forms i ∷ [])
+next-unmarked forms i within =
+    ap unmarked (take_more forms i (record { name = []; body = []; pointer = 0 }) within)
+    ∙ filter-append (λ form. not (is_marked form)) (take i forms) (form_at forms i ∷ [])
 
-next-unmarked : (forms : List Form) (i : ℕ) → i < length forms → is_marked (form_at forms i) ≡ false → unmarked (take (i + 1) forms) ≡ unmarked (take i forms) ++ form_at forms i ∷ []
-next-unmarked forms i within plain =
-    let more = take_more forms i (record { name = []; body = []; pointer = 0 }) within in
-    ap unmarked more ∙ filter-append (λ form. not (is_marked form)) (take i forms) (form_at forms i ∷ []) ∙ rw plain refl
-
-module _ (old now : Lists) (i a b from kept : ℕ) (h : IsSweptTo old now i a b from kept) (whole : flat_forms (forms_in old.store) ≡ old.store) (within : i < length (forms_in old.store)) where
+module _ {old now : Lists} {i a b from kept : ℕ} (h : IsSweptTo old now i a b from kept) (whole : flat_forms (forms_in old.store) ≡ old.store) (within : i < length (forms_in old.store)) where
   abbrev forms : List Form
   forms = forms_in old.store
 
@@ -72,7 +68,7 @@ module _ (old now : Lists) (i a b from kept : ℕ) (h : IsSweptTo old now i a b 
     form-part =
         let size : end - from ≡ 3 + length form.name + length form.body = omega (arith, ends) in
         let cells = ap (drop from) f.split ∙ drop_at (flat_forms (take i forms)) (flat_form form ++ flat_forms (drop (i + 1) forms)) from (sym h.begins) in
-        let long : length (flat_form form) ≡ end - from = omega (arith, size, length-append (flat_text form.name) (map flat_item form.body), length-map form.name Byte, length-map form.body flat_item) in
+        let long : length (flat_form form) ≡ end - from = omega (arith, size, length-flat_form form) in
         ap (take (end - from)) (h.behind ∙ cells) ∙ take_at (flat_form form) (flat_forms (drop (i + 1) forms)) (end - from) long
 
     behind-next : drop end now.store ≡ drop end old.store
@@ -82,7 +78,7 @@ module _ (old now : Lists) (i a b from kept : ℕ) (h : IsSweptTo old now i a b 
 
     pub swept-more : is_marked form ≡ false → IsSweptTo old now (i + 1) a b end (kept + 1)
     swept-more plain =
-        let next = next-unmarked forms i within plain in
+        let next : unmarked (take (i + 1) forms) ≡ unmarked (take i forms) ++ form ∷ [] = next-unmarked forms i within ∙ rw plain refl in
         let size : b + ((from - b) + (end - from)) ≡ end = omega (arith, h.order, ends) in
         let first : b + (from - b) ≡ from = omega (arith, h.order) in
         let last : b + (from - b) + (end - from) ≡ end = omega (arith, h.order, ends) in
@@ -107,7 +103,7 @@ module _ (old now : Lists) (i a b from kept : ℕ) (h : IsSweptTo old now i a b 
 
     pub swept-gone : (new : Lists) → is_marked form ≡ true → new ≡ record now { store = take a now.store ++ slice_range now.store b from ++ drop (a + (from - b)) now.store } → IsSweptTo old new (i + 1) (a + (from - b)) end end kept
     swept-gone new is moved =
-        let next = next-marked forms i within is in
+        let next : unmarked (take (i + 1) forms) ≡ unmarked (take i forms) = next-unmarked forms i within ∙ rw is (append-nil (unmarked (take i forms))) in
         let there = take a now.store ++ slice_range now.store b from in
         let at = a + (from - b) in
         let fits = swept-end in
@@ -178,11 +174,4 @@ module _ (forms : List Form) (k at : ℕ) (h : IsMarkedFrom forms k at) where
 
 -- where there is no gap nothing moves
 pub unmoved : (s : Lists) (a b from : ℕ) → a ≡ b → b ≤ from → s ≡ record s { store = take a s.store ++ slice_range s.store b from ++ drop (a + (from - b)) s.store }
-unmoved s a b from same order =
-    let e : a + (from - b) ≡ from = omega (arith, same, order) in
-    ap (λ cells. record s { store = cells }) (
-    sym (take-append-drop a s.store)
-    ∙ ap (λ k. take a s.store ++ drop k s.store) same
-    ∙ ap (λ cells. take a s.store ++ cells) (drop_split s.store b from order)
-    ∙ sym (append_assoc (take a s.store) (slice_range s.store b from) (drop from s.store))
-    ∙ ap (λ k. take a s.store ++ slice_range s.store b from ++ drop k s.store) (sym e))
+unmoved s a b from same order = ap (λ cells. record s { store = cells }) (same_lists _ _ (search (rules, places)) (λ k d less. grind (arith, places)))

@@ -1,6 +1,6 @@
 -- Changes of a table of forms.
 use Rattle.trac_store.proofs.Words.{◌≡◌, ◌≢◌, ℕ, ◌+◌, ◌-◌, ◌*◌, ◌/◌, ◌<◌, ◌≤◌, false, List, length, set, sym, ap, ◌∙◌, arith, ⊎_elim, inl, inr, subst, ◌⊎◌, bit_and, and_le_r, cases_lt, length-set, get_or-set_same, get_or-set_other, Text, Cell, Byte, Comma, Head, hash, quarter, slots, slot}
-use Rattle.trac_store.proofs.Words.{cell_at, start_place, home_place, is_blank, IsReached, IsEntry, HasEntry, IsHeld, IsIndexBut, with_entry}
+use Rattle.trac_store.proofs.Words.{cell_at, start_place, home_place, is_blank, IsReached, IsEntry, HasEntry, IsHeld, IsIndexBut, with_entry, begins, reads}
 
 pub same_or : (a b : ℕ) → (a ≡ b) ⊎ (a ≢ b)
 same_or a b =
@@ -49,28 +49,19 @@ module _ (table now : List Cell) (long : length now ≡ length table) (full : (x
 -- the cells of a table with one entry more
 module _ (table : List Cell) (s k start : ℕ) (s_in : s < slots table) (k_in : k < quarter table) where
   long : length (with_entry table s k start) ≡ length table
-  long = length-set (set (set table s (Head k)) (start_place table k) (Head start)) (home_place table k) (Head s) ∙ length-set (set table s (Head k)) (start_place table k) (Head start) ∙ length-set table s (Head k)
+  long = simp length-set
 
   entry-slot : cell_at (with_entry table s k start) s ≡ Head k
-  entry-slot =
-      get_or-set_other (set (set table s (Head k)) (start_place table k) (Head start)) (home_place table k) s (Head s) (Byte 0) (λ e. absurd (omega (arith, e, s_in)))
-      ∙ get_or-set_other (set table s (Head k)) (start_place table k) s (Head start) (Byte 0) (λ e. absurd (omega (arith, e, s_in)))
-      ∙ get_or-set_same table s (Head k) (Byte 0) (omega (arith, s_in))
+  entry-slot = grind (arith, reads)
 
   entry-start : cell_at (with_entry table s k start) (start_place table k) ≡ Head start
-  entry-start =
-      get_or-set_other (set (set table s (Head k)) (start_place table k) (Head start)) (home_place table k) (start_place table k) (Head s) (Byte 0) (λ e. absurd (omega (arith, e, k_in)))
-      ∙ get_or-set_same (set table s (Head k)) (start_place table k) (Head start) (Byte 0) (omega (arith, k_in, length-set table s (Head k)))
+  entry-start = grind (arith, reads)
 
   entry-home : cell_at (with_entry table s k start) (home_place table k) ≡ Head s
-  entry-home =
-      get_or-set_same (set (set table s (Head k)) (start_place table k) (Head start)) (home_place table k) (Head s) (Byte 0) (omega (arith, k_in, length-set (set table s (Head k)) (start_place table k) (Head start), length-set table s (Head k)))
+  entry-home = grind (arith, reads)
 
   entry-other : (x : ℕ) → x ≢ s → x ≢ start_place table k → x ≢ home_place table k → cell_at (with_entry table s k start) x ≡ cell_at table x
-  entry-other x a b c =
-      get_or-set_other (set (set table s (Head k)) (start_place table k) (Head start)) (home_place table k) x (Head s) (Byte 0) c
-      ∙ get_or-set_other (set table s (Head k)) (start_place table k) x (Head start) (Byte 0) b
-      ∙ get_or-set_other table s x (Head k) (Byte 0) a
+  entry-other x a b c = grind (arith, reads)
 
   -- a slot is changed only where the entry is
   entry-other_slot : (x : ℕ) → x < slots table → x ≢ s → cell_at (with_entry table s k start) x ≡ cell_at table x
@@ -263,3 +254,10 @@ index-as table n g n2 g2 name name2 start start2 fits olds news index = record {
       let more = news k old.within old.there in
       record { within = more.0; there = more.1; home = old.home };
 }
+
+-- where no form is left out
+pub index-renamed : (table : List Cell) (n n2 : ℕ) (name name2 : ℕ → Text) (start start2 : ℕ → ℕ) → n2 ≡ n → ((k : ℕ) → k < n2 → (name2 k ≡ name k) × (start2 k ≡ start k)) → IsIndexBut table n n name start → IsIndexBut table n2 n2 name2 start2
+index-renamed table n n2 name name2 start start2 size same index =
+    index-as table n n n2 n2 name name2 start start2 (omega (arith, size, index.roomy))
+    (λ k within there. (omega (arith, size, within), λ e. absurd (omega (arith, e, size, within)), (same k within).0, (same k within).1))
+    (λ k within there. (omega (arith, size, within), λ e. absurd (omega (arith, e, size, within)))) index

@@ -1,6 +1,6 @@
 -- Borders of a text, and what a search by them keeps.
 use Rattle.trac_store.proofs.Words.{◌≡◌, ℕ, zero, suc, ◌+◌, ◌-◌, ◌<◌, ◌≤◌, Bool, true, false, List, [], ◌∷◌, length, drop, map, get_or, Some, ⊎_elim, refl, sym, ap, subst, ◌∙◌, arith, length-map, length-drop, get_or-map, get_or-drop, cases_eq, cases_lt, false≢true, and_parts, and_from, eq-eqb}
-use Rattle.trac_store.proofs.Words.{eqb-true, Cell, Byte, Call, Comma, Gap, Head, seen, character_of, IsHeadAt, byte_at, IsBorder, IsLongestBorder, AreBorders, GoesOn, IsNextBorder, is_byte, begins_cells, text_cells_at, NonePasses, IsFirst, head_number, head_at}
+use Rattle.trac_store.proofs.Words.{eqb-true, Cell, Byte, Comma, Head, seen, character_of, IsHeadAt, byte_at, IsBorder, IsLongestBorder, AreBorders, GoesOn, IsNextBorder, is_byte, begins_cells, text_cells_at, NonePasses, IsFirst, head_number, head_at}
 use Rattle.trac_store.proofs.Gaps.{begins-few}
 use Rattle.trac_store.proofs.HeadCells.{number-at}
 
@@ -65,10 +65,7 @@ byte-in cells k within = get_or-map character_of cells k (Byte 0) 0 within
 -- one cell is one byte
 one-byte : (b c : ℕ) (cell : Cell) → is_byte b cell ≡ true → is_byte c cell ≡ true → b ≡ c
 one-byte b c (Byte x) p q = sym (eqb-true x b p) ∙ eqb-true x c q
-one-byte b c (Call mode number) p q = absurd (false≢true p)
-one-byte b c Comma p q = absurd (false≢true p)
-one-byte b c (Gap k) p q = absurd (false≢true p)
-one-byte b c (Head k) p q = absurd (false≢true p)
+one-byte b c cell p q = absurd (false≢true p)
 
 -- the first n characters of the text stand at the place
 abbrev pub StandsAt : List ℕ → List Cell → ℕ → ℕ → Type 0

@@ -4,17 +4,16 @@ pub use Rattle.std.proofs.Math.Bool.{and-false}
 pub use Rattle.std.proofs.Math.Seq.{drop-append-add, get_or-append_seam}
 pub use Rattle.std.proofs.lemmas.Bool.{and_from, and_parts, both_ways, cases_eq, cases_lt, eq-eqb, eqb-true, false_from_ne_true, false≢true, le-ltb, leb-false, leb-true, lt-leb, lt-ltb, ltb-false, ltb-true}
 pub use Rattle.std.proofs.lemmas.Grind.{common_steps}
-pub use Rattle.std.proofs.lemmas.List.{append-nil, append_assoc, drop-drop, drop-map, drop-set-lt, drop-take, drop_all, drop_at, drop_more, flat_map_more, get_or-drop, get_or-map, get_or-set_other, get_or-set_same, get_or-take, get_or_append_left, get_or_past, length-append, length-drop, length-map, length-set, length-take-le, length_push, map-append, nil_from_length, places, same_lists, set-append_right, set_split, take-append-drop, take-append-le, take-map, take-set, take-take, take_all, take_at, take_more, take_more_same, take_more_set}
+pub use Rattle.std.proofs.lemmas.List.{append-nil, append_assoc, drop-drop, drop-map, drop-set-lt, drop_all, drop_at, drop_more, flat_map_more, get_or-drop, get_or-map, get_or-set_other, get_or-set_same, get_or-take, get_or_append_left, get_or_past, length-append, length-drop, length-map, length-set, length-take-le, length_push, map-append, nil_from_length, places, same_lists, set-append_right, set_split, take-append-drop, take-map, take-set, take-set-le, take-take, take_all, take_at, take_more, take_more_same, take_more_set}
 pub use Rattle.std.proofs.lemmas.List.Concat.{flat_map-append}
 pub use Rattle.std.proofs.lemmas.List.Edits.{between_none, get_or-between, get_or-remove_above, get_or-remove_below, length-between, length-remove, split_between}
 pub use Rattle.std.proofs.lemmas.List.Elements.{All-append, All-cons, All-get_or, All-head, All-map, All-nil, All-set, All-tail, filter-append}
-pub use Rattle.std.proofs.lemmas.List.Folds.{drop_split}
 pub use Rattle.std.proofs.lemmas.List.Sums.{sum_by-cons, sum_by-remove, sum_by-set}
 pub use Rattle.std.proofs.lemmas.Nat.{and_le_r}
 pub use Rattle.std.proofs.lemmas.Option.{get_or_from_slice_get, slice_get-get_or, slice_get-map, slice_get_past}
 pub use Rattle.std.proofs.lemmas.Slice.{drop-append-drop}
 pub use Rattle.std.proofs.lemmas.Slice.Eq.{bytes_eq-Decides}
-pub use Rattle.std.specs.Bool.{OnTrue}
+pub use Rattle.std.specs.Bool.{Decides, OnTrue}
 pub use Rattle.std.specs.List.{remove}
 pub use Rattle.std.specs.Option.{option_map}
 pub use Rattle.std.specs.Prelude.{bit_and, bytes_eq, filter, if◌then◌else◌, nat_lt, not, ◌||◌}
@@ -25,7 +24,8 @@ pub use Rattle.trac_language.specs.Store.{IsStore, NoneNamed, cells, changed, de
 pub use Rattle.trac_language.specs.Text.{Text}
 pub use Rattle.trac_language.specs.declared.item.Item.{Item}
 pub use Rattle.trac_space.proofs.BlockChanges.{reads}
-pub use Rattle.trac_space.proofs.Characters.{part-on}
+pub use Rattle.trac_space.proofs.Characters.{part-on, tested-seen}
+pub use Rattle.trac_space.proofs.Runs.{character-seen}
 pub use Rattle.trac_space.specs.Cells.{IsNoCall, NoCall, is_call, is_comma, seen}
 pub use Rattle.trac_space.specs.Filled.{ListsParts, filled, listed_part, number_at}
 pub use Rattle.trac_space.specs.Lists.{HasWay, Lists, used, with_way}

@@ -5,6 +5,5 @@ pub mod OctalDigits
 pub mod Shifts
 pub mod SuffixCells
 pub mod Suffixes
-pub mod TailNumbers
 pub mod Texts
 mod Words

@@ -27,10 +27,6 @@ module _ (f : ℕ → Bool) (n : ℕ) where
       ext_get_or false (bits_by f n) (bits_by g n) (omega arith)
       (λ i h. by_at i (omega arith) ∙ same i (omega arith) ∙ sym (get_or-map-range_with_len g 0 n i i false (omega arith) (omega arith)))
 
--- a bit before the first
-bit_before : (l : Bits) (z : ℤ) (m : ℕ) → z ≡ negsuc m → bit_at l z ≡ false
-bit_before l z m e = ap (bit_at l) e
-
 -- a shift by as many bits as there are, or by more
 module _ (l : Bits) (limit i : ℕ) (room : length l ≤ limit) (within : i < length l) where
   far : (d : ℤ) (negative : Bool) (size : ℕ) → negative ≡ int_lt d (pos 0) → size ≡ min (unsigned_abs d) limit → bit_at l (pos i +ℤ signed negative size) ≡ bit_at l (pos i +ℤ d)
@@ -46,7 +42,7 @@ module _ (l : Bits) (limit i : ℕ) (room : length l ≤ limit) (within : i < le
       (λ above.
       let near : pos i +ℤ neg_ℤ (pos size) ≡ negsuc (size - 1 - i) = omega (arith, ints) in
       let away : pos i +ℤ negsuc e ≡ negsuc (e - i) = omega (arith, ints) in
-      bit_before l (pos i +ℤ neg_ℤ (pos size)) (size - 1 - i) near ∙ sym (bit_before l (pos i +ℤ negsuc e) (e - i) away))
+      ap (bit_at l) near ∙ sym (ap (bit_at l) away))
       (λ below. let same : size ≡ suc e = omega arith in ap (λ n. bit_at l (pos i +ℤ neg_ℤ (pos n))) same)
       (cases_lt limit (suc e))
 

@@ -18,9 +18,12 @@ module _ (p : ℕ → Bool) where
       ap p (get_or-drop (length t - n) t k 0 ∙ ap (λ i. get_or t i 0) (sym at) ∙ sym (get_or-reverse t m 0 (omega (arith, suffix_len-le-length, length-suffix)))) ∙ here
 
   module _ (cells : List Cell) (s : ℕ) (is : s ≡ length (take (length (text_of_cells cells) - suffix_len p (text_of_cells cells)) (text_of_cells cells))) where
+    pub place : s ≡ length (text_of_cells cells) - suffix_len p (text_of_cells cells)
+    place = is ∙ length-front (text_of_cells cells)
+
     -- the cells from s on are the suffix
     pub back_is : text_of_cells (drop s cells) ≡ drop (length (text_of_cells cells) - suffix_len p (text_of_cells cells)) (text_of_cells cells)
-    back_is = sym (drop-map character_of s cells) ∙ ap (λ n. drop n (text_of_cells cells)) (is ∙ length-front (text_of_cells cells))
+    back_is = sym (drop-map character_of s cells) ∙ ap (λ n. drop n (text_of_cells cells)) place
 
     pub back_passes : (k : ℕ) → k < length (text_of_cells (drop s cells)) → p (get_or (text_of_cells (drop s cells)) k 0) ≡ true
     back_passes k h =

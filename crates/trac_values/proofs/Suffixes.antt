@@ -1,6 +1,6 @@
 -- The longest suffix of characters that pass a test, found from the end.
 use Rattle.trac_values.proofs.Words.{◌≡◌, ℕ, ◌+◌, ◌-◌, ◌*◌, ◌<◌, ◌≤◌, Bool, true, false, List, length, take, get_or, sym, ap, ◌∙◌, arith, suffix_len, is_ascii_digit, digit_value, digits_value, nat_tests, digits_value_more, length-take, length-map, get_or-map, suffix_len-take_yes}
-use Rattle.trac_values.proofs.Words.{suffix_len-take_no, Cell, character_of, text_of_cells, value_upto}
+use Rattle.trac_values.proofs.Words.{suffix_len-take_no, Cell, character_of, text_of_cells, value_upto, IsDecimal}
 
 module _ (p : ℕ → Bool) (cells : List Cell) where
   -- the character of a cell
@@ -25,30 +25,31 @@ module _ (p : ℕ → Bool) (cells : List Cell) where
 pub digit_facts : (c : ℕ) → is_ascii_digit c ≡ true → (48 ≤ c) × (c < 58) × (digit_value c ≡ c - 48)
 digit_facts c e = grind (arith, nat_tests)
 
+-- a place of cells is one of their text
+pub within_text : (cells : List Cell) (i : ℕ) → i < length cells → i < length (text_of_cells cells)
+within_text cells i lt = omega (arith, length-map cells character_of)
+
 -- the digit at a place of cells that all are digits
-pub digit_at : (cells : List Cell) (i c : ℕ) → i < length cells → c ≡ character_of (get_or cells i (Cell.Byte 0)) → is_ascii_digit (get_or (text_of_cells cells) i 0) ≡ true → (48 ≤ c) × (c < 58) × (digit_value (get_or (text_of_cells cells) i 0) ≡ c - 48)
-digit_at cells i c lt is passes =
+pub digit_at : (cells : List Cell) (i c : ℕ) → i < length cells → c ≡ character_of (get_or cells i (Cell.Byte 0)) → IsDecimal cells → (48 ≤ c) × (c < 58) × (digit_value (get_or (text_of_cells cells) i 0) ≡ c - 48)
+digit_at cells i c lt is decimal =
     let same : get_or (text_of_cells cells) i 0 ≡ c = get_or-map character_of cells i (Cell.Byte 0) 0 lt ∙ sym is in
-    let facts = digit_facts c (ap is_ascii_digit (sym same) ∙ passes) in
+    let facts = digit_facts c (ap is_ascii_digit (sym same) ∙ decimal i (within_text cells i lt)) in
     (facts.0, facts.1, ap digit_value same ∙ facts.2)
 
 -- the value of one more digit
-pub value_more : (cells : List Cell) (i c : ℕ) → i < length cells → c ≡ character_of (get_or cells i (Cell.Byte 0)) → is_ascii_digit (get_or (text_of_cells cells) i 0) ≡ true → digits_value 10 (take (i + 1) (text_of_cells cells)) ≡ digits_value 10 (take i (text_of_cells cells)) * 10 + (c - 48)
-value_more cells i c lt is passes =
+pub value_more : (cells : List Cell) (i c : ℕ) → i < length cells → c ≡ character_of (get_or cells i (Cell.Byte 0)) → IsDecimal cells → digits_value 10 (take (i + 1) (text_of_cells cells)) ≡ digits_value 10 (take i (text_of_cells cells)) * 10 + (c - 48)
+value_more cells i c lt is decimal =
     let long = length-map cells character_of in
-    let facts = digit_at cells i c lt is passes in
+    let facts = digit_at cells i c lt is decimal in
     digits_value_more 10 (text_of_cells cells) i (omega arith) ∙ ap (λ d. digits_value 10 (take i (text_of_cells cells)) * 10 + d) facts.2
 
-pub within_text : (cells : List Cell) (i : ℕ) → i < length cells → i < length (text_of_cells cells)
-within_text cells i lt = let long = length-map cells character_of in omega arith
-
 -- the value up to a place that is within the digits
-pub value_upto_more : (cells : List Cell) (long place c : ℕ) → length cells ≤ long → place < long → long ≤ place + length cells → c ≡ character_of (get_or cells (place + length cells - long) (Cell.Byte 0)) → is_ascii_digit (get_or (text_of_cells cells) (place + length cells - long) 0) ≡ true → value_upto (text_of_cells cells) long (place + 1) ≡ value_upto (text_of_cells cells) long place * 10 + (c - 48)
-value_upto_more cells long place c short before within is passes =
+pub value_upto_more : (cells : List Cell) (long place c : ℕ) → length cells ≤ long → place < long → long ≤ place + length cells → c ≡ character_of (get_or cells (place + length cells - long) (Cell.Byte 0)) → IsDecimal cells → value_upto (text_of_cells cells) long (place + 1) ≡ value_upto (text_of_cells cells) long place * 10 + (c - 48)
+value_upto_more cells long place c short before within is decimal =
     let n = length-map cells character_of in
     let i = place + length cells - long in
     let e1 : place + 1 + length (text_of_cells cells) - long ≡ i + 1 = omega arith in
     let e0 : i ≡ place + length (text_of_cells cells) - long = omega arith in
     ap (λ k. digits_value 10 (take k (text_of_cells cells))) e1
-    ∙ value_more cells i c (omega arith) is passes
+    ∙ value_more cells i c (omega arith) is decimal
     ∙ ap (λ k. digits_value 10 (take k (text_of_cells cells)) * 10 + (c - 48)) e0

@@ -24,5 +24,5 @@ pub use Rattle.trac_language.specs.Number.{before_digits, digits, ends_with, if_
 pub use Rattle.trac_language.specs.Text.{Text}
 pub use Rattle.trac_space.specs.Texts.{IsByte, character_of, text_of_cells}
 pub use Rattle.trac_space.specs.declared.cell.Cell.{Cell}
-pub use Rattle.trac_space.specs.declared.cell.Cell.TheVariants.{Byte, Call, Comma, Gap, Head}
+pub use Rattle.trac_space.specs.declared.cell.Cell.TheVariants.{Byte}
 pub use Rattle.trac_values.specs.Digits.{EachIs, IsDecimal, bits_of_cells, padded_text, signed, value_upto}

@@ -9,24 +9,16 @@ called c =
     items _ _ _ _ _ _ c.requires.whole c.requires.forms c.requires.known c.requires.begins heads.name heads.body heads.pointer
 
 pub overflow_add-place : goal.overflow_add-place
-overflow_add-place c =
-    let i = called (goal.at.overflow_add-place c).After-heads_of-name in
-    omega (arith, i.behind, c.requires.bounded)
+overflow_add-place c = omega (arith, called (goal.at.overflow_add-place c).After-heads_of-name)
 
 pub overflow_add-place-2 : goal.overflow_add-place-2
-overflow_add-place-2 c =
-    let i = called (goal.at.overflow_add-place-2 c).After-heads_of-name in
-    omega (arith, i.behind, c.requires.bounded, i.order)
+overflow_add-place-2 c = omega (arith, called (goal.at.overflow_add-place-2 c).After-heads_of-name)
 
 pub overflow_add-place-3 : goal.overflow_add-place-3
-overflow_add-place-3 c =
-    let i = called (goal.at.overflow_add-place-3 c).After-heads_of-name in
-    omega (arith, i.behind, c.requires.bounded, i.order)
+overflow_add-place-3 c = omega (arith, called (goal.at.overflow_add-place-3 c).After-heads_of-name)
 
 pub overflow_add-place-4 : goal.overflow_add-place-4
-overflow_add-place-4 c =
-    let i = called (goal.at.overflow_add-place-4 c).After-heads_of-name in
-    omega (arith, i.behind, c.requires.bounded, i.order)
+overflow_add-place-4 c = omega (arith, called (goal.at.overflow_add-place-4 c).After-heads_of-name)
 
 pub fill_items-requires-clause-order : goal.fill_items-requires-clause-order
 fill_items-requires-clause-order c =

@@ -33,10 +33,8 @@ loop-part-preserved c =
 pub returns : goal.returns
 returns c =
     let was = c.loop-part.block.items in
-    let part = c.args.part.now in
     let n = c.args.cells - c.len-2.result in
     let len = c.len-2.ensures in
-    let before = c.len.ensures in
-    let few = few-left c.len.result c.args.cells (length c.args.block.now.items) (length was) (length part) c.loop-part._part c.requires.some c.requires.fewer (omega (arith, before)) c.loop-part-test.false c.loop-part.auto._part-end c.loop-part.invariant.parts in
-    let all = c.in_ok-extend_from_slice-2.ensures.items ∙ more-blank was part n c.loop-part.invariant.blank c.requires.blank (omega (arith, few.1)) in
+    let few = few-left c.len.result c.args.cells (length c.args.block.now.items) (length was) (length c.args.part.now) c.loop-part._part c.requires.some c.requires.fewer (omega (arith, c.len.ensures)) c.loop-part-test.false c.loop-part.auto._part-end c.loop-part.invariant.parts in
+    let all = c.in_ok-extend_from_slice-2.ensures.items ∙ more-blank was c.args.part.now n c.loop-part.invariant.blank c.requires.blank (omega (arith, few.1)) in
     all ∙ ap (λ k. replicate k (Byte 0)) (omega (arith, few.0))

@@ -1,14 +1,7 @@
-use Rattle.trac_space.proofs.Words.{◌+◌, sym, ◌∙◌, arith, slice_index_or, Byte}
-use Rattle.trac_space.proofs.Characters.{bytes-more, tested-byte}
+use Rattle.trac_space.proofs.Words.{sym, ◌∙◌}
+use Rattle.trac_space.proofs.Characters.{up-to-next}
 use Rattle.trac_space.proofs.copies.characters_in_block.Goals as goal
 
 pub loop-count-preserved : goal.loop-count-preserved
 loop-count-preserved c =
-    let cells = c.args.cells.now in
-    let at = c.args.at in
-    let k = c.loop-count.count in
-    let cell = slice_index_or cells (at + k) (Byte 0) in
-    record {
-      within = omega (arith, c.loop-count-test.true);
-      bytes = bytes-more cells at k (Byte 0) (omega (arith, c.requires, c.loop-count-test.true)) c.loop-count.invariant.bytes (tested-byte cell (sym c.is_character.ensures ∙ c.if-is_character.true));
-    }
+    up-to-next c.args.cells.now c.args.at 8 c.loop-count.count c.requires c.loop-count-test.true c.loop-count.invariant (sym c.is_character.ensures ∙ c.if-is_character.true)

@@ -7,12 +7,10 @@ pub byte_in-byte-requires : goal.byte_in-byte-requires
 byte_in-byte-requires c =
     let was = c.args.cells.now in
     let start = c.args.start in
-    let k = c.loop-count.count in
-    let table = c.args.table.now in
-    let source = turned table (drop start was) in
-    let long : length source ≡ length was - start = length-map (drop start was) (turned_by table) ∙ length-drop start was in
-    let same = run-cell was c.loop-count.cells source start c.args.to k (Byte 0) c.requires.before (omega (arith, c.requires.within, c.loop-count-test.true)) (omega (arith, long, c.requires.within, c.loop-count-test.true)) c.loop-count.invariant.copied in
-    subst IsByte (sym same) (byte-at was start k c.args.most (Byte 0) c.loop-count-test.true c.requires.within c.requires.bytes)
+    let source = turned c.args.table.now (drop start was) in
+    let long : length source ≡ length was - start = length-map (drop start was) (turned_by c.args.table.now) ∙ length-drop start was in
+    let same = run-cell was c.loop-count.cells source start c.args.to c.loop-count.count (Byte 0) c.requires.before (omega (arith, c.requires.within, c.loop-count-test.true)) (omega (arith, long, c.requires.within, c.loop-count-test.true)) c.loop-count.invariant.copied in
+    subst IsByte (sym same) (byte-at was start c.loop-count.count c.args.most (Byte 0) c.loop-count-test.true c.requires.within c.requires.bytes)
 
 pub loop-count-preserved : goal.loop-count-preserved
 loop-count-preserved c =

@@ -25,8 +25,7 @@ loop-to-init c =
 pub returns-then-gap-stop-clause-put : goal.returns-then-gap-stop-clause-put
 returns-then-gap-stop-clause-put c =
     let k = (goal.at.returns-then-gap-stop-clause-put c).After-characters_in_block-run in
-    let order = c.loop-to.invariant.order in
-    along-end c.args.cells.now _ _ _ c.args.from c.args.stop c.args.to c.args.parts.list (omega arith) c.requires.inside c.copy_block.new.cells _ _ (ended k (omega (arith, c.if-gap-stop.true))) (omega (arith, order))
+    along-end c.args.cells.now _ _ _ c.args.from c.args.stop c.args.to c.args.parts.list (omega arith) c.requires.inside c.copy_block.new.cells _ _ (ended k (omega (arith, c.if-gap-stop.true))) (omega (arith, c.loop-to.invariant.order))
 
 pub returns-then-gap-stop-clause-behind : goal.returns-then-gap-stop-clause-behind
 returns-then-gap-stop-clause-behind c = (ended (goal.at.returns-then-gap-stop-clause-behind c).After-characters_in_block-run (omega (arith, c.if-gap-stop.true))).behind
@@ -88,8 +87,6 @@ returns-clause-put c =
 
 pub returns-clause-front : goal.returns-clause-front
 returns-clause-front c =
-    let old = c.args.cells.now in
-    let i = c.loop-to.invariant in
-    let long = i.long in
-    let front = along-front old _ _ _ c.args.from c.args.stop c.args.to c.args.parts.list (omega arith) c.requires.inside c.loop-to.cells _ _ i in
+    let long = c.loop-to.invariant.long in
+    let front = along-front c.args.cells.now _ _ _ c.args.from c.args.stop c.args.to c.args.parts.list (omega arith) c.requires.inside c.loop-to.cells _ _ c.loop-to.invariant in
     sym (take-take c.args.to c.loop-to.to c.fill_each.new.cells (omega (arith, long))) ∙ ap (take c.args.to) c.fill_each.ensures.front ∙ take-take c.args.to c.loop-to.to c.loop-to.cells (omega (arith, long)) ∙ front

@@ -15,13 +15,11 @@ pub returns-clause-before : goal.returns-clause-before
 returns-clause-before c =
     let text = c.args.text.now in
     let done = c.loop-done.done in
-    let few = c.count_each.ensures.within in
-    let front = front-of_part text done (length text) c.count_each.result (omega (arith, few, length-between text done (length text) (omega arith))) in
+    let front = front-of_part text done (length text) c.count_each.result (omega (arith, c.count_each.ensures.within, length-between text done (length text) (omega arith))) in
     none-more _ text done _ c.loop-done.invariant.none (rw front at c.count_each.ensures.before)
 
 pub returns-clause-stops : goal.returns-clause-stops
 returns-clause-stops c = λ less.
     let text = c.args.text.now in
-    let done = c.loop-done.done in
-    let stops = c.count_each.ensures.stops (omega (arith, less, length-between text done (length text) (omega arith))) in
-    get-of_part text done (length text) _ _ less (omega arith) stops
+    let stops = c.count_each.ensures.stops (omega (arith, less, length-between text c.loop-done.done (length text) (omega arith))) in
+    get-of_part text c.loop-done.done (length text) _ _ less (omega arith) stops

@@ -1,5 +1,5 @@
 use Rattle.trac_store.proofs.Words.{◌≡◌, ℕ, suc, ◌+◌, ◌-◌, ◌<◌, List, ◌∷◌, drop, get_or, ap, sym, ◌∙◌, arith, drop-drop, get_or-drop, parts_between, numbered_part}
-use Rattle.trac_store.proofs.Parted.{found-comma, part-fits, parts-first}
+use Rattle.trac_store.proofs.Parted.{found-comma, parts-first, shown-fits}
 use Rattle.trac_store.proofs.arguments.find_part.Goals as goal
 
 -- the first behind so many
@@ -11,19 +11,11 @@ first-there parts rest number from to some is =
 
 pub overflow_add-from : goal.overflow_add-from
 overflow_add-from c =
-    let neutral = c.args.space.now.neutral in
-    let from = c.loop-before.from in
-    let is = found-comma _ _ _ c.neutral_part.ensures c.before_comma.ensures in
-    let fits = part-fits neutral from c.args.end c.before_comma.result (omega (arith, c.if-end-from.false)) c.requires.within is in
-    omega (arith, fits, c.requires.bounded)
+    omega (arith, shown-fits c.args.space.now.neutral _ c.loop-before.from c.args.end _ (omega (arith, c.if-end-from.false)) c.requires.within c.neutral_part.ensures c.before_comma.ensures, c.requires.bounded)
 
 pub overflow_add-from-in-loop-before : goal.overflow_add-from-in-loop-before
 overflow_add-from-in-loop-before c =
-    let neutral = c.args.space.now.neutral in
-    let from = c.loop-before.from in
-    let is = found-comma _ _ _ c.neutral_part.ensures c.before_comma.ensures in
-    let fits = part-fits neutral from c.args.end c.before_comma.result (omega (arith, c.if-end-from.false)) c.requires.within is in
-    omega (arith, fits, c.requires.bounded)
+    omega (arith, shown-fits c.args.space.now.neutral _ c.loop-before.from c.args.end _ (omega (arith, c.if-end-from.false)) c.requires.within c.neutral_part.ensures c.before_comma.ensures, c.requires.bounded)
 
 pub loop-before-preserved : goal.loop-before-preserved
 loop-before-preserved c =
@@ -41,9 +33,7 @@ loop-before-preserved c =
 
 pub overflow_add-result : goal.overflow_add-result
 overflow_add-result c =
-    let is = found-comma _ _ _ c.neutral_part-2.ensures c.before_comma-2.ensures in
-    let fits = part-fits c.args.space.now.neutral c.loop-before.from c.args.end c.before_comma-2.result (omega (arith, c.if-end-from-2.false)) c.requires.within is in
-    omega (arith, fits, c.requires.bounded)
+    omega (arith, shown-fits c.args.space.now.neutral _ c.loop-before.from c.args.end _ (omega (arith, c.if-end-from-2.false)) c.requires.within c.neutral_part-2.ensures c.before_comma-2.ensures, c.requires.bounded)
 
 pub returns : goal.returns
 returns c =

@@ -1,26 +1,16 @@
 use Rattle.trac_store.proofs.Words.{◌≡◌, ◌+◌, ◌≤◌, length, ap, arith, Lists}
-use Rattle.trac_store.proofs.Parted.{lists-more, found-comma, part-fits}
+use Rattle.trac_store.proofs.Parted.{lists-more, found-comma, shown-fits}
 use Rattle.trac_store.proofs.arguments.list_parts.Goals as goal
 
 pub overflow_add-from : goal.overflow_add-from
 overflow_add-from c =
-    let old = c.args.space.now in
-    let now = c.loop-from.space in
-    let i = c.loop-from.invariant in
-    let within : c.args.end ≤ length now.neutral = omega (arith, c.requires.within, ap (λ (s : Lists). length s.neutral) i.same) in
-    let is = found-comma _ _ _ c.neutral_part.ensures c.before_near_comma.ensures in
-    let fits = part-fits now.neutral c.loop-from.from c.args.end c.before_near_comma.result c.loop-from-test.true within is in
-    omega (arith, fits, c.requires.bounded)
+    let within : c.args.end ≤ length c.loop-from.space.neutral = omega (arith, c.requires.within, ap (λ (s : Lists). length s.neutral) c.loop-from.invariant.same) in
+    omega (arith, shown-fits c.loop-from.space.neutral _ c.loop-from.from c.args.end _ c.loop-from-test.true within c.neutral_part.ensures c.before_near_comma.ensures, c.requires.bounded)
 
 pub overflow_add-from-in-loop-from : goal.overflow_add-from-in-loop-from
 overflow_add-from-in-loop-from c =
-    let old = c.args.space.now in
-    let now = c.loop-from.space in
-    let i = c.loop-from.invariant in
-    let within : c.args.end ≤ length now.neutral = omega (arith, c.requires.within, ap (λ (s : Lists). length s.neutral) i.same) in
-    let is = found-comma _ _ _ c.neutral_part.ensures c.before_near_comma.ensures in
-    let fits = part-fits now.neutral c.loop-from.from c.args.end c.before_near_comma.result c.loop-from-test.true within is in
-    omega (arith, fits, c.requires.bounded)
+    let within : c.args.end ≤ length c.loop-from.space.neutral = omega (arith, c.requires.within, ap (λ (s : Lists). length s.neutral) c.loop-from.invariant.same) in
+    omega (arith, shown-fits c.loop-from.space.neutral _ c.loop-from.from c.args.end _ c.loop-from-test.true within c.neutral_part.ensures c.before_near_comma.ensures, c.requires.bounded)
 
 pub loop-from-preserved : goal.loop-from-preserved
 loop-from-preserved c =

@@ -5,26 +5,20 @@ use Rattle.trac_store.proofs.borders.first_by_borders.Goals as goal
 
 pub returns-then-before-text : goal.returns-then-before-text
 returns-then-before-text c =
-    let cells = c.args.cells.now in
     let text = map character_of c.args.text.now in
-    let i = c.loop-i.i in
     let size = length-map c.args.text.now character_of in
-    let inside = c.loop-i-test.true in
-    let is = subst (λ cell. IsNextBorder text c.loop-i.before cell c.next_border-before.result) (any-default cells i (Byte 0) Comma inside) c.next_border-before.ensures in
-    searched-found text cells c.args.from i c.loop-i.before c.next_border-before.result (omega (arith, c.loop-i.invariant.few, size)) c.loop-i.invariant.done is (omega (arith, c.if-before-text.true, size)) inside
+    let is = subst (λ cell. IsNextBorder text c.loop-i.before cell c.next_border-before.result) (any-default c.args.cells.now c.loop-i.i (Byte 0) Comma c.loop-i-test.true) c.next_border-before.ensures in
+    searched-found text c.args.cells.now c.args.from c.loop-i.i c.loop-i.before c.next_border-before.result (omega (arith, c.loop-i.invariant.few, size)) c.loop-i.invariant.done is (omega (arith, c.if-before-text.true, size)) c.loop-i-test.true
 
 pub loop-i-preserved : goal.loop-i-preserved
 loop-i-preserved c =
-    let cells = c.args.cells.now in
     let text = map character_of c.args.text.now in
-    let i = c.loop-i.i in
     let size = length-map c.args.text.now character_of in
-    let inside = c.loop-i-test.true in
     let within = next-within text c.loop-i.before _ c.next_border-before.result c.next_border-before.ensures in
-    let is = subst (λ cell. IsNextBorder text c.loop-i.before cell c.next_border-before.result) (any-default cells i (Byte 0) Comma inside) c.next_border-before.ensures in
+    let is = subst (λ cell. IsNextBorder text c.loop-i.before cell c.next_border-before.result) (any-default c.args.cells.now c.loop-i.i (Byte 0) Comma c.loop-i-test.true) c.next_border-before.ensures in
     record {
       few = omega (arith, c.loop-i.invariant.few, within, c.if-before-text.false);
-      done = searched-next text cells c.args.from i c.loop-i.before c.next_border-before.result (omega (arith, c.loop-i.invariant.few, size)) c.loop-i.invariant.done is;
+      done = searched-next text c.args.cells.now c.args.from c.loop-i.i c.loop-i.before c.next_border-before.result (omega (arith, c.loop-i.invariant.few, size)) c.loop-i.invariant.done is;
     }
 
 pub returns : goal.returns

@@ -1,15 +1,11 @@
-use Rattle.trac_store.proofs.Words.{◌≡◌, ◌<◌, length, sym, ap, ◌∙◌, subst, arith, remove, Lists, flat_forms, forms_in, IsIndexed}
+use Rattle.trac_store.proofs.Words.{◌≡◌, sym, ap, ◌∙◌, subst, arith, remove, Lists, flat_forms, forms_in, IsIndexed}
 use Rattle.trac_store.proofs.Places.{stands, removed-lists}
 use Rattle.trac_store.proofs.define.take_out.Goals as goal
 
 pub remove_form-requires-clause-within : goal.remove_form-requires-clause-within
 remove_form-requires-clause-within c =
-    let s = c.args.space.now in
-    let t = c.unindex.new.space in
-    let same : t.store ≡ s.store = ap (λ (w : Lists). w.store) c.unindex.ensures.same in
-    let within : c.args.k < length (forms_in s.store) = omega (arith, c.requires.within, c.requires.count_is) in
-    let f = stands (forms_in s.store) t.store c.args.k c.args.start (c.requires.whole ∙ sym same) within c.requires.begins in
-    omega (arith, f.end, f.name_len, f.body_len)
+    let same = ap (λ (w : Lists). w.store) c.unindex.ensures.same in
+    omega (arith, stands _ c.unindex.new.space.store _ _ (c.requires.whole ∙ sym same) (omega (arith, c.requires.within, c.requires.count_is)) c.requires.begins)
 
 pub returns : goal.returns
 returns c =
@@ -18,8 +14,7 @@ returns c =
     let u = c.remove_form.new.space in
     let forms = forms_in s.store in
     let same : t.store ≡ s.store = ap (λ (w : Lists). w.store) c.unindex.ensures.same in
-    let within : c.args.k < length forms = omega (arith, c.requires.within, c.requires.count_is) in
-    let f = stands forms t.store c.args.k c.args.start (c.requires.whole ∙ sym same) within c.requires.begins in
+    let f = stands forms t.store c.args.k c.args.start (c.requires.whole ∙ sym same) (omega (arith, c.requires.within, c.requires.count_is)) c.requires.begins in
     let is = removed-lists t u forms c.args.k c.args.start f c.remove_form.ensures in
     let spare : u.spare ≡ t.spare = ap (λ (w : Lists). w.spare) is in
     record {

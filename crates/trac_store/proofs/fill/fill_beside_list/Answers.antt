@@ -3,14 +3,10 @@ use Rattle.trac_store.proofs.FilledParts.{parts-listed, filled-flat, filled-no_c
 use Rattle.trac_store.proofs.fill.fill_beside_list.Goals as goal
 use Rattle.trac_store.proofs.fill.fill_beside_list.Goals.{After-list_parts-listed}
 
-neutral_is : (c : After-list_parts-listed) → c.list_parts-listed.new.space.neutral ≡ c.args.space.now.neutral
-neutral_is c = ap (λ (s : Lists). s.neutral) c.list_parts-listed.ensures.same
-
 -- the items are those that stood in the store before
 same : (c : After-list_parts-listed) → (let mid = c.list_parts-listed.new.space in filled mid.neutral mid.active c.list_parts-listed.result (slice_range mid.store c.args.from c.args.stop) ≡ filled c.args.space.now.neutral mid.active c.list_parts-listed.result (slice_range c.args.space.now.store c.args.from c.args.stop))
 same c =
-    let mid = c.list_parts-listed.new.space in
-    ap (λ (s : Lists). filled s.neutral mid.active c.list_parts-listed.result (slice_range s.store c.args.from c.args.stop)) c.list_parts-listed.ensures.same
+    ap (λ (s : Lists). filled s.neutral c.list_parts-listed.new.space.active c.list_parts-listed.result (slice_range s.store c.args.from c.args.stop)) c.list_parts-listed.ensures.same
 
 -- what fills them is their text
 flat : (c : After-list_parts-listed) → (let mid = c.list_parts-listed.new.space in filled mid.neutral mid.active c.list_parts-listed.result (slice_range mid.store c.args.from c.args.stop) ≡ flat_text (filled_cells c.args.space.now c.args.from c.args.stop c.args.first c.args.end))
@@ -20,9 +16,8 @@ flat c =
 
 pub put_filled-filled-requires-clause-listed : goal.put_filled-filled-requires-clause-listed
 put_filled-filled-requires-clause-listed c =
-    let k = (goal.at.put_filled-filled-requires-clause-listed c).After-list_parts-listed in
     let mid = c.list_parts-listed.new.space in
-    subst (λ neutral. ListsParts neutral mid.active c.list_parts-listed.result) (sym (neutral_is k)) (parts-listed c.args.space.now.neutral mid.active (parts_between c.args.space.now.neutral c.args.first c.args.end) c.list_parts-listed.result c.requires.arguments.texts c.list_parts-listed.ensures.listed)
+    subst (λ neutral. ListsParts neutral mid.active c.list_parts-listed.result) (sym (ap (λ (s : Lists). s.neutral) c.list_parts-listed.ensures.same)) (parts-listed c.args.space.now.neutral mid.active (parts_between c.args.space.now.neutral c.args.first c.args.end) c.list_parts-listed.result c.requires.arguments.texts c.list_parts-listed.ensures.listed)
 
 pub put_filled-filled-requires-clause-no_call : goal.put_filled-filled-requires-clause-no_call
 put_filled-filled-requires-clause-no_call c =
@@ -33,12 +28,10 @@ put_filled-filled-requires-clause-no_call c =
 pub returns-clause-fits : goal.returns-clause-fits
 returns-clause-fits c = λ done.
     let k = (goal.at.returns-clause-fits c).After-list_parts-listed in
-    let old = c.args.space.now in
-    let mid = c.list_parts-listed.new.space in
     let listed = c.list_parts-listed.ensures in
-    let text = filled_cells old c.args.from c.args.stop c.args.first c.args.end in
+    let text = filled_cells c.args.space.now c.args.from c.args.stop c.args.first c.args.end in
     let long = ap length (flat k) ∙ length-map text Byte in
-    let behind = sym (length-drop (c.list_parts-listed.result + 1) mid.active) ∙ ap length listed.behind in
+    let behind = sym (length-drop (c.list_parts-listed.result + 1) c.list_parts-listed.new.space.active) ∙ ap length listed.behind in
     omega (arith, c.put_filled-filled.ensures.put.0 done, long, behind, ap (λ (s : Lists). length s.store) listed.same, ap (λ (s : Lists). length s.neutral) listed.same, ap (λ (s : Lists). s.room) listed.same)
 
 pub returns-clause-last : goal.returns-clause-last

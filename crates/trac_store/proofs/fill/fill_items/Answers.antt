@@ -9,14 +9,12 @@ plain c = subst (λ end. All IsByte (slice_range c.args.space.now.store c.args.f
 
 pub returns-then-gap-stop-clause-put : goal.returns-then-gap-stop-clause-put
 returns-then-gap-stop-clause-put c =
-    let old = c.args.space.now in
     let k = (goal.at.returns-then-gap-stop-clause-put c).Then-gap-stop in
-    let size = plain-length (texts_between old.neutral c.args.first c.args.end) old.store c.args.from c.args.stop c.requires.within (plain k) in
+    let size = plain-length (texts_between c.args.space.now.neutral c.args.first c.args.end) c.args.space.now.store c.args.from c.args.stop c.requires.within (plain k) in
     rw size c.copy_short.ensures.copied
 
 pub returns-then-gap-stop-clause-last : goal.returns-then-gap-stop-clause-last
 returns-then-gap-stop-clause-last c =
-    let old = c.args.space.now in
     let k = (goal.at.returns-then-gap-stop-clause-last c).Then-gap-stop in
-    let flat = plain-flat (texts_between old.neutral c.args.first c.args.end) (slice_range old.store c.args.from c.args.stop) (plain k) in
+    let flat = plain-flat (texts_between c.args.space.now.neutral c.args.first c.args.end) (slice_range c.args.space.now.store c.args.from c.args.stop) (plain k) in
     rw flat (search (rules, c.copy_short.ensures.last))

@@ -11,24 +11,16 @@ called c =
     items _ _ _ _ _ _ c.requires.whole c.requires.forms c.requires.known c.requires.begins heads.name heads.body heads.pointer
 
 pub overflow_add-place : goal.overflow_add-place
-overflow_add-place c =
-    let i = called (goal.at.overflow_add-place c).After-heads_of-name in
-    omega (arith, i.behind, i.order, c.requires.bounded)
+overflow_add-place c = omega (arith, called (goal.at.overflow_add-place c).After-heads_of-name)
 
 pub overflow_add-place-2 : goal.overflow_add-place-2
-overflow_add-place-2 c =
-    let i = called (goal.at.overflow_add-place-2 c).After-heads_of-name in
-    omega (arith, i.behind, i.order, c.requires.bounded)
+overflow_add-place-2 c = omega (arith, called (goal.at.overflow_add-place-2 c).After-heads_of-name)
 
 pub overflow_add-from : goal.overflow_add-from
-overflow_add-from c =
-    let i = called (goal.at.overflow_add-from c).After-heads_of-name in
-    omega (arith, i.behind, i.order, c.requires.bounded)
+overflow_add-from c = omega (arith, called (goal.at.overflow_add-from c).After-heads_of-name)
 
 pub overflow_add-stop : goal.overflow_add-stop
-overflow_add-stop c =
-    let i = called (goal.at.overflow_add-stop c).After-heads_of-name in
-    omega (arith, i.behind, i.order, c.requires.bounded)
+overflow_add-stop c = omega (arith, called (goal.at.overflow_add-stop c).After-heads_of-name)
 
 pub load_items-requires-clause-order : goal.load_items-requires-clause-order
 load_items-requires-clause-order c = omega (arith, (called (goal.at.load_items-requires-clause-order c).After-heads_of-name).order)

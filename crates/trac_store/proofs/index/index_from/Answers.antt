@@ -38,10 +38,9 @@ overflow_add-start-in-loop-k-3 c =
 pub loop-k-preserved : goal.loop-k-preserved
 loop-k-preserved c =
     let k = (goal.at.loop-k-preserved c).After-index_form in
-    let i = c.loop-k.invariant in
     let spare = c.index_form.new.space.spare in
     record {
       begins = omega (arith, (found k).next, name k _ c.head.ensures, body k _ c.head-in-loop-k.ensures);
-      same = c.index_form.ensures.same ∙ ap (λ (w : Lists). record w { spare = spare }) i.same;
-      index = subst (λ store. IsIndexed spare (take (c.loop-k.k + 1) (forms_in store))) (ap (λ (w : Lists). w.store) i.same) c.index_form.ensures.index;
+      same = c.index_form.ensures.same ∙ ap (λ (w : Lists). record w { spare = spare }) c.loop-k.invariant.same;
+      index = subst (λ store. IsIndexed spare (take (c.loop-k.k + 1) (forms_in store))) (ap (λ (w : Lists). w.store) c.loop-k.invariant.same) c.index_form.ensures.index;
     }

@@ -1,7 +1,8 @@
 use Rattle.trac_store.proofs.Words.{◌≡◌, ℕ, ◌+◌, ◌-◌, ◌*◌, ◌/◌, ◌<◌, List, length, map, get_or, sym, ap, ◌∙◌, arith, ⊎_elim, bit_and, cases_lt, Cell, Byte, Head, seen, text_of_cells, name_at, forms_in, hash, slot, cell_at, is_blank}
 use Rattle.trac_store.proofs.TableChanges.{slot-within}
-use Rattle.trac_store.proofs.Finding.{head-seen, bytes-of-seen}
+use Rattle.trac_store.proofs.Finding.{bytes-of-seen}
 use Rattle.trac_store.proofs.Gaps.{bytes-seen}
+use Rattle.trac_store.proofs.HeadCells.{seen-head}
 use Rattle.trac_store.proofs.Indexed.{none-at_blank, none-at_end, slots_len, cell-seen, held-at}
 use Rattle.trac_store.proofs.index.look_up.Goals as goal
 use Rattle.trac_store.proofs.index.look_up.Goals.{in-Head+in_default-start_if_named, in_default}
@@ -45,7 +46,7 @@ loop-i-preserved c = λ j k less within named at.
           (let same : Head w.in-Head.k ≡ Head k = sym (ap seen w.in-Head.is) ∙ there in
           let ks : w.in-Head.k ≡ k = cc in
           w.in_default-start_if_named.ensures (ap (name_at (forms_in (map seen c.args.store.now))) ks ∙ named))
-      | in_default w ↦ w.in_default.not-Head k (head-seen (get_or table (bit_and (c.hash-first.result + i) (2 * (length table / 4) - 1)) (Byte 0)) k there)
+      | in_default w ↦ w.in_default.not-Head k (seen-head (get_or table (bit_and (c.hash-first.result + i) (2 * (length table / 4) - 1)) (Byte 0)) k there)
     ])
     (cases_lt j i)
 

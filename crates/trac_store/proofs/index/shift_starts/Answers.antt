@@ -19,14 +19,12 @@ start_earlier-requires-clause-cells c =
 
 pub loop-next-preserved : goal.loop-next-preserved
 loop-next-preserved c =
-    let s = c.args.space.now in
     let spare = c.loop-next.space.spare in
     let next = c.loop-next.next in
     let behind : c.args.k < next = omega (arith, c.loop-next.auto.next) in
-    let now = c.start_earlier.new.space.spare in
-    let is : now ≡ earlier spare next c.args.cells = ap (λ (w : Lists). w.spare) c.start_earlier.ensures in
+    let is : c.start_earlier.new.space.spare ≡ earlier spare next c.args.cells = ap (λ (w : Lists). w.spare) c.start_earlier.ensures in
     record {
-      same = c.start_earlier.ensures ∙ ap (λ (w : Lists). record w { spare = earlier spare next c.args.cells }) c.loop-next.invariant.same ∙ ap (λ t. record s { spare = t }) (sym is);
+      same = c.start_earlier.ensures ∙ ap (λ (w : Lists). record w { spare = earlier spare next c.args.cells }) c.loop-next.invariant.same ∙ ap (λ t. record c.args.space.now { spare = t }) (sym is);
       len = ap length is ∙ length-set spare (start_place spare next) (Head (start_in spare next - c.args.cells)) ∙ c.loop-next.invariant.len;
       index = λ name start index. subst (λ t. IsIndexBut t c.args.count c.args.count name (started c.args.k (next + 1) c.args.cells start)) (sym is) (index-earlier c.args.k c.args.count c.args.cells name start spare next behind c.loop-next-test.true (c.loop-next.invariant.index name start index));
     }

@@ -5,31 +5,24 @@ use Rattle.trac_store.proofs.index.unindex.Goals as goal
 
 pub overflow_add-cells : goal.overflow_add-cells
 overflow_add-cells c =
-    let s = c.args.space.now in
-    let within : c.args.k < length (forms_in s.store) = omega (arith, c.requires.within, c.requires.count_is) in
-    let f = stands (forms_in s.store) s.store c.args.k c.args.start c.requires.whole within c.requires.begins in
+    let f = stands _ _ _ _ c.requires.whole (omega (arith, c.requires.within, c.requires.count_is)) c.requires.begins in
     omega (arith, f.end, f.name_len, c.head.ensures, c.requires.bounded)
 
 pub overflow_add-start : goal.overflow_add-start
 overflow_add-start c =
-    let s = c.args.space.now in
-    let within : c.args.k < length (forms_in s.store) = omega (arith, c.requires.within, c.requires.count_is) in
-    let f = stands (forms_in s.store) s.store c.args.k c.args.start c.requires.whole within c.requires.begins in
+    let f = stands _ _ _ _ c.requires.whole (omega (arith, c.requires.within, c.requires.count_is)) c.requires.begins in
     omega (arith, f.end, c.requires.bounded)
 
 pub overflow_add-cells-2 : goal.overflow_add-cells-2
 overflow_add-cells-2 c =
-    let s = c.args.space.now in
-    let within : c.args.k < length (forms_in s.store) = omega (arith, c.requires.within, c.requires.count_is) in
-    let f = stands (forms_in s.store) s.store c.args.k c.args.start c.requires.whole within c.requires.begins in
+    let f = stands _ _ _ _ c.requires.whole (omega (arith, c.requires.within, c.requires.count_is)) c.requires.begins in
     omega (arith, f.end, f.name_len, f.body_len, c.head.ensures, c.head-2.ensures, c.requires.bounded)
 
 pub bury-requires-clause-home : goal.bury-requires-clause-home
 bury-requires-clause-home c =
-    let s = c.args.space.now in
-    let forms = forms_in s.store in
+    let forms = forms_in c.args.space.now.store in
     let index = c.requires.index (omega (arith, c.spare_len.ensures.value, c.if-spare_len-eq0.false)) in
-    home-within s.spare (length forms) c.args.k (name_at forms) (start_of forms) index (omega (arith, c.requires.within, c.requires.count_is))
+    home-within c.args.space.now.spare (length forms) c.args.k (name_at forms) (start_of forms) index (omega (arith, c.requires.within, c.requires.count_is))
 
 pub loop-next-init : goal.loop-next-init
 loop-next-init c =
@@ -52,20 +45,18 @@ bring_forward-requires-clause-home c =
     let forms = forms_in c.args.space.now.store in
     let spare = c.loop-next.space.spare in
     let next = c.loop-next.next in
-    let within : c.args.k < length forms = omega (arith, c.requires.within, c.requires.count_is) in
     let e : next - 1 + 1 ≡ next = omega (arith, c.loop-next.auto.next) in
-    let less = next-home forms c.args.k within spare (next - 1) (omega (arith, e, c.loop-next-test.true, c.requires.count_is)) c.loop-next.invariant.index in
+    let less = next-home forms c.args.k (omega (arith, c.requires.within, c.requires.count_is)) spare (next - 1) (omega (arith, e, c.loop-next-test.true, c.requires.count_is)) c.loop-next.invariant.index in
     subst (λ n. home_in spare n < slots spare) e less
 
 -- the cells of the form that leaves
 pub bring_forward-requires-clause-cells : goal.bring_forward-requires-clause-cells
 bring_forward-requires-clause-cells c =
-    let s = c.args.space.now in
-    let forms = forms_in s.store in
+    let forms = forms_in c.args.space.now.store in
     let spare = c.loop-next.space.spare in
     let next = c.loop-next.next in
     let within : c.args.k < length forms = omega (arith, c.requires.within, c.requires.count_is) in
-    let f = stands forms s.store c.args.k c.args.start c.requires.whole within c.requires.begins in
+    let f = stands forms c.args.space.now.store c.args.k c.args.start c.requires.whole within c.requires.begins in
     let e : next - 1 + 1 ≡ next = omega (arith, c.loop-next.auto.next) in
     let there = next-start forms c.args.k within spare (next - 1) (omega (arith, c.loop-next.auto.next)) (omega (arith, e, c.loop-next-test.true, c.requires.count_is)) c.loop-next.invariant.index in
     omega (arith, there, ap (start_in spare) e, f.name_len, f.body_len, c.head.ensures, c.head-2.ensures)
@@ -94,8 +85,7 @@ loop-next-preserved c =
 pub returns : goal.returns
 returns c =
     let forms = forms_in c.args.space.now.store in
-    let within : c.args.k < length forms = omega (arith, c.requires.within, c.requires.count_is) in
     record {
       same = c.loop-next.invariant.same;
-      index = λ _. index-removed forms c.args.k within c.loop-next.space.spare (c.loop-next.next - 1) (omega (arith, c.loop-next.auto.next, c.loop-next.auto.next-end, c.loop-next-test.false, c.requires.within, c.requires.count_is)) c.loop-next.invariant.index;
+      index = λ _. index-removed forms c.args.k (omega (arith, c.requires.within, c.requires.count_is)) c.loop-next.space.spare (c.loop-next.next - 1) (omega (arith, c.loop-next.auto.next, c.loop-next.auto.next-end, c.loop-next-test.false, c.requires.within, c.requires.count_is)) c.loop-next.invariant.index;
     }

@@ -1,31 +1,24 @@
 use Rattle.trac_store.proofs.Words.{◌≡◌, ◌+◌, slice_range, sym, ap, ◌∙◌, subst, arith, Lists, before_comma, texts_between, AreParted, IsTextPart, part_texts, flat_forms, with_marks, forms_in}
-use Rattle.trac_store.proofs.Parted.{found-comma, parts-none}
-use Rattle.trac_store.proofs.Removals.{marks-none, part-within, first-part, left-parted, marked-first, marked-alone}
+use Rattle.trac_store.proofs.Parted.{found-comma, parts-none, shown-fits}
+use Rattle.trac_store.proofs.Removals.{marks-none, first-part, left-parted, marked-first, marked-alone}
 use Rattle.trac_store.proofs.removal.mark_all.Goals as goal
 
 pub overflow_add-to : goal.overflow_add-to
 overflow_add-to c =
-    let s = c.loop-from.space in
-    let from = c.loop-from.from in
     let left = c.loop-from.invariant.left in
-    let comma = found-comma c.neutral_part.result.now (slice_range s.neutral from c.args.names.1) c.before_comma.result c.neutral_part.ensures c.before_comma.ensures in
-    omega (arith, part-within s.neutral from c.args.names.1 c.before_comma.result left c.loop-from-test.true comma, left.bounded)
+    omega (arith, shown-fits c.loop-from.space.neutral _ c.loop-from.from c.args.names.1 _ c.loop-from-test.true left.within c.neutral_part.ensures c.before_comma.ensures, left.bounded)
 
 pub mark_named-places-requires-clause-name_part : goal.mark_named-places-requires-clause-name_part
 mark_named-places-requires-clause-name_part c =
-    let s = c.loop-from.space in
     let from = c.loop-from.from in
-    let comma = found-comma c.neutral_part.result.now (slice_range s.neutral from c.args.names.1) c.before_comma.result c.neutral_part.ensures c.before_comma.ensures in
-    let part = first-part s.neutral from c.args.names.1 c.before_comma.result c.loop-from.invariant.left c.loop-from-test.true comma in
+    let comma = found-comma c.neutral_part.result.now (slice_range c.loop-from.space.neutral from c.args.names.1) c.before_comma.result c.neutral_part.ensures c.before_comma.ensures in
+    let part = first-part c.loop-from.space.neutral from c.args.names.1 c.before_comma.result c.loop-from.invariant.left c.loop-from-test.true comma in
     subst (λ cells. IsTextPart cells from (from + c.before_comma.result)) (sym (ap (λ (w : Lists). w.neutral) c.keep_index.ensures.same)) part
 
 pub overflow_add-from : goal.overflow_add-from
 overflow_add-from c =
-    let s = c.loop-from.space in
-    let from = c.loop-from.from in
     let left = c.loop-from.invariant.left in
-    let comma = found-comma c.neutral_part.result.now (slice_range s.neutral from c.args.names.1) c.before_comma.result c.neutral_part.ensures c.before_comma.ensures in
-    omega (arith, part-within s.neutral from c.args.names.1 c.before_comma.result left c.loop-from-test.true comma, left.bounded)
+    omega (arith, shown-fits c.loop-from.space.neutral _ c.loop-from.from c.args.names.1 _ c.loop-from-test.true left.within c.neutral_part.ensures c.before_comma.ensures, left.bounded)
 
 pub loop-from-preserved : goal.loop-from-preserved
 loop-from-preserved c =

@@ -5,31 +5,21 @@ use Rattle.trac_store.proofs.removal.mark_named.Goals as goal
 
 pub overflow_add-start : goal.overflow_add-start
 overflow_add-start c =
-    let s = c.args.space.now in
-    let h = c.requires.formed in
-    let found = c.in-Some.ensures in
-    let f = stands (forms_in s.store) s.store c.in-Some.k c.in-Some.start h.whole found.named.within found.start_is in
-    omega (arith, f.end, h.bounded)
+    let f = stands _ _ _ _ c.requires.formed.whole c.in-Some.ensures.named.within c.in-Some.ensures.start_is in
+    omega (arith, f.end, c.requires.formed.bounded)
 
 pub write_store-requires-clause-within : goal.write_store-requires-clause-within
 write_store-requires-clause-within c =
-    let s = c.args.space.now in
-    let h = c.requires.formed in
-    let found = c.in-Some.ensures in
-    let f = stands (forms_in s.store) s.store c.in-Some.k c.in-Some.start h.whole found.named.within found.start_is in
+    let f = stands _ _ _ _ c.requires.formed.whole c.in-Some.ensures.named.within c.in-Some.ensures.start_is in
     omega (arith, f.end)
 
 pub returns-in-Some-clause-marked : goal.returns-in-Some-clause-marked
 returns-in-Some-clause-marked c =
-    let s = c.args.space.now in
-    let found = c.in-Some.ensures in
-    (marked-lists s c.write_store.new.self c.args.count c.args.places.0.0 c.args.places.0.1 c.in-Some.k c.in-Some.start (part_text s.neutral c.args.name.0 c.args.name.1) c.requires.formed found.named found.start_is c.write_store.ensures).0
+    (marked-lists c.requires.formed c.in-Some.ensures.named c.in-Some.ensures.start_is c.write_store.ensures).0
 
 pub returns-in-Some-clause-formed : goal.returns-in-Some-clause-formed
 returns-in-Some-clause-formed c =
-    let s = c.args.space.now in
-    let found = c.in-Some.ensures in
-    (marked-lists s c.write_store.new.self c.args.count c.args.places.0.0 c.args.places.0.1 c.in-Some.k c.in-Some.start (part_text s.neutral c.args.name.0 c.args.name.1) c.requires.formed found.named found.start_is c.write_store.ensures).1
+    (marked-lists c.requires.formed c.in-Some.ensures.named c.in-Some.ensures.start_is c.write_store.ensures).1
 
 pub returns-in-None-clause-marked : goal.returns-in-None-clause-marked
 returns-in-None-clause-marked c =
@@ -41,9 +31,8 @@ pub returns-in-Some-clause-first : goal.returns-in-Some-clause-first
 returns-in-Some-clause-first c =
     let s = c.args.space.now in
     let found = c.in-Some.ensures in
-    let name = part_text s.neutral c.args.name.0 c.args.name.1 in
-    let is = (marked-lists s c.write_store.new.self c.args.count c.args.places.0.0 c.args.places.0.1 c.in-Some.k c.in-Some.start name c.requires.formed found.named found.start_is c.write_store.ensures).0 in
-    let read = marked-read s c.write_store.new.self c.in-Some.k name c.requires.formed.distinct found.named is in
+    let is = (marked-lists c.requires.formed found.named found.start_is c.write_store.ensures).0 in
+    let read = marked-read s c.write_store.new.self c.in-Some.k (part_text s.neutral c.args.name.0 c.args.name.1) c.requires.formed.distinct found.named is in
     let e = c.earlier.ensures in
     subst (λ fs. IsMarkedFrom fs c.earlier.result.0 c.earlier.result.1) (sym read)
     (marked-from (forms_in s.store) c.in-Some.k c.in-Some.start c.args.places.1 c.earlier.result c.requires.first found.named.within found.start_is e.one e.first e.second)

@@ -9,19 +9,17 @@ less : (c : After-heads-name) → c.loop-form._form < length (forms_in c.args.sp
 less c = omega (arith, c.loop-form-test.true, c.requires.count_is)
 
 name : (c : After-heads-name) → c.heads-name.result.0 ≡ length (form_at (forms_in c.args.space.now.store) c.loop-form._form).name
-name c = c.heads-name.ensures.name ∙ swept-name c.args.space.now c.loop-form.space c.loop-form._form c.loop-form.gap.0 c.loop-form.gap.1 c.loop-form.from c.loop-form.kept c.loop-form.invariant c.requires.whole (less c)
+name c = c.heads-name.ensures.name ∙ swept-name c.loop-form.invariant c.requires.whole (less c)
 
 body : (c : After-heads-name) → c.heads-name.result.1 ≡ length (form_at (forms_in c.args.space.now.store) c.loop-form._form).body
-body c = c.heads-name.ensures.body ∙ swept-body c.args.space.now c.loop-form.space c.loop-form._form c.loop-form.gap.0 c.loop-form.gap.1 c.loop-form.from c.loop-form.kept c.loop-form.invariant c.requires.whole (less c)
+body c = c.heads-name.ensures.body ∙ swept-body c.loop-form.invariant c.requires.whole (less c)
 
 end : (c : After-heads-name) → c.loop-form.from + 3 + c.heads-name.result.0 + c.heads-name.result.1 ≤ length c.loop-form.space.store
-end c = omega (arith, swept-end c.args.space.now c.loop-form.space c.loop-form._form c.loop-form.gap.0 c.loop-form.gap.1 c.loop-form.from c.loop-form.kept c.loop-form.invariant c.requires.whole (less c), name c, body c)
+end c = omega (arith, swept-end c.loop-form.invariant c.requires.whole (less c), name c, body c)
 
 pub heads-name-requires-clause-within : goal.heads-name-requires-clause-within
 heads-name-requires-clause-within c =
-    let i = c.loop-form.invariant in
-    let less : c.loop-form._form < length (forms_in c.args.space.now.store) = omega (arith, c.loop-form-test.true, c.requires.count_is) in
-    omega (arith, swept-end c.args.space.now c.loop-form.space c.loop-form._form c.loop-form.gap.0 c.loop-form.gap.1 c.loop-form.from c.loop-form.kept i c.requires.whole less)
+    omega (arith, swept-end c.loop-form.invariant c.requires.whole (omega (arith, c.loop-form-test.true, c.requires.count_is)))
 
 pub overflow_add-end : goal.overflow_add-end
 overflow_add-end c = omega (arith, end (goal.at.overflow_add-end c).After-heads-name, c.loop-form.invariant.len, c.requires.bounded)
@@ -39,7 +37,7 @@ pub loop-form-preserved : goal.loop-form-preserved
 loop-form-preserved c =
     let i = c.loop-form.invariant in
     let k = (goal.at.loop-form-preserved c).After-heads-name in
-    let pointer = c.heads-name.ensures.pointer ∙ swept-pointer c.args.space.now c.loop-form.space c.loop-form._form c.loop-form.gap.0 c.loop-form.gap.1 c.loop-form.from c.loop-form.kept i c.requires.whole (less k) in
+    let pointer = c.heads-name.ensures.pointer ∙ swept-pointer i c.requires.whole (less k) in
     let end = c.loop-form.from + 3 + c.heads-name.result.0 + c.heads-name.result.1 in
     let form = form_at (forms_in c.args.space.now.store) c.loop-form._form in
     let ends : end ≡ c.loop-form.from + (3 + length form.name + length form.body) = omega (arith, name k, body k) in
@@ -48,10 +46,10 @@ loop-form-preserved c =
           let marked : is_marked form ≡ true = ap (λ p. p == mark) (sym pointer ∙ w.if-pointer.true) in
           let begin = ap (λ g. g.0) w.gap-is ∙ w.move_gap-gap.ensures.begin in
           let stop = ap (λ g. g.1) w.gap-is ∙ w.move_gap-gap.ensures.end in
-          rw (w.space-is, w.kept-is, begin, stop) (swept-gone c.args.space.now c.loop-form.space c.loop-form._form c.loop-form.gap.0 c.loop-form.gap.1 c.loop-form.from c.loop-form.kept i c.requires.whole (less k) end ends w.move_gap-gap.new.space marked w.move_gap-gap.ensures.moved)
+          rw (w.space-is, w.kept-is, begin, stop) (swept-gone i c.requires.whole (less k) end ends w.move_gap-gap.new.space marked w.move_gap-gap.ensures.moved)
       | else-pointer w ↦
           let plain : is_marked form ≡ false = grind (arith, pointer, w.if-pointer.false) in
-          rw (w.space-is, w.kept-is, w.gap-is) (swept-more c.args.space.now c.loop-form.space c.loop-form._form c.loop-form.gap.0 c.loop-form.gap.1 c.loop-form.from c.loop-form.kept i c.requires.whole (less k) end ends plain)
+          rw (w.space-is, w.kept-is, w.gap-is) (swept-more i c.requires.whole (less k) end ends plain)
     ]
 
 pub loop-form-init : goal.loop-form-init

@@ -1,5 +1,6 @@
-use Rattle.trac_store.proofs.Words.{◌≡◌, ℕ, ◌+◌, ◌-◌, ◌<◌, ◌≤◌, Bool, true, List, [], ◌++◌, length, take, drop, map, set, get_or, slice_range, refl, subst, sym, ap, ◌∙◌, arith, length-map, length-set, length-append, length-take-le, drop-set-lt, drop-drop, get_or-drop, length-between}
+use Rattle.trac_store.proofs.Words.{◌≡◌, ℕ, ◌+◌, ◌-◌, ◌<◌, ◌≤◌, Bool, true, List, [], ◌++◌, length, take, drop, map, set, get_or, slice_range, refl, subst, sym, ap, ◌∙◌, arith, length-set, length-append, length-take-le, drop-set-lt, drop-drop, get_or-drop, length-between}
 use Rattle.trac_store.proofs.Words.{between_none, All-set, All-get_or, Cell, Byte, Gap, IsNoCall, NoCall, Lists, character_of, begins_cells, segment_cells}
+use Rattle.trac_store.proofs.FlatLemmas.{length-part_text}
 use Rattle.trac_store.proofs.Gaps.{begins-length, written-gap, written-other}
 use Rattle.trac_store.proofs.segment.make_gaps.Goals as goal
 use Rattle.trac_store.proofs.segment.make_gaps.Goals.{then-stands_at, else-stands_at}
@@ -32,10 +33,6 @@ same_cell now was read h =
     let b = rw e at (get_or-drop read was 0 (Byte 0)) in
     sym a ∙ ap (λ l. get_or l 0 (Byte 0)) h ∙ b
 
--- the text of a part, and its length
-text_len : (cells : List Cell) (a b : ℕ) → b ≤ length cells → length (map character_of (slice_range cells a b)) ≡ b - a
-text_len cells a b within = length-map (slice_range cells a b) character_of ∙ length-between cells a b within
-
 short : (text : List ℕ) (cells : List Cell) (read to : ℕ) → to ≤ length cells → begins_cells text (slice_range cells read to) ≡ true → length text ≤ to - read
 short text cells read to within found =
     omega (arith, begins-length, length-between cells read to within)
@@ -46,7 +43,7 @@ overflow_add-read c =
     let h = c.loop-read.invariant in
     let found = test_is s c.loop-read.space c.loop-read.read c.args.to c.args.text.0 c.args.text.1 _ h.others h.rest c.stands_at.ensures ∙ c.if-stands_at.true in
     let few = short (map character_of (slice_range s.neutral c.args.text.0 c.args.text.1)) s.store c.loop-read.read c.args.to c.requires.within found in
-    let size = text_len s.neutral c.args.text.0 c.args.text.1 c.requires.text_part.within in
+    let size = length-part_text s.neutral c.args.text.0 c.args.text.1 c.requires.text_part.within in
     omega arith
 
 pub loop-read-preserved : goal.loop-read-preserved
@@ -59,7 +56,7 @@ loop-read-preserved c =
     let a = c.args.text.0 in
     let b = c.args.text.1 in
     let text = map character_of (slice_range s.neutral a b) in
-    let size = text_len s.neutral a b c.requires.text_part.within in
+    let size = length-part_text s.neutral a b c.requires.text_part.within in
     let test = test_is s now read c.args.to a b _ h.others h.rest c.stands_at.ensures in
     elim c.if-stands_at.branch [
       | then-stands_at w ↦

@@ -4,9 +4,8 @@ use Rattle.trac_store.proofs.segment.stands_at.Goals as goal
 
 pub returns-then-not-is_same_byte : goal.returns-then-not-is_same_byte
 returns-then-not-is_same_byte c =
-    let s = c.args.space.now in
     let cells = c.store_part-cells.result.now in
-    let some : 0 < length cells = omega (arith, ap length c.store_part-cells.ensures, length-map cells seen, length-between s.store c.args.from c.args.to c.requires.within) in
+    let some : 0 < length cells = omega (arith, ap length c.store_part-cells.ensures, length-map cells seen, length-between c.args.space.now.store c.args.from c.args.to c.requires.within) in
     sym (begins-other _ _ cells c.args.text.0 c.args.text.1 c.args.first c.requires.text_order c.requires.text_within some c.store_part-cells.ensures c.requires.first (sym c.is_same_byte.ensures ∙ c.if-not-is_same_byte.true))
 
 pub returns : goal.returns

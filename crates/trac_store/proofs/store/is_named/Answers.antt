@@ -56,11 +56,9 @@ is_text_back-requires-clause-bytes c = bytes-of-seen c.args.name.now c.requires.
 
 pub returns-then-len-name : goal.returns-then-len-name
 returns-then-len-name c = λ t.
-    let store = c.args.store.now in
-    let n = c.number_in_head-len.result in
     let b = here (goal.at.returns-then-len-name c).Start in
     let len = c.number_in_head-len.ensures ∙ number_is _ _ b.name_len in
-    let text = same store c.args.form.0 c.args.form.1 n b len c.args.name.now in
+    let text = same c.args.store.now c.args.form.0 c.args.form.1 c.number_in_head-len.result b len c.args.name.now in
     record {
       named = record { within = c.requires.within; named = text (c.is_text_back.ensures t) };
       start_is = c.requires.begins.start_is;

@@ -20,11 +20,10 @@ read cells i c within is = get_or-map character_of cells i (Byte 0) 0 within ∙
 
 pub loop-left-init : goal.loop-left-init
 loop-left-init c =
-    let a = c.args.cells.now in
     let b = c.args.text.now in
-    let la = length-map a character_of in
+    let la = length-map c.args.cells.now character_of in
     let lb = length-map b character_of in
-    let none_a = drop_all (length b) (text_of_cells a) (omega (arith, la, c.requires.same)) in
+    let none_a = drop_all (length b) (text_of_cells c.args.cells.now) (omega (arith, la, c.requires.same)) in
     let none_b = drop_all (length b) (text_of_cells b) (omega (arith, lb)) in
     record { within = omega arith; same = none_a ∙ sym none_b }
 

@@ -32,14 +32,10 @@ name_part c n len =
     ap (λ i. map seen (slice_range c.args.store.now i (i + n))) (place c) ∙ ap (λ n. map seen (slice_range c.args.store.now (start + 3) (start + 3 + n))) len ∙ (next c).name_part
 
 pub offset_bounds-store-at : goal.offset_bounds-store-at
-offset_bounds-store-at c =
-    let k = (goal.at.offset_bounds-store-at c).In-loop-left in
-    omega (arith, (next k).end, place k)
+offset_bounds-store-at c = omega (arith, next (goal.at.offset_bounds-store-at c).In-loop-left)
 
 pub bounds-store-at : goal.bounds-store-at
-bounds-store-at c =
-    let k = (goal.at.bounds-store-at c).In-loop-left in
-    omega (arith, (next k).end, place k)
+bounds-store-at c = omega (arith, next (goal.at.bounds-store-at c).In-loop-left)
 
 pub number_in_head-len-requires : goal.number_in_head-len-requires
 number_in_head-len-requires c = is_head _ _ (next (goal.at.number_in_head-len-requires c).In-loop-left).name_len
@@ -64,14 +60,10 @@ returns-then-is_text_at c =
     }
 
 pub offset_bounds-store-at-in-loop-left : goal.offset_bounds-store-at-in-loop-left
-offset_bounds-store-at-in-loop-left c =
-    let k = (goal.at.offset_bounds-store-at-in-loop-left c).In-loop-left in
-    omega (arith, (next k).end, place k)
+offset_bounds-store-at-in-loop-left c = omega (arith, next (goal.at.offset_bounds-store-at-in-loop-left c).In-loop-left)
 
 pub bounds-store-at-in-loop-left : goal.bounds-store-at-in-loop-left
-bounds-store-at-in-loop-left c =
-    let k = (goal.at.bounds-store-at-in-loop-left c).In-loop-left in
-    omega (arith, (next k).end, place k)
+bounds-store-at-in-loop-left c = omega (arith, next (goal.at.bounds-store-at-in-loop-left c).In-loop-left)
 
 pub number_in_head-requires : goal.number_in_head-requires
 number_in_head-requires c = is_head _ _ (body_head (goal.at.number_in_head-requires c).In-loop-left)

@@ -1,4 +1,4 @@
-use Rattle.trac_values.proofs.Words.{◌≡◌, ◌<◌, ◌^◌, length, true, sym, ap, ◌∙◌, refl, arith, rules, length-map, get_or-map, take_all, digits_value, is_ascii_digit, Cell, Byte, Call, Comma, Gap, Head, character_of, text_of_cells, IsByte}
+use Rattle.trac_values.proofs.Words.{◌≡◌, ◌<◌, ◌^◌, length, true, sym, ap, ◌∙◌, refl, arith, rules, length-map, get_or-map, take_all, digits_value, is_ascii_digit, Cell, Byte, character_of, text_of_cells, IsByte}
 use Rattle.trac_values.proofs.DigitsFromEnd.{fits_before}
 use Rattle.trac_values.proofs.Suffixes.{digit_at, value_more, within_text}
 use Rattle.trac_values.proofs.number.part_value.Goals as goal
@@ -6,24 +6,17 @@ use Rattle.trac_values.proofs.number.part_value.Goals as goal
 -- only a character is a digit
 digit-byte : (cell : Cell) → is_ascii_digit (character_of cell) ≡ true → IsByte cell
 digit-byte (Byte b) digit = search rules
-digit-byte (Call mode number) digit = absurd cc
-digit-byte Comma digit = absurd cc
-digit-byte (Gap ordinal) digit = absurd cc
-digit-byte (Head n) digit = absurd cc
+digit-byte cell digit = absurd cc
 
 pub byte_in-requires : goal.byte_in-requires
 byte_in-requires c =
-    let cells = c.args.digits.now in
     let i = c.loop-i.i in
-    let lt = c.loop-i-test.true in
-    let same = get_or-map character_of cells i (Byte 0) 0 lt in
-    digit-byte _ (ap is_ascii_digit (sym same) ∙ c.requires.decimal i (within_text cells i lt))
+    let same = get_or-map character_of c.args.digits.now i (Byte 0) 0 c.loop-i-test.true in
+    digit-byte _ (ap is_ascii_digit (sym same) ∙ c.requires.decimal i (within_text c.args.digits.now i c.loop-i-test.true))
 
 pub overflow_sub-byte_in : goal.overflow_sub-byte_in
 overflow_sub-byte_in c =
-    let i = c.loop-i.i in
-    let lt = c.loop-i-test.true in
-    (digit_at c.args.digits.now i c.byte_in.result lt c.byte_in.ensures (c.requires.decimal i (within_text c.args.digits.now i lt))).0
+    (digit_at c.args.digits.now c.loop-i.i _ c.loop-i-test.true c.byte_in.ensures c.requires.decimal).0
 
 pub overflow_mul-value : goal.overflow_mul-value
 overflow_mul-value c =
@@ -36,14 +29,13 @@ overflow_add-value c =
     let below = c.loop-i.invariant.below in
     let i = c.loop-i.i in
     let lt : i < length c.args.digits.now = c.loop-i-test.true in
-    let digit = digit_at c.args.digits.now i c.byte_in.result lt c.byte_in.ensures (c.requires.decimal i (within_text c.args.digits.now i lt)) in
+    let digit = digit_at c.args.digits.now i c.byte_in.result lt c.byte_in.ensures c.requires.decimal in
     let at = fits_before i 0 (10 ^ i) 0 (omega (arith, lt, c.requires.few)) refl (omega (arith, below)) (omega arith) in
     omega (arith, at.2, below, digit.1, c.from.ensures)
 
 pub overflow_mul-power : goal.overflow_mul-power
 overflow_mul-power c =
-    let i = c.loop-i.i in
-    let at = fits_before i 0 (10 ^ i) 0 (omega (arith, c.loop-i-test.true, c.requires.few)) refl (omega (arith, c.loop-i.invariant.below)) (omega arith) in
+    let at = fits_before c.loop-i.i 0 (10 ^ c.loop-i.i) 0 (omega (arith, c.loop-i-test.true, c.requires.few)) refl (omega (arith, c.loop-i.invariant.below)) (omega arith) in
     omega (arith, at.2, c.loop-i.invariant.power)
 
 pub loop-i-preserved : goal.loop-i-preserved
@@ -52,10 +44,9 @@ loop-i-preserved c =
     let i = c.loop-i.i in
     let cells = c.args.digits.now in
     let lt : i < length cells = c.loop-i-test.true in
-    let passes = c.requires.decimal i (within_text cells i lt) in
-    let digit = digit_at cells i c.byte_in.result lt c.byte_in.ensures passes in
+    let digit = digit_at cells i c.byte_in.result lt c.byte_in.ensures c.requires.decimal in
     let at = fits_before i 0 (10 ^ i) 0 (omega (arith, lt, c.requires.few)) refl (omega (arith, below)) (omega arith) in
-    let more = value_more cells i c.byte_in.result lt c.byte_in.ensures passes in
+    let more = value_more cells i c.byte_in.result lt c.byte_in.ensures c.requires.decimal in
     record {
       value = omega (arith, more, c.loop-i.invariant.value, c.from.ensures);
       below = omega (arith, at.4, below, digit.1, c.from.ensures);

@@ -1,7 +1,7 @@
-use Rattle.trac_values.proofs.Words.{◌≡◌, ◌-◌, ◌*◌, ◌+◌, ◌<◌, ◌^◌, length, drop, sym, ap, ◌∙◌, subst, arith, get_or, length-map, get_or-map, is_ascii_digit, digit_value, digits_value, before_digits, Byte, character_of, text_of_cells}
+use Rattle.trac_values.proofs.Words.{◌≡◌, ◌-◌, ◌*◌, ◌+◌, ◌<◌, ◌^◌, length, drop, sym, ap, ◌∙◌, subst, arith, get_or, length-map, get_or-map, is_ascii_digit, digit_value, digits_value, Byte, character_of, text_of_cells}
 use Rattle.trac_values.proofs.DigitsFromEnd.{value_before, fits_before}
 use Rattle.trac_values.proofs.Suffixes.{digit_facts, suffix_more, suffix_stops}
-use Rattle.trac_values.proofs.TailNumbers.{place}
+use Rattle.trac_values.proofs.SuffixCells.{place}
 use Rattle.trac_values.proofs.number.short_number.Goals as goal
 
 pub returns-then-not-is_ascii_digit-clause-start : goal.returns-then-not-is_ascii_digit-clause-start
@@ -10,21 +10,18 @@ returns-then-not-is_ascii_digit-clause-start c =
 
 pub returns-then-not-is_ascii_digit-clause-value : goal.returns-then-not-is_ascii_digit-clause-value
 returns-then-not-is_ascii_digit-clause-value c =
-    let cells = c.args.cells.now in
-    let start : c.loop-start.start ≡ length (before_digits (text_of_cells cells)) = suffix_stops is_ascii_digit cells c.loop-start.start (omega arith) c.loop-start.invariant.within (ap is_ascii_digit (sym c.byte_in-character.ensures) ∙ sym c.is_ascii_digit.ensures.value ∙ c.if-not-is_ascii_digit.true) c.loop-start.invariant.digits in
-    c.loop-start.invariant.value ∙ ap (λ k. digits_value 10 (drop k (text_of_cells cells))) (place cells c.loop-start.start start)
+    c.loop-start.invariant.value
+    ∙ ap (λ k. digits_value 10 (drop k (text_of_cells c.args.cells.now))) (place is_ascii_digit c.args.cells.now c.loop-start.start (returns-then-not-is_ascii_digit-clause-start c))
 
 pub overflow_mul-value : goal.overflow_mul-value
 overflow_mul-value c =
     let facts = digit_facts c.byte_in-character.result (sym c.is_ascii_digit.ensures.value ∙ c.if-not-is_ascii_digit.false) in
-    let at = fits_before (length c.args.cells.now - c.loop-start.start) c.loop-start.value c.loop-start.power c.from.result (omega arith) c.loop-start.invariant.power c.loop-start.invariant.below (omega (arith, facts.0, facts.1)) in
-    omega (arith, at.0)
+    omega (arith, (fits_before _ c.loop-start.value c.loop-start.power c.from.result (omega arith) c.loop-start.invariant.power c.loop-start.invariant.below (omega (arith, facts.0, facts.1))).0)
 
 pub overflow_add-value : goal.overflow_add-value
 overflow_add-value c =
     let facts = digit_facts c.byte_in-character.result (sym c.is_ascii_digit.ensures.value ∙ c.if-not-is_ascii_digit.false) in
-    let at = fits_before (length c.args.cells.now - c.loop-start.start) c.loop-start.value c.loop-start.power c.from.result (omega arith) c.loop-start.invariant.power c.loop-start.invariant.below (omega (arith, facts.0, facts.1)) in
-    omega (arith, at.1)
+    omega (arith, (fits_before _ c.loop-start.value c.loop-start.power c.from.result (omega arith) c.loop-start.invariant.power c.loop-start.invariant.below (omega (arith, facts.0, facts.1))).1)
 
 pub overflow_mul-power : goal.overflow_mul-power
 overflow_mul-power c =

@@ -102,6 +102,4 @@ returns-clause-ok c =
     rw (← c.self.view_is) (shown-restored _ c.self.inside.space _ (rest k ++ form k ∷ []) (c.index_last.ensures.same ∙ ap (λ (w : Lists). record w { spare = c.index_last.new.space.spare }) (put k)))
 
 pub returns-clause-sound : goal.returns-clause-sound
-returns-clause-sound c =
-    let at = goal.at.returns-clause-sound c in
-    (stored at.After-index_last).sound
+returns-clause-sound c = (invariant_of-self c).sound

@@ -9,37 +9,29 @@ mark_all-first-requires-clause-formed c =
 pub take_out_marked-self-inside-requires-clause-whole :
     goal.take_out_marked-self-inside-requires-clause-whole
 take_out_marked-self-inside-requires-clause-whole c =
-    let s = c.self.inside.space in
-    marks-whole s c.mark_all-first.new.space c.self.inside.count c.self.inside.last c.self.inside.start (texts_between s.neutral c.args.from c.args.end) c.self.invariant c.mark_all-first.ensures.marked
+    marks-whole (texts_between c.self.inside.space.neutral c.args.from c.args.end) c.self.invariant c.mark_all-first.ensures.marked
 
 pub take_out_marked-self-inside-requires-clause-bounded :
     goal.take_out_marked-self-inside-requires-clause-bounded
 take_out_marked-self-inside-requires-clause-bounded c =
-    let s = c.self.inside.space in
-    marks-bounded s c.mark_all-first.new.space c.self.inside.count c.self.inside.last c.self.inside.start (texts_between s.neutral c.args.from c.args.end) c.self.invariant c.mark_all-first.ensures.marked
+    marks-bounded (texts_between c.self.inside.space.neutral c.args.from c.args.end) c.self.invariant c.mark_all-first.ensures.marked
 
 pub take_out_marked-self-inside-requires-clause-count_is :
     goal.take_out_marked-self-inside-requires-clause-count_is
 take_out_marked-self-inside-requires-clause-count_is c =
-    let s = c.self.inside.space in
-    marks-count s c.mark_all-first.new.space c.self.inside.count c.self.inside.last c.self.inside.start (texts_between s.neutral c.args.from c.args.end) c.self.invariant c.mark_all-first.ensures.marked
+    marks-count (texts_between c.self.inside.space.neutral c.args.from c.args.end) c.self.invariant c.mark_all-first.ensures.marked
 
 pub invariant_of-self : goal.invariant_of-self
 invariant_of-self c =
-    let s = c.self.inside.space in
     let gone = c.take_out_marked-self-inside.ensures in
-    removed-stored s c.mark_all-first.new.space c.self.inside.count c.self.inside.last c.self.inside.start (texts_between s.neutral c.args.from c.args.end) c.self.invariant c.mark_all-first.ensures.marked c.take_out_marked-self-inside.new.space gone.gone c.take_out_marked-self-inside.result gone.count gone.index
+    removed-stored (texts_between c.self.inside.space.neutral c.args.from c.args.end) c.self.invariant c.mark_all-first.ensures.marked c.take_out_marked-self-inside.new.space gone.gone c.take_out_marked-self-inside.result gone.count gone.index
 
 pub returns-clause-gone : goal.returns-clause-gone
 returns-clause-gone c =
-    let s = c.self.inside.space in
-    rw (← c.self.view_is) (removed-shown s c.mark_all-first.new.space c.self.inside.count c.self.inside.last c.self.inside.start (texts_between s.neutral c.args.from c.args.end) c.self.invariant c.mark_all-first.ensures.marked c.take_out_marked-self-inside.new.space c.take_out_marked-self-inside.ensures.gone)
+    rw (← c.self.view_is) (removed-shown (texts_between c.self.inside.space.neutral c.args.from c.args.end) c.self.invariant c.mark_all-first.ensures.marked c.take_out_marked-self-inside.new.space c.take_out_marked-self-inside.ensures.gone)
 
 pub returns-clause-sound : goal.returns-clause-sound
-returns-clause-sound c =
-    let s = c.self.inside.space in
-    let gone = c.take_out_marked-self-inside.ensures in
-    (removed-stored s c.mark_all-first.new.space c.self.inside.count c.self.inside.last c.self.inside.start (texts_between s.neutral c.args.from c.args.end) c.self.invariant c.mark_all-first.ensures.marked c.take_out_marked-self-inside.new.space gone.gone c.take_out_marked-self-inside.result gone.count gone.index).sound
+returns-clause-sound c = (invariant_of-self c).sound
 
 pub mark_all-first-requires-clause-plain : goal.mark_all-first-requires-clause-plain
 mark_all-first-requires-clause-plain c =

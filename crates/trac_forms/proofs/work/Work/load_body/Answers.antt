@@ -33,9 +33,8 @@ pub invariant_of-self : goal.invariant_of-self
 invariant_of-self c = stored _ c.self.inside.space _ c.load_form.result _ _ _ c.self.invariant c.load_form.ensures
 
 pub returns-clause-sound : goal.returns-clause-sound
-returns-clause-sound c = (stored _ c.self.inside.space _ c.load_form.result _ _ _ c.self.invariant c.load_form.ensures).sound
+returns-clause-sound c = (invariant_of-self c).sound
 
 pub returns-clause-loaded : goal.returns-clause-loaded
 returns-clause-loaded c =
-    let s = c.self.inside.space in
-    rw (← c.self.view_is) (seen (called_part (forms_in s.store) (form_place c.args.form)) s c.load_form.new.space c.load_form.result _ _ _ c.self.invariant c.load_form.ensures)
+    rw (← c.self.view_is) (seen (called_part (forms_in c.self.inside.space.store) (form_place c.args.form)) c.self.inside.space c.load_form.new.space c.load_form.result _ _ _ c.self.invariant c.load_form.ensures)

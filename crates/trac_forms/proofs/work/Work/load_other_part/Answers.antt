@@ -1,16 +1,21 @@
-use Rattle.trac_forms.proofs.Words.{◌+◌, ◌-◌, ◌≤◌, ◌++◌, length, slice_range, refl, ap, ◌∙◌, arith, length-between, Lists, IsStored, way-kept}
+use Rattle.trac_forms.proofs.Words.{◌+◌, ◌-◌, ◌≤◌, ◌++◌, length, slice_range, refl, ap, ◌∙◌, arith, length-between, Lists, way-kept}
 use Rattle.trac_space.specs.Lists as lists
 use Rattle.trac_forms.proofs.Strings.{used-stored, before-active}
 use Rattle.trac_forms.proofs.work.Work.load_other_part.Goals as goal
-use Rattle.trac_forms.proofs.work.Work.load_other_part.Goals.{After-load_from_neutral}
 
 pub returns-then-free-b-clause-loaded : goal.returns-then-free-b-clause-loaded
 returns-then-free-b-clause-loaded c =
     let used = used-stored c.self.inside.space c.self.invariant.whole in
     rw (← c.self.view_is) (λ e. cc, λ fits. absurd (omega arith))
 
-stored : (c : After-load_from_neutral) → IsStored c.load_from_neutral.new.self c.self.inside.count c.self.inside.last c.self.inside.start
-stored c =
+pub load_from_neutral-requires-clause-within : goal.load_from_neutral-requires-clause-within
+load_from_neutral-requires-clause-within c =
+    let part = rw (← c.self.view_is) at c.requires in
+    let within = part.within in
+    rw c.make_way.ensures.same within
+
+pub invariant_of-self : goal.invariant_of-self
+invariant_of-self c =
     let s = c.self.inside.space in
     let a = c.args.a in
     let b = c.args.b in
@@ -22,15 +27,6 @@ stored c =
     before-active _ s mid _ _ _ _ more (way-kept (b - a) s) c.self.invariant part.bytes room c.make_way.ensures.same
     (c.load_from_neutral.ensures ∙ ap (λ (l : Lists). record mid { active = slice_range l.neutral a b ++ mid.active }) c.make_way.ensures.same)
 
-pub load_from_neutral-requires-clause-within : goal.load_from_neutral-requires-clause-within
-load_from_neutral-requires-clause-within c =
-    let part = rw (← c.self.view_is) at c.requires in
-    let within = part.within in
-    rw c.make_way.ensures.same within
-
-pub invariant_of-self : goal.invariant_of-self
-invariant_of-self c = let at = goal.at.invariant_of-self c in stored at.After-load_from_neutral
-
 pub returns-clause-loaded : goal.returns-clause-loaded
 returns-clause-loaded c =
     let used = used-stored c.self.inside.space c.self.invariant.whole in
@@ -41,4 +37,4 @@ returns-clause-first c =
     rw (← c.self.view_is, c.load_from_neutral.ensures, c.make_way.ensures.same) refl
 
 pub returns-clause-sound : goal.returns-clause-sound
-returns-clause-sound c = let at = goal.at.returns-clause-sound c in (stored at.After-load_from_neutral).sound
+returns-clause-sound c = (invariant_of-self c).sound

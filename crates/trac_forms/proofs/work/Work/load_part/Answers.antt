@@ -1,24 +1,20 @@
-use Rattle.trac_forms.proofs.Words.{◌+◌, ◌≤◌, length, slice_range, refl, inl, arith, length-between, IsStored}
+use Rattle.trac_forms.proofs.Words.{◌+◌, ◌≤◌, length, slice_range, refl, inl, arith, length-between}
 use Rattle.trac_space.specs.Lists as lists
 use Rattle.trac_forms.proofs.Strings.{used-stored, before-active}
 use Rattle.trac_forms.proofs.work.Work.load_part.Goals as goal
-use Rattle.trac_forms.proofs.work.Work.load_part.Goals.{After-load_from_neutral}
 
 pub returns-then-size-way-clause-loaded : goal.returns-then-size-way-clause-loaded
 returns-then-size-way-clause-loaded c =
     let used = used-stored c.self.inside.space c.self.invariant.whole in
     rw (← c.self.view_is) (λ e. omega arith, λ fits. refl)
 
-stored : (c : After-load_from_neutral) → IsStored c.load_from_neutral.new.self c.self.inside.count c.self.inside.last c.self.inside.start
-stored c =
+pub invariant_of-self : goal.invariant_of-self
+invariant_of-self c =
     let s = c.self.inside.space in
     let more = slice_range s.neutral c.args.a c.args.b in
     let part = rw (← c.self.view_is) at c.requires in
     let room : lists.used s + length more ≤ s.room = omega (arith, length-between s.neutral c.args.a c.args.b part.within) in
     before-active s.spare s s _ _ _ _ more (inl refl) c.self.invariant part.bytes room refl c.load_from_neutral.ensures
 
-pub invariant_of-self : goal.invariant_of-self
-invariant_of-self c = let at = goal.at.invariant_of-self c in stored at.After-load_from_neutral
-
 pub returns-then-size-way-clause-sound : goal.returns-then-size-way-clause-sound
-returns-then-size-way-clause-sound c = let at = goal.at.returns-then-size-way-clause-sound c in (stored at.After-load_from_neutral).sound
+returns-then-size-way-clause-sound c = (invariant_of-self c).sound

@@ -7,20 +7,18 @@ use Rattle.trac_space.proofs.space.Space.active_to_neutral.Goals as goal
 pub returns : goal.returns
 returns c =
     let s = c.self.inside in
-    let h = c.self.invariant in
-    let size = sizes s h c.self.view_is in
+    let size = sizes c.self.invariant c.self.view_is in
     let p = parts_of s in
-    let moved = parts-to_neutral s h c.args.n _ (omega arith) c.copy_one_or_more.ensures.after in
+    let moved = parts-to_neutral c.self.invariant c.args.n _ (omega arith) c.copy_one_or_more.ensures.after in
     let left = seen-drop_active (record p { neutral = p.neutral ++ take c.args.n p.right }) s.active c.args.n (omega arith) in
     record { moved = rw (← c.self.view_is) (shown _ moved ∙ left ∙ simp (map-append, front-seen p.right s.active c.args.n (omega arith))) }
 
 -- no call mark stands in what is moved
 pub invariant_of-self : goal.invariant_of-self
 invariant_of-self c =
-    let s = c.self.inside in
     let h = c.self.invariant in
-    let size = sizes s h c.self.view_is in
-    let right = (parts_of s).right in
-    let moved = parts-to_neutral s h c.args.n _ (omega arith) c.copy_one_or_more.ensures.after in
-    laid-more s _ h moved refl (omega arith) (omega arith) (take c.args.n right) refl refl
-    (rw (front-seen right s.active c.args.n (omega arith)) at (rw (← c.self.view_is) at c.requires.no_call))
+    let size = sizes h c.self.view_is in
+    let right = (parts_of c.self.inside).right in
+    let moved = parts-to_neutral h c.args.n _ (omega arith) c.copy_one_or_more.ensures.after in
+    laid-more _ h moved refl (omega arith) (omega arith) (take c.args.n right) refl refl
+    (rw (front-seen right c.self.inside.active c.args.n (omega arith)) at (rw (← c.self.view_is) at c.requires.no_call))

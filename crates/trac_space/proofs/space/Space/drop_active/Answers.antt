@@ -5,8 +5,6 @@ use Rattle.trac_space.proofs.space.Space.drop_active.Goals as goal
 
 pub returns : goal.returns
 returns c =
-    let s = c.self.inside in
-    let h = c.self.invariant in
-    let size = sizes s h c.self.view_is in
-    let moved = parts-drop_active s h c.args.n (omega arith) in
-    rw (← c.self.view_is) (shown _ moved ∙ seen-drop_active (parts_of s) s.active c.args.n (omega arith))
+    let size = sizes c.self.invariant c.self.view_is in
+    let moved = parts-drop_active c.self.invariant c.args.n (omega arith) in
+    rw (← c.self.view_is) (shown _ moved ∙ seen-drop_active (parts_of c.self.inside) c.self.inside.active c.args.n (omega arith))

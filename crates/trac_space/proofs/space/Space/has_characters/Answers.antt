@@ -5,8 +5,7 @@ use Rattle.trac_space.proofs.space.Space.has_characters.Goals as goal
 
 pub returns : goal.returns
 returns c = λ t.
-    let s = c.self.inside in
-    let size = sizes s c.self.invariant c.self.view_is in
+    let size = sizes c.self.invariant c.self.view_is in
     let n = c.args.b - c.args.a in
     let end : c.args.a + n ≡ c.args.b = omega arith in
-    rw (← c.self.view_is, ← end) (part-bytes s.cells.now s.store c.args.a n (omega arith) (c.are_all_characters.ensures t))
+    rw (← c.self.view_is, ← end) (part-bytes c.self.inside.cells.now c.self.inside.store c.args.a n (omega arith) (c.are_all_characters.ensures t))

@@ -6,12 +6,11 @@ use Rattle.trac_space.proofs.space.Space.load_bytes.Goals as goal
 pub returns : goal.returns
 returns c =
     let s = c.self.inside in
-    let h = c.self.invariant in
-    let size = sizes s h c.self.view_is in
+    let size = sizes c.self.invariant c.self.view_is in
     let text = c.write_bytes.new.cells in
     let n = length c.args.text.now in
     let long = ap length c.write_bytes.ensures ∙ length-map c.args.text.now Byte in
-    let moved = parts-load s h text _ n long (omega arith) refl in
+    let moved = parts-load c.self.invariant text _ n long (omega arith) refl in
     let written = ap (map seen) c.write_bytes.ensures ∙ seen-bytes c.args.text.now in
     rw (← c.self.view_is)
     (shown _ moved ∙ seen-more_active (parts_of s) s.active n text long
@@ -20,9 +19,8 @@ returns c =
 -- neutral is as it was
 pub invariant_of-self : goal.invariant_of-self
 invariant_of-self c =
-    let s = c.self.inside in
     let h = c.self.invariant in
-    let size = sizes s h c.self.view_is in
+    let size = sizes h c.self.view_is in
     let long = ap length c.write_bytes.ensures ∙ length-map c.args.text.now Byte in
-    let moved = parts-load s h c.write_bytes.new.cells _ (length c.args.text.now) long (omega arith) refl in
-    laid s _ h moved refl (omega arith) (omega arith) h.calls h.linked
+    let moved = parts-load h c.write_bytes.new.cells _ (length c.args.text.now) long (omega arith) refl in
+    laid _ h moved refl (omega arith) (omega arith) h.calls h.linked

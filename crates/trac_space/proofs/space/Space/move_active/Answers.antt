@@ -6,11 +6,10 @@ use Rattle.trac_space.proofs.space.Space.move_active.Goals as goal
 pub returns-clause-same : goal.returns-clause-same
 returns-clause-same c =
     let s = c.self.inside in
-    let h = c.self.invariant in
-    let size = sizes s h c.self.view_is in
+    let size = sizes c.self.invariant c.self.view_is in
     let p = parts_of s in
     let room = c.room.ensures.value ∙ size.room in
-    let moved = parts-move_active s h c.args.n _ (omega arith) (rw room at c.copy_cells.ensures.after) in
+    let moved = parts-move_active c.self.invariant c.args.n _ (omega arith) (rw room at c.copy_cells.ensures.after) in
     let other = seen-other_spare p s.active (drop (length s.cells.now - c.args.n) s.cells.now) (omega arith) in
     let same = shown _ moved ∙ other in
     rw (← c.self.view_is, room) (same ∙ ap (λ cells. record (seen_lists s.active p) { spare = cells }) (sym (ap (λ l. l.spare) same)))
@@ -18,9 +17,8 @@ returns-clause-same c =
 -- neutral is as it was
 pub invariant_of-self : goal.invariant_of-self
 invariant_of-self c =
-    let s = c.self.inside in
     let h = c.self.invariant in
-    let size = sizes s h c.self.view_is in
+    let size = sizes h c.self.view_is in
     let room = c.room.ensures.value ∙ size.room in
-    let moved = parts-move_active s h c.args.n _ (omega arith) (rw room at c.copy_cells.ensures.after) in
-    rw room (laid s _ h moved refl (omega arith) (omega arith) h.calls h.linked)
+    let moved = parts-move_active h c.args.n _ (omega arith) (rw room at c.copy_cells.ensures.after) in
+    rw room (laid _ h moved refl (omega arith) (omega arith) h.calls h.linked)

@@ -8,18 +8,15 @@ of_front f at n cells within = search (rules, places, length-map)
 
 pub returns : goal.returns
 returns c =
-    let s = c.self.inside in
     let h = c.self.invariant in
-    let size = sizes s h c.self.view_is in
-    let moved = parts-open s h c.args.n c.copy_on.new.cells (omega (arith, c.requires)) c.copy_on.ensures.after in
-    let cells = c.copy_on.new.cells in
-    (map seen (take c.args.n (drop s.store cells)), of_front seen s.store c.args.n cells (omega (arith, c.copy_on.ensures.len, h.fits, h.behind, c.requires)), rw (← c.self.view_is) (shown _ moved ∙ simp maps))
+    let size = sizes h c.self.view_is in
+    let moved = parts-open h c.args.n c.copy_on.new.cells (omega (arith, c.requires)) c.copy_on.ensures.after in
+    (map seen (take c.args.n (drop c.self.inside.store c.copy_on.new.cells)), of_front seen c.self.inside.store c.args.n c.copy_on.new.cells (omega (arith, c.copy_on.ensures.len, h.fits, h.behind, c.requires)), rw (← c.self.view_is) (shown _ moved ∙ simp maps))
 
 -- neutral is as it was
 pub invariant_of-self : goal.invariant_of-self
 invariant_of-self c =
-    let s = c.self.inside in
     let h = c.self.invariant in
-    let size = sizes s h c.self.view_is in
-    let moved = parts-open s h c.args.n c.copy_on.new.cells (omega (arith, c.requires)) c.copy_on.ensures.after in
-    laid s _ h moved refl (omega arith) (omega arith) h.calls h.linked
+    let size = sizes h c.self.view_is in
+    let moved = parts-open h c.args.n c.copy_on.new.cells (omega (arith, c.requires)) c.copy_on.ensures.after in
+    laid _ h moved refl (omega arith) (omega arith) h.calls h.linked

@@ -5,17 +5,14 @@ use Rattle.trac_space.proofs.space.Space.push_active.Goals as goal
 
 pub returns : goal.returns
 returns c =
-    let s = c.self.inside in
-    let h = c.self.invariant in
-    let size = sizes s h c.self.view_is in
-    let moved = parts-push_active s h c.args.cell (omega arith) in
-    rw (← c.self.view_is) (shown _ moved ∙ seen-more_active (parts_of s) s.active 1 (c.args.cell ∷ []) refl)
+    let size = sizes c.self.invariant c.self.view_is in
+    let moved = parts-push_active c.self.invariant c.args.cell (omega arith) in
+    rw (← c.self.view_is) (shown _ moved ∙ seen-more_active (parts_of c.self.inside) c.self.inside.active 1 (c.args.cell ∷ []) refl)
 
 -- neutral is as it was
 pub invariant_of-self : goal.invariant_of-self
 invariant_of-self c =
-    let s = c.self.inside in
     let h = c.self.invariant in
-    let size = sizes s h c.self.view_is in
-    let moved = parts-push_active s h c.args.cell (omega arith) in
-    laid s _ h moved refl (omega arith) (omega arith) h.calls h.linked
+    let size = sizes h c.self.view_is in
+    let moved = parts-push_active h c.args.cell (omega arith) in
+    laid _ h moved refl (omega arith) (omega arith) h.calls h.linked

@@ -5,20 +5,17 @@ use Rattle.trac_space.proofs.space.Space.put_bytes.Goals as goal
 
 pub returns : goal.returns
 returns c =
-    let s = c.self.inside in
-    let h = c.self.invariant in
-    let size = sizes s h c.self.view_is in
+    let size = sizes c.self.invariant c.self.view_is in
     let long = ap length c.write_bytes.ensures ∙ length-map c.args.text.now Byte in
-    let moved = parts-append s h c.write_bytes.new.cells _ (length c.args.text.now) (omega (arith, long)) (omega arith) refl in
+    let moved = parts-append c.self.invariant c.write_bytes.new.cells _ (length c.args.text.now) (omega (arith, long)) (omega arith) refl in
     rw (← c.self.view_is) (shown _ moved ∙ simp (maps, c.write_bytes.ensures, seen-bytes c.args.text.now))
 
 -- no byte is a call mark
 pub invariant_of-self : goal.invariant_of-self
 invariant_of-self c =
-    let s = c.self.inside in
     let h = c.self.invariant in
-    let size = sizes s h c.self.view_is in
+    let size = sizes h c.self.view_is in
     let long = ap length c.write_bytes.ensures ∙ length-map c.args.text.now Byte in
-    let moved = parts-append s h c.write_bytes.new.cells _ (length c.args.text.now) (omega (arith, long)) (omega arith) refl in
-    laid-more s _ h moved refl (omega arith) (omega arith) c.write_bytes.new.cells refl refl
+    let moved = parts-append h c.write_bytes.new.cells _ (length c.args.text.now) (omega (arith, long)) (omega arith) refl in
+    laid-more _ h moved refl (omega arith) (omega arith) c.write_bytes.new.cells refl refl
     (rw (c.write_bytes.ensures, seen-bytes c.args.text.now) (no_call-bytes c.args.text.now))

@@ -16,13 +16,13 @@ more c =
 -- and as it is seen
 is_seen : (c : After-fill_cells) → map seen (more c) ≡ filled c.args.self.now.neutral c.args.self.now.active c.args.count (slice_range c.args.self.now.store c.args.a c.args.b)
 is_seen c =
-    let size = sizes c.self.inside c.self.invariant c.self.view_is in
+    let size = sizes c.self.invariant c.self.view_is in
     filled-seen c.self.inside c.self.invariant c.self.view_is c.args.count c.requires.listed c.args.a c.args.b c.requires.order (omega (arith, c.requires.within, size.store))
 
 pub returns-in-Some-clause-put : goal.returns-in-Some-clause-put
 returns-in-Some-clause-put c =
     let k = (goal.at.returns-in-Some-clause-put c).After-fill_cells in
-    let size = sizes c.self.inside c.self.invariant c.self.view_is in
+    let size = sizes c.self.invariant c.self.view_is in
     let put = c.in-Some.ensures.put in
     let long = sym (ap length (is_seen k)) ∙ length-map (more k) seen in
     (λ e. omega (arith, put.0, put.1, long, size.store, size.neutral, size.active, size.spare, size.room, c.self.invariant.fits, c.self.invariant.behind), λ fits. refl)
@@ -30,19 +30,16 @@ returns-in-Some-clause-put c =
 pub returns-in-None-clause-put : goal.returns-in-None-clause-put
 returns-in-None-clause-put c =
     let k = (goal.at.returns-in-None-clause-put c).After-fill_cells in
-    let size = sizes c.self.inside c.self.invariant c.self.view_is in
-    let put = c.in-None.ensures.put in
+    let size = sizes c.self.invariant c.self.view_is in
     let long = sym (ap length (is_seen k)) ∙ length-map (more k) seen in
-    (λ e. absurd (false≢true e), λ fits. absurd (omega (arith, fits, put, long, size.store, size.neutral, size.active, size.spare, size.room, c.self.invariant.fits, c.self.invariant.behind)))
+    (λ e. absurd (false≢true e), λ fits. absurd (omega (arith, fits, c.in-None.ensures.put, long, size.store, size.neutral, size.active, size.spare, size.room, c.self.invariant.fits, c.self.invariant.behind)))
 
 pub returns-in-Some-clause-last : goal.returns-in-Some-clause-last
 returns-in-Some-clause-last c =
     let k = (goal.at.returns-in-Some-clause-last c).After-fill_cells in
     let s = c.self.inside in
-    let h = c.self.invariant in
-    let fits = h.fits in
     let put = c.in-Some.ensures in
-    let moved = parts-more-to s h (more k) c.fill_cells.new.cells c.in-Some.end (s.end - s.active) put.put.0 (omega (arith, fits)) put.put.1 put.len put.put.2 put.behind in
+    let moved = parts-more-to c.self.invariant (more k) c.fill_cells.new.cells c.in-Some.end (s.end - s.active) put.put.0 (omega (arith, c.self.invariant.fits)) put.put.1 put.len put.put.2 put.behind in
     shown s.active moved
     ∙ simp map-append refl
     ∙ ap (λ (cells : List Cell). record (lists s) { neutral = (lists s).neutral ++ cells }) (is_seen k)
@@ -51,25 +48,21 @@ returns-in-Some-clause-last c =
 pub returns-in-None-clause-full : goal.returns-in-None-clause-full
 returns-in-None-clause-full c =
     let s = c.self.inside in
-    let h = c.self.invariant in
-    let fits = h.fits in
     let put = c.in-None.ensures in
-    shown s.active (parts-kept s h c.fill_cells.new.cells (s.end - s.active) (omega (arith, fits)) put.len put.front put.behind) ∙ c.self.view_is
+    shown s.active (parts-kept c.self.invariant c.fill_cells.new.cells (s.end - s.active) (omega (arith, c.self.invariant.fits)) put.len put.front put.behind) ∙ c.self.view_is
 
 pub invariant_of-self : goal.invariant_of-self
 invariant_of-self c =
     let k = (goal.at.invariant_of-self c).After-fill_cells in
-    let s = c.self.inside in
     let h = c.self.invariant in
     let fits = h.fits in
     let put = c.in-Some.ensures in
-    let moved = parts-more-to s h (more k) c.fill_cells.new.cells c.in-Some.end (s.end - s.active) put.put.0 (omega (arith, fits)) put.put.1 put.len put.put.2 put.behind in
-    laid-more s _ h moved refl (omega (arith, fits, put.put.0, put.put.1)) (omega (arith, h.behind)) (more k) refl refl (subst NoCall (sym (is_seen k)) c.requires.no_call)
+    let moved = parts-more-to h (more k) c.fill_cells.new.cells c.in-Some.end (c.self.inside.end - c.self.inside.active) put.put.0 (omega (arith, fits)) put.put.1 put.len put.put.2 put.behind in
+    laid-more _ h moved refl (omega (arith, fits, put.put.0, put.put.1)) (omega (arith, h.behind)) (more k) refl refl (subst NoCall (sym (is_seen k)) c.requires.no_call)
 
 pub invariant_of-self-in-None : goal.invariant_of-self-in-None
 invariant_of-self-in-None c =
-    let s = c.self.inside in
     let h = c.self.invariant in
     let fits = h.fits in
     let put = c.in-None.ensures in
-    laid s _ h (parts-kept s h c.fill_cells.new.cells (s.end - s.active) (omega (arith, fits)) put.len put.front put.behind) refl (omega (arith, fits)) (omega (arith, h.behind)) h.calls h.linked
+    laid _ h (parts-kept h c.fill_cells.new.cells (c.self.inside.end - c.self.inside.active) (omega (arith, fits)) put.len put.front put.behind) refl (omega (arith, fits)) (omega (arith, h.behind)) h.calls h.linked

@@ -5,24 +5,20 @@ use Rattle.trac_space.proofs.space.Space.put_short.Goals.{After-copy_behind}
 
 after : (c : After-copy_behind) → c.copy_behind.new.cells ≡ copy_within c.self.inside.cells.now c.args.a c.args.b (c.self.inside.store + c.self.inside.neutral)
 after c =
-    let s = c.self.inside in
-    let size = sizes s c.self.invariant c.self.view_is in
+    let size = sizes c.self.invariant c.self.view_is in
     let end : c.args.a + (c.args.b - c.args.a) ≡ c.args.b = omega arith in
-    rw end at (c.copy_behind.ensures.after (s.store + s.neutral) (omega arith))
+    rw end at (c.copy_behind.ensures.after (c.self.inside.store + c.self.inside.neutral) (omega arith))
 
 pub returns : goal.returns
 returns c =
-    let s = c.self.inside in
-    let h = c.self.invariant in
-    let size = sizes s h c.self.view_is in
-    let moved = parts-from_store s h c.args.a c.args.b _ c.requires.order (omega arith) (omega arith) (after (goal.at.returns c).After-copy_behind) in
+    let size = sizes c.self.invariant c.self.view_is in
+    let moved = parts-from_store c.self.invariant c.args.a c.args.b _ c.requires.order (omega arith) (omega arith) (after (goal.at.returns c).After-copy_behind) in
     rw (← c.self.view_is) (shown _ moved ∙ simp maps)
 
 -- no call mark stands in what is copied
 pub invariant_of-self : goal.invariant_of-self
 invariant_of-self c =
-    let s = c.self.inside in
     let h = c.self.invariant in
-    let size = sizes s h c.self.view_is in
-    let moved = parts-from_store s h c.args.a c.args.b _ c.requires.order (omega arith) (omega arith) (after (goal.at.invariant_of-self c).After-copy_behind) in
-    laid-more s _ h moved refl (omega arith) (omega arith) (slice_range (parts_of s).store c.args.a c.args.b) refl refl (simp maps at (rw (← c.self.view_is) at c.requires.no_call))
+    let size = sizes h c.self.view_is in
+    let moved = parts-from_store h c.args.a c.args.b _ c.requires.order (omega arith) (omega arith) (after (goal.at.invariant_of-self c).After-copy_behind) in
+    laid-more _ h moved refl (omega arith) (omega arith) (slice_range (parts_of c.self.inside).store c.args.a c.args.b) refl refl (simp maps at (rw (← c.self.view_is) at c.requires.no_call))

@@ -5,17 +5,14 @@ use Rattle.trac_space.proofs.space.Space.set_spare_at.Goals as goal
 
 pub returns : goal.returns
 returns c =
-    let s = c.self.inside in
-    let h = c.self.invariant in
-    let size = sizes s h c.self.view_is in
-    let moved = parts-write_spare s h c.args.i c.args.cell (omega arith) in
-    rw (← c.self.view_is) (shown _ moved ∙ seen-write_spare (parts_of s) s.active c.args.i c.args.cell)
+    let size = sizes c.self.invariant c.self.view_is in
+    let moved = parts-write_spare c.self.invariant c.args.i c.args.cell (omega arith) in
+    rw (← c.self.view_is) (shown _ moved ∙ seen-write_spare (parts_of c.self.inside) c.self.inside.active c.args.i c.args.cell)
 
 -- neutral is as it was
 pub invariant_of-self : goal.invariant_of-self
 invariant_of-self c =
-    let s = c.self.inside in
     let h = c.self.invariant in
-    let size = sizes s h c.self.view_is in
-    let moved = parts-write_spare s h c.args.i c.args.cell (omega arith) in
-    laid s _ h moved refl (omega arith) (omega arith) h.calls h.linked
+    let size = sizes h c.self.view_is in
+    let moved = parts-write_spare h c.args.i c.args.cell (omega arith) in
+    laid _ h moved refl (omega arith) (omega arith) h.calls h.linked

@@ -4,4 +4,4 @@ use Rattle.trac_space.proofs.space.Space.spare_cells.Goals as goal
 
 pub returns-clause-value : goal.returns-clause-value
 returns-clause-value c =
-    rw (← c.self.view_is) (ap (map seen) (spare-part c.self.inside c.self.invariant) ∙ simp maps)
+    rw (← c.self.view_is) (ap (map seen) (spare-part c.self.invariant) ∙ simp maps)

@@ -4,19 +4,16 @@ use Rattle.trac_space.proofs.space.Space.write_part.Goals as goal
 
 pub returns : goal.returns
 returns c =
-    let s = c.self.inside in
-    let h = c.self.invariant in
-    let size = sizes s h c.self.view_is in
-    let end : s.store + c.args.a + (c.args.b - c.args.a) ≡ s.store + c.args.b = omega arith in
-    let moved = parts-over s h c.args.at c.args.a c.args.b _ c.requires.order (omega arith) (omega arith) (rw end at c.copy_before.ensures.after) in
+    let size = sizes c.self.invariant c.self.view_is in
+    let end : c.self.inside.store + c.args.a + (c.args.b - c.args.a) ≡ c.self.inside.store + c.args.b = omega arith in
+    let moved = parts-over c.self.invariant c.args.at c.args.a c.args.b _ c.requires.order (omega arith) (omega arith) (rw end at c.copy_before.ensures.after) in
     rw (← c.self.view_is) (shown _ moved ∙ simp maps)
 
 -- neutral is as it was
 pub invariant_of-self : goal.invariant_of-self
 invariant_of-self c =
-    let s = c.self.inside in
     let h = c.self.invariant in
-    let size = sizes s h c.self.view_is in
-    let end : s.store + c.args.a + (c.args.b - c.args.a) ≡ s.store + c.args.b = omega arith in
-    let moved = parts-over s h c.args.at c.args.a c.args.b _ c.requires.order (omega arith) (omega arith) (rw end at c.copy_before.ensures.after) in
-    laid s _ h moved refl (omega arith) (omega arith) h.calls h.linked
+    let size = sizes h c.self.view_is in
+    let end : c.self.inside.store + c.args.a + (c.args.b - c.args.a) ≡ c.self.inside.store + c.args.b = omega arith in
+    let moved = parts-over h c.args.at c.args.a c.args.b _ c.requires.order (omega arith) (omega arith) (rw end at c.copy_before.ensures.after) in
+    laid _ h moved refl (omega arith) (omega arith) h.calls h.linked
