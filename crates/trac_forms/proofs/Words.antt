@@ -31,13 +31,13 @@ pub use Rattle.trac_store.proofs.FlatLemmas.{Byte-character_of, character_of-Byt
 pub use Rattle.trac_store.proofs.FormTables.{front-cells, index-set}
 pub use Rattle.trac_store.proofs.Gaps.{bytes-seen}
 pub use Rattle.trac_store.proofs.HeadCells.{number-at}
-pub use Rattle.trac_store.proofs.Indexed.{index-kept, index-pointer, index-replaced, way-kept}
+pub use Rattle.trac_store.proofs.IndexSearch.{index-kept, index-pointer, index-replaced, way-kept}
 pub use Rattle.trac_store.proofs.Items.{item-stored}
 pub use Rattle.trac_store.proofs.Places.{Stands, repointed, stands, start_of-set}
 pub use Rattle.trac_store.proofs.Removals.{IsStore-filter, cells-filter, length-marks, no-mark, own-names, unmarked-marks}
 pub use Rattle.trac_store.proofs.Searches.{begins-within, body_len, characters-agree, first-agrees, gaps-agree, last-agrees, texts-agree}
 pub use Rattle.trac_store.proofs.Segments.{flat-segment, regapped, written}
-pub use Rattle.trac_store.proofs.Stores.{IsStore-defined, IsStore-remove, IsStore-set, cells-remove, cells-set, cells-without, defined-last, pointer-within}
+pub use Rattle.trac_store.proofs.DistinctForms.{IsStore-defined, IsStore-remove, IsStore-set, cells-remove, cells-set, cells-without, defined-last, pointer-within}
 pub use Rattle.trac_store.specs.Arguments.{texts_between}
 pub use Rattle.trac_store.specs.FlatForms.{flat_form, flat_forms, flat_item}
 pub use Rattle.trac_store.specs.Forms.{body_at, form_at, name_at}

@@ -18,8 +18,8 @@ pub use Rattle.std.specs.Int.{int_rem_euclid}
 pub use Rattle.std.specs.List.{list_any, prefix_len, remove, suffix_len}
 pub use Rattle.std.specs.Prelude.{IfSome, IsSome, IsTrue, bytes_eq, filter, flat_map, if◌then◌else◌, int_lt, nat_lt, not, option_map, slice_get, take_while, unsigned_abs, ◌+ℤ◌, ◌<ℤ◌}
 pub use Rattle.trac_forms.proofs.Copies.{characters-between}
-pub use Rattle.trac_forms.proofs.Parted.{before_comma-within, found-comma, parts-first, parts-none}
-pub use Rattle.trac_forms.proofs.Stores.{changed-at, form_named-at, form_named-none, without-at, without-none}
+pub use Rattle.trac_forms.proofs.ArgumentParts.{before_comma-within, found-comma, parts-first, parts-none}
+pub use Rattle.trac_forms.proofs.DistinctForms.{changed-at, form_named-at, form_named-none, without-at, without-none}
 pub use Rattle.trac_forms.specs.Arguments.{AreParted, before_comma, filled_body, parts_between, texts_between}
 pub use Rattle.trac_forms.specs.Contents.{AreTextParts, Contents, IsNamedAt, IsSound, IsStringCell, IsTextPart, body_at, form_at, name_at, part_text, part_texts, pointer_at, used}
 pub use Rattle.trac_forms.specs.Loading.{AreCharacters, IsLoaded, called_part}

@@ -27,7 +27,7 @@ module _ (neutral list : List Cell) (count : ℕ) where
   filled-run (cell ∷ cells) (suc n) h = absurd (All-head IsByte cell (take n cells) h)
 
 -- the cells up to a place stand, filled, and these are left
-pub record Along (old now neutral list : List Cell) (count from stop first at to last : ℕ) : Type 0 where
+pub record FilledSoFar (old now neutral list : List Cell) (count from stop first at to last : ℕ) : Type 0 where
   pub done : List Cell
   pub order : at ≤ stop
   pub within : to ≤ last
@@ -38,7 +38,7 @@ pub record Along (old now neutral list : List Cell) (count from stop first at to
   pub behind : drop last now ≡ drop last old
 
 module _ (old neutral list : List Cell) (count from stop first last : ℕ) (before : stop ≤ first) (inside : last ≤ length old) where
-  pub along-start : from ≤ stop → first ≤ last → Along old old neutral list count from stop first from first last
+  pub along-start : from ≤ stop → first ≤ last → FilledSoFar old old neutral list count from stop first from first last
   along-start order room = record {
     done = [];
     order = order;
@@ -50,7 +50,7 @@ module _ (old neutral list : List Cell) (count from stop first last : ℕ) (befo
     behind = refl;
   }
 
-  module _ (now : List Cell) (at to : ℕ) (h : Along old now neutral list count from stop first at to last) where
+  module _ (now : List Cell) (at to : ℕ) (h : FilledSoFar old now neutral list count from stop first at to last) where
     pub along-front : take first now ≡ take first old
     along-front =
         let long = h.long in
@@ -73,7 +73,7 @@ module _ (old neutral list : List Cell) (count from stop first last : ℕ) (befo
     lists-now base bound within lists = rw (same-part base bound within, h.behind) lists
 
     -- more cells that stand for what is next
-    along-more : (new more : List Cell) (on n : ℕ) → on ≤ stop → to + n ≤ last → length more ≡ n → length new ≡ length now → take (to + n) new ≡ take to now ++ more → drop last new ≡ drop last now → filled neutral list count (slice_range old at stop) ≡ more ++ filled neutral list count (slice_range old on stop) → Along old new neutral list count from stop first on (to + n) last
+    along-more : (new more : List Cell) (on n : ℕ) → on ≤ stop → to + n ≤ last → length more ≡ n → length new ≡ length now → take (to + n) new ≡ take to now ++ more → drop last new ≡ drop last now → filled neutral list count (slice_range old at stop) ≡ more ++ filled neutral list count (slice_range old on stop) → FilledSoFar old new neutral list count from stop first on (to + n) last
     along-more new more on n order room is_long same front behind next = record {
       done = h.done ++ more;
       order = order;
@@ -85,7 +85,7 @@ module _ (old neutral list : List Cell) (count from stop first last : ℕ) (befo
       behind = behind ∙ h.behind;
     }
 
-    pub along-run : (new : List Cell) (r : ℕ) → at + r ≤ stop → to + r ≤ last → All IsByte (slice_range old at (at + r)) → length new ≡ length now → take (to + r) new ≡ take to now ++ slice_range old at (at + r) → drop last new ≡ drop last now → Along old new neutral list count from stop first (at + r) (to + r) last
+    pub along-run : (new : List Cell) (r : ℕ) → at + r ≤ stop → to + r ≤ last → All IsByte (slice_range old at (at + r)) → length new ≡ length now → take (to + r) new ≡ take to now ++ slice_range old at (at + r) → drop last new ≡ drop last now → FilledSoFar old new neutral list count from stop first (at + r) (to + r) last
     along-run new r order room bytes same front behind =
         let whole = slice_range old at stop in
         let run = slice_range old at (at + r) in
@@ -105,7 +105,7 @@ module _ (old neutral list : List Cell) (count from stop first last : ℕ) (befo
           let long = h.long in
           ap (λ k. take k (drop at old)) split ∙ ap (take (suc (stop - (at + 1)))) (drop_more old at Comma (omega (arith, less, before, inside, within, long)))
 
-      pub along-cell : (new : List Cell) (n : ℕ) → to + n ≤ last → length (filling neutral list count (get_or old at Comma)) ≡ n → length new ≡ length now → take (to + n) new ≡ take to now ++ filling neutral list count (get_or old at Comma) → drop last new ≡ drop last now → Along old new neutral list count from stop first (at + 1) (to + n) last
+      pub along-cell : (new : List Cell) (n : ℕ) → to + n ≤ last → length (filling neutral list count (get_or old at Comma)) ≡ n → length new ≡ length now → take (to + n) new ≡ take to now ++ filling neutral list count (get_or old at Comma) → drop last new ≡ drop last now → FilledSoFar old new neutral list count from stop first (at + 1) (to + n) last
       along-cell new n room size same front behind =
           along-more new (filling neutral list count (get_or old at Comma)) (at + 1) n (omega (arith, less)) room size same front behind (ap (filled neutral list count) next-cell)
 
@@ -117,7 +117,7 @@ module _ (old neutral list : List Cell) (count from stop first last : ℕ) (befo
           omega (arith, full, here, next, h.long)
 
     -- a block is copied, of which so many cells are characters
-    pub block-run : (new : List Cell) (r : ℕ) → at + 8 ≤ to → to + 8 ≤ last → new ≡ copy_within now at (at + 8) to → length new ≡ length now → r ≤ 8 → at + r ≤ stop → All IsByte (take r (drop at new)) → Along old new neutral list count from stop first (at + r) (to + r) last
+    pub block-run : (new : List Cell) (r : ℕ) → at + 8 ≤ to → to + 8 ≤ last → new ≡ copy_within now at (at + 8) to → length new ≡ length now → r ≤ 8 → at + r ≤ stop → All IsByte (take r (drop at new)) → FilledSoFar old new neutral list count from stop first (at + r) (to + r) last
     block-run new r apart room is same few order bytes =
         let within : to + 8 ≤ length now = omega (arith, room, inside, h.size) in
         let source : take r (drop at new) ≡ slice_range old at (at + r) = copied-source now new at to 8 apart within is at r (omega (arith, few, apart)) ∙ same-part at (at + r) (omega (arith, order, before)) in
@@ -125,7 +125,7 @@ module _ (old neutral list : List Cell) (count from stop first last : ℕ) (befo
         along-run new r order (omega (arith, few, room)) (subst (All IsByte) source bytes) same front (copied-behind now new at to 8 apart within is last room)
 
     -- the cells that fill the next one are copied
-    pub cell-put : (new : List Cell) (start n : ℕ) → at < stop → start + n ≤ to → to + n ≤ last → slice_range now start (start + n) ≡ filling neutral list count (get_or old at Comma) → new ≡ copy_within now start (start + n) to → length new ≡ length now → Along old new neutral list count from stop first (at + 1) (to + n) last
+    pub cell-put : (new : List Cell) (start n : ℕ) → at < stop → start + n ≤ to → to + n ≤ last → slice_range now start (start + n) ≡ filling neutral list count (get_or old at Comma) → new ≡ copy_within now start (start + n) to → length new ≡ length now → FilledSoFar old new neutral list count from stop first (at + 1) (to + n) last
     cell-put new start n less apart room are is same =
         let within : to + n ≤ length now = omega (arith, room, inside, h.size) in
         let size : length (filling neutral list count (get_or old at Comma)) ≡ n = omega (arith, ap length are, length-between now start (start + n) (omega (arith, apart, within))) in

@@ -5,8 +5,8 @@ use Rattle.trac_store.proofs.Words.{used, HasWay, flat_text, text_of_cells, char
 use Rattle.trac_store.proofs.Words.{item_of, forms_in, start_of, head_at, begins, places, rules, same_lists}
 use Rattle.std.proofs.Math.ListN.{get_or-map as get_or-map-same}
 use Rattle.trac_store.proofs.Places.{stands}
-use Rattle.trac_store.proofs.Stores.{pointer-within}
-use Rattle.trac_store.proofs.Parted.{parts-longer}
+use Rattle.trac_store.proofs.DistinctForms.{pointer-within}
+use Rattle.trac_store.proofs.ArgumentParts.{parts-longer}
 use Rattle.trac_store.proofs.FlatLemmas.{drop-part, part_of_longer, Byte-character_of, item_of-cell, length-part_text}
 
 -- the text of cells that stand for items

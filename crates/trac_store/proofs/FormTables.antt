@@ -4,7 +4,7 @@ use Rattle.trac_store.proofs.Words.{take-take, length-take-le, length-set, lengt
 use Rattle.trac_store.proofs.Words.{home_in, start_in, buried, forward, earlier, started, IsReached, IsIndexBut, IsIndex, IsOpenFor, with_entry, Bool, take-set-le}
 use Rattle.trac_store.proofs.TableChanges.{index-put, index-bury, index-begin, index-as, index-renamed, reached-within, head-same}
 use Rattle.trac_store.proofs.FlatLemmas.{length-flat}
-use Rattle.trac_store.proofs.Indexed.{name-set}
+use Rattle.trac_store.proofs.IndexSearch.{name-set}
 
 pub if-below : {A : Type 0} (i g : ℕ) (a b : A) → i < g → (if nat_lt i g then a else b) ≡ a
 if-below i g a b less = ap (λ t. if t then a else b) (lt-ltb i g less)

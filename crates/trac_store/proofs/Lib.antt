@@ -6,14 +6,14 @@ pub mod FlatLemmas
 pub mod FormTables
 pub mod Gaps
 pub mod HeadCells
-pub mod Indexed
+pub mod IndexSearch
 pub mod Items
-pub mod Parted
+pub mod ArgumentParts
 pub mod Places
 pub mod Removals
 pub mod Searches
 pub mod Segments
-pub mod Stores
+pub mod DistinctForms
 pub mod Sweeping
 pub mod TableChanges
 pub mod TextBorders

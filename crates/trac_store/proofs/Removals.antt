@@ -4,9 +4,9 @@ use Rattle.trac_store.proofs.Words.{All-tail, Text, Form, is_named, NoneNamed, I
 use Rattle.trac_store.proofs.Words.{is_among, without_all, mark, is_marked, marked, marked_if, with_marks, unmarked, HaveOwnNames, IsFormed, IsMarkedFrom, begins}
 use Rattle.trac_store.proofs.FlatLemmas.{forms_in-flat, length-flat_form}
 use Rattle.trac_store.proofs.Places.{stands, repointed, start_of-set}
-use Rattle.trac_store.proofs.Parted.{parts-first, part-fits}
-use Rattle.trac_store.proofs.Indexed.{index-pointer, same_start}
-use Rattle.trac_store.proofs.Stores.{cells-set, same_name, other_name, earlier_differs, NoneNamed-set}
+use Rattle.trac_store.proofs.ArgumentParts.{parts-first, part-fits}
+use Rattle.trac_store.proofs.IndexSearch.{index-pointer, same_start}
+use Rattle.trac_store.proofs.DistinctForms.{cells-set, same_name, other_name, earlier_differs, NoneNamed-set}
 
 -- ---- distinct names
 

@@ -1,15 +1,15 @@
 use Rattle.trac_space.proofs.Words.{◌≡◌, ◌+◌, ◌-◌, ◌≤◌, ◌<◌, ◌∙◌, All, take, drop, slice_range, slice_index_or, sym, ap, subst, arith, take-take, get_or_default, All-take, Byte, Comma, IsByte, is_byte_cell, filling, listed_part, ordinal_of}
-use Rattle.trac_space.proofs.Filled.{Along, along-start, along-front, along-end, along-rest, lists-now, same-part, same-cell, block-run, cell-put, cell-full, filling-gap}
+use Rattle.trac_space.proofs.Filled.{FilledSoFar, along-start, along-front, along-end, along-rest, lists-now, same-part, same-cell, block-run, cell-put, cell-full, filling-gap}
 use Rattle.trac_space.proofs.filling.fill_cells.Goals as goal
 use Rattle.trac_space.proofs.filling.fill_cells.Goals.{After-characters_in_block-run, After-part_of-start}
 
 -- a block is copied, of which so many cells are characters
-ran : (c : After-characters_in_block-run) → c.loop-to.at + c.characters_in_block-run.result ≤ c.args.stop → Along c.args.cells.now c.copy_block.new.cells (slice_range c.args.cells.now c.args.parts.base c.args.parts.bound) (drop c.args.parts.list c.args.cells.now) c.args.parts.count c.args.from c.args.stop c.args.to (c.loop-to.at + c.characters_in_block-run.result) (c.loop-to.to + c.characters_in_block-run.result) c.args.parts.list
+ran : (c : After-characters_in_block-run) → c.loop-to.at + c.characters_in_block-run.result ≤ c.args.stop → FilledSoFar c.args.cells.now c.copy_block.new.cells (slice_range c.args.cells.now c.args.parts.base c.args.parts.bound) (drop c.args.parts.list c.args.cells.now) c.args.parts.count c.args.from c.args.stop c.args.to (c.loop-to.at + c.characters_in_block-run.result) (c.loop-to.to + c.characters_in_block-run.result) c.args.parts.list
 ran c order =
     block-run c.args.cells.now _ _ _ c.args.from c.args.stop c.args.to c.args.parts.list (omega arith) c.requires.inside c.loop-to.cells c.loop-to.at c.loop-to.to c.loop-to.invariant c.copy_block.new.cells c.characters_in_block-run.result (omega (arith, c.if-distance-ge-BLOCK.true, c.distance.ensures)) (omega (arith, c.loop-to-test.true)) (c.copy_block.ensures.after _ (sym c.distance-in-loop-to.ensures)) c.copy_block.ensures.len c.characters_in_block-run.ensures.few order c.characters_in_block-run.ensures.bytes
 
 -- where they end the cells, they are all that is left
-ended : (c : After-characters_in_block-run) → c.args.stop - c.loop-to.at ≤ c.characters_in_block-run.result → Along c.args.cells.now c.copy_block.new.cells (slice_range c.args.cells.now c.args.parts.base c.args.parts.bound) (drop c.args.parts.list c.args.cells.now) c.args.parts.count c.args.from c.args.stop c.args.to (c.loop-to.at + (c.args.stop - c.loop-to.at)) (c.loop-to.to + (c.args.stop - c.loop-to.at)) c.args.parts.list
+ended : (c : After-characters_in_block-run) → c.args.stop - c.loop-to.at ≤ c.characters_in_block-run.result → FilledSoFar c.args.cells.now c.copy_block.new.cells (slice_range c.args.cells.now c.args.parts.base c.args.parts.bound) (drop c.args.parts.list c.args.cells.now) c.args.parts.count c.args.from c.args.stop c.args.to (c.loop-to.at + (c.args.stop - c.loop-to.at)) (c.loop-to.to + (c.args.stop - c.loop-to.at)) c.args.parts.list
 ended c all =
     let n = c.args.stop - c.loop-to.at in
     let order = c.loop-to.invariant.order in
@@ -39,7 +39,7 @@ part_of-start-requires-clause-listed c =
     lists-now c.args.cells.now _ _ _ c.args.from c.args.stop c.args.to c.args.parts.list (omega arith) c.requires.inside c.copy_block.new.cells _ _ (ran k (omega (arith, c.if-gap-stop.false))) c.args.parts.base c.args.parts.bound c.requires.bound c.requires.listed
 
 -- the cells that are to be put are those that fill the gap behind the run
-are : (c : After-part_of-start) → (k : After-characters_in_block-run) → Along c.args.cells.now c.copy_block.new.cells (slice_range c.args.cells.now c.args.parts.base c.args.parts.bound) (drop c.args.parts.list c.args.cells.now) c.args.parts.count c.args.from c.args.stop c.args.to (c.loop-to.at + c.characters_in_block-run.result) (c.loop-to.to + c.characters_in_block-run.result) c.args.parts.list → slice_range c.copy_block.new.cells c.part_of-start.result.0 (c.part_of-start.result.0 + c.part_of-start.result.1) ≡ filling (slice_range c.args.cells.now c.args.parts.base c.args.parts.bound) (drop c.args.parts.list c.args.cells.now) c.args.parts.count (slice_index_or c.args.cells.now (c.loop-to.at + c.characters_in_block-run.result) Comma)
+are : (c : After-part_of-start) → (k : After-characters_in_block-run) → FilledSoFar c.args.cells.now c.copy_block.new.cells (slice_range c.args.cells.now c.args.parts.base c.args.parts.bound) (drop c.args.parts.list c.args.cells.now) c.args.parts.count c.args.from c.args.stop c.args.to (c.loop-to.at + c.characters_in_block-run.result) (c.loop-to.to + c.characters_in_block-run.result) c.args.parts.list → slice_range c.copy_block.new.cells c.part_of-start.result.0 (c.part_of-start.result.0 + c.part_of-start.result.1) ≡ filling (slice_range c.args.cells.now c.args.parts.base c.args.parts.bound) (drop c.args.parts.list c.args.cells.now) c.args.parts.count (slice_index_or c.args.cells.now (c.loop-to.at + c.characters_in_block-run.result) Comma)
 are c k i =
     let old = c.args.cells.now in
     let now = c.copy_block.new.cells in

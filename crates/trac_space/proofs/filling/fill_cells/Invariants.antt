@@ -1,11 +1,11 @@
 use Rattle.trac_space.proofs.Words.{◌-◌, drop, slice_range}
-use Rattle.trac_space.proofs.Filled.{Along}
+use Rattle.trac_space.proofs.Filled.{FilledSoFar}
 use Rattle.trac_space.proofs.filling.fill_cells.Given as goal
 
 -- the cells up to a place stand, filled
 abbrev pub invariant-loop-to : goal.invariant-loop-to
 invariant-loop-to l =
-    Along l.fn.cells l.cells (slice_range l.fn.cells l.parts.base l.parts.bound) (drop l.parts.list l.fn.cells) l.parts.count l.from l.stop l.fn.to l.at l.to l.parts.list
+    FilledSoFar l.fn.cells l.cells (slice_range l.fn.cells l.parts.base l.parts.bound) (drop l.parts.list l.fn.cells) l.parts.count l.from l.stop l.fn.to l.at l.to l.parts.list
 
 -- the cells that are left
 abbrev pub decreases-loop-to : goal.decreases-loop-to

@@ -1,5 +1,5 @@
 use Rattle.trac_store.proofs.Words.{Byte}
-use Rattle.trac_store.proofs.Parted.{first-four}
+use Rattle.trac_store.proofs.ArgumentParts.{first-four}
 use Rattle.trac_store.proofs.arguments.before_comma.Goals as goal
 
 pub before_far_comma-requires-clause-none : goal.before_far_comma-requires-clause-none

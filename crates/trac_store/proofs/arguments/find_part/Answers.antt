@@ -1,5 +1,5 @@
 use Rattle.trac_store.proofs.Words.{◌≡◌, ℕ, suc, ◌+◌, ◌-◌, ◌<◌, List, ◌∷◌, drop, get_or, ap, sym, ◌∙◌, arith, drop-drop, get_or-drop, parts_between, numbered_part}
-use Rattle.trac_store.proofs.Parted.{found-comma, parts-first, shown-fits}
+use Rattle.trac_store.proofs.ArgumentParts.{found-comma, parts-first, shown-fits}
 use Rattle.trac_store.proofs.arguments.find_part.Goals as goal
 
 -- the first behind so many

@@ -1,5 +1,5 @@
 use Rattle.trac_store.proofs.Words.{◌≡◌, ◌+◌, ◌≤◌, length, ap, arith, Lists}
-use Rattle.trac_store.proofs.Parted.{lists-more, found-comma, shown-fits}
+use Rattle.trac_store.proofs.ArgumentParts.{lists-more, found-comma, shown-fits}
 use Rattle.trac_store.proofs.arguments.list_parts.Goals as goal
 
 pub overflow_add-from : goal.overflow_add-from

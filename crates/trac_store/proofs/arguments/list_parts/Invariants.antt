@@ -1,5 +1,5 @@
 use Rattle.trac_store.proofs.Words.{◌+◌, ◌-◌}
-use Rattle.trac_store.proofs.Parted.{ListsUpTo}
+use Rattle.trac_store.proofs.ArgumentParts.{ListsUpTo}
 use Rattle.trac_store.proofs.arguments.list_parts.Given as goal
 
 -- the arguments up to a place are listed

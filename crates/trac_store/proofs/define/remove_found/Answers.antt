@@ -1,5 +1,5 @@
 use Rattle.trac_store.proofs.Words.{arith, length-remove, part_text, forms_in}
-use Rattle.trac_store.proofs.Stores.{without-at, without-none}
+use Rattle.trac_store.proofs.DistinctForms.{without-at, without-none}
 use Rattle.trac_store.proofs.define.remove_found.Goals as goal
 
 pub returns-in-Some-clause-gone : goal.returns-in-Some-clause-gone

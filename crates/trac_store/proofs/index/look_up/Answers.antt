@@ -3,7 +3,7 @@ use Rattle.trac_store.proofs.TableChanges.{slot-within}
 use Rattle.trac_store.proofs.Finding.{bytes-of-seen}
 use Rattle.trac_store.proofs.Gaps.{bytes-seen}
 use Rattle.trac_store.proofs.HeadCells.{seen-head}
-use Rattle.trac_store.proofs.Indexed.{none-at_blank, none-at_end, slots_len, cell-seen, held-at}
+use Rattle.trac_store.proofs.IndexSearch.{none-at_blank, none-at_end, slots_len, cell-seen, held-at}
 use Rattle.trac_store.proofs.index.look_up.Goals as goal
 use Rattle.trac_store.proofs.index.look_up.Goals.{in-Head+in_default-start_if_named, in_default}
 

@@ -3,7 +3,7 @@ use Rattle.trac_store.proofs.Words.{head_number, cell_at, IsIndex}
 use Rattle.trac_store.proofs.Finding.{begins_at, number_is, bytes-flat}
 use Rattle.trac_store.proofs.HeadCells.{is_head, number-seen}
 use Rattle.trac_store.proofs.FlatLemmas.{Byte-character_of, character_of-Byte}
-use Rattle.trac_store.proofs.Indexed.{slots_len}
+use Rattle.trac_store.proofs.IndexSearch.{slots_len}
 use Rattle.trac_store.proofs.index.start_if_named.Goals as goal
 use Rattle.trac_store.proofs.index.start_if_named.Goals.{After-number-start}
 

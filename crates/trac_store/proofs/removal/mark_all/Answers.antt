@@ -1,5 +1,5 @@
 use Rattle.trac_store.proofs.Words.{◌≡◌, ◌+◌, slice_range, sym, ap, ◌∙◌, subst, arith, Lists, before_comma, texts_between, AreParted, IsTextPart, part_texts, flat_forms, with_marks, forms_in}
-use Rattle.trac_store.proofs.Parted.{found-comma, parts-none, shown-fits}
+use Rattle.trac_store.proofs.ArgumentParts.{found-comma, parts-none, shown-fits}
 use Rattle.trac_store.proofs.Removals.{marks-none, first-part, left-parted, marked-first, marked-alone}
 use Rattle.trac_store.proofs.removal.mark_all.Goals as goal
 

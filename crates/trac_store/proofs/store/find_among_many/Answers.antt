@@ -1,5 +1,5 @@
 use Rattle.trac_store.proofs.Words.{map, seen, text_of_cells, forms_in}
-use Rattle.trac_store.proofs.Stores.{found-round}
+use Rattle.trac_store.proofs.DistinctForms.{found-round}
 use Rattle.trac_store.proofs.store.find_among_many.Goals as goal
 
 pub returns : goal.returns

@@ -1,7 +1,7 @@
 use Rattle.trac_store.proofs.Words.{◌≡◌, ◌+◌, [], length, map, get_or, ap, ◌∙◌, arith, Byte, seen, forms_in, form_at, nil_from_length}
 use Rattle.trac_store.proofs.Finding.{Begins, begins_at, number_is}
 use Rattle.trac_store.proofs.HeadCells.{is_head}
-use Rattle.trac_store.proofs.Stores.{NoneNamed-more}
+use Rattle.trac_store.proofs.DistinctForms.{NoneNamed-more}
 use Rattle.trac_store.proofs.store.find_null.Goals as goal
 use Rattle.trac_store.proofs.store.find_null.Goals.{In-loop-k}
 

@@ -2,7 +2,7 @@ use Rattle.trac_store.proofs.Words.{ℕ, ◌≡◌, ◌+◌, ◌-◌, length, ma
 use Rattle.trac_store.proofs.Finding.{Begins, begins_at, number_is, bytes-flat}
 use Rattle.trac_store.proofs.HeadCells.{is_head}
 use Rattle.trac_store.proofs.FlatLemmas.{Byte-character_of, character_of-Byte}
-use Rattle.trac_store.proofs.Stores.{NoneNamed-further}
+use Rattle.trac_store.proofs.DistinctForms.{NoneNamed-further}
 use Rattle.trac_store.proofs.store.search_some.Goals as goal
 use Rattle.trac_store.proofs.store.search_some.Goals.{In-loop-left}
 

@@ -1,5 +1,5 @@
 use Rattle.trac_core.proofs.Words.{length, ap, sym, ◌∙◌, show_form, Contents, form_at, part_text, display}
-use Rattle.trac_forms.proofs.Stores.{form_named-at, form_named-none}
+use Rattle.trac_forms.proofs.DistinctForms.{form_named-at, form_named-none}
 use Rattle.trac_core.proofs.machine.printing.named_len.Goals as goal
 
 pub returns-in-Some-clause-length : goal.returns-in-Some-clause-length

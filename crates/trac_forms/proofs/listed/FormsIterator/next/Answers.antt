@@ -1,5 +1,5 @@
 use Rattle.trac_forms.proofs.Words.{ap, length, arith}
-use Rattle.trac_forms.proofs.Listing.{first-listed}
+use Rattle.trac_forms.proofs.ListedForms.{first-listed}
 use Rattle.trac_forms.proofs.listed.FormsIterator.next.Goals as goal
 
 pub invariant_of-self : goal.invariant_of-self

@@ -1,5 +1,5 @@
 use Rattle.trac_forms.proofs.Words.{arith, forms_in}
-use Rattle.trac_forms.proofs.Listing.{stored-form, stored-is_form}
+use Rattle.trac_forms.proofs.ListedForms.{stored-form, stored-is_form}
 use Rattle.trac_forms.proofs.Strings.{known}
 use Rattle.trac_forms.proofs.work.Work.stored.Goals as goal
 
