@@ -127,9 +127,10 @@ class Libraries(unittest.TestCase):
         with open(os.path.join(tools, 'rt'), 'w', encoding='utf-8') as file:
             file.write('#!/bin/sh\necho /nowhere/page.md\n')
         os.chmod(os.path.join(tools, 'rt'), 0o755)
-        status, said = self.call('low', 'env', f'PATH={tools}:{os.environ["PATH"]}', 'python3',
-                                 LIBRARIES, 'build', '1')
-        self.assertEqual((status, said[:14]), (69, 'libraries.py: '))
+        path = f'PATH={tools}:{os.environ["PATH"]}'
+        for words in (['build', '1'], ['shares']):
+            status, said = self.call('low', 'env', path, 'python3', LIBRARIES, *words)
+            self.assertEqual((status, said[:14]), (69, 'libraries.py: '))
 
 
 if __name__ == '__main__':
