@@ -27,12 +27,14 @@ def kit():
         'rt', os.path.join(os.path.dirname(page), 'bin', 'rt'))
     module = importlib.util.module_from_spec(importlib.util.spec_from_loader('rt', loader))
     loader.exec_module(module)
+    module.shares = hasattr(module, 'take_rlib')
+    if not module.shares:
+        # In place of what hands libraries on from one checkout of the machine to another.
+        module.in_turn = lambda library: contextlib.nullcontext()
+        module.take_rlib = lambda library: False
+        module.work_for = lambda library: library.has_kept()
+        module.offer = lambda library, stamp: None
     return module
-
-
-def shares(rt):
-    """Whether the kit hands libraries on from one checkout of the machine to another."""
-    return hasattr(rt, 'take_rlib')
 
 
 def build(rt, jobs):
@@ -41,15 +43,14 @@ def build(rt, jobs):
     library.held = lib.lock([*library.below(), library])
     if not all(below.is_built() for below in library.below()):
         return UNAVAILABLE
-    with rt.in_turn(library) if shares(rt) else contextlib.nullcontext():
+    with rt.in_turn(library):
         stamp, status = library.stamp(), 0
-        if not library.is_built() and not (shares(rt) and rt.take_rlib(library)):
-            if rt.work_for(library) if shares(rt) else library.has_kept():
+        if not library.is_built() and not rt.take_rlib(library):
+            if rt.work_for(library):
                 return UNAVAILABLE
             lib.libraries_keep = lambda: False
             status = library.build_rlib(['--jobs', jobs, '--statements'], anew=False)
-        if shares(rt):
-            rt.offer(library, None if status else stamp)
+        rt.offer(library, None if status else stamp)
     return status
 
 
@@ -71,12 +72,13 @@ def take(rt, since):
     return 0
 
 
+def shares(rt):
+    return 0 if rt.shares else 1
+
+
 def main(verb, *words):
     try:
-        rt = kit()
-        if verb == 'shares':
-            return 0 if shares(rt) else 1
-        return {'build': build, 'take': take}[verb](rt, *words)
+        return {'build': build, 'take': take, 'shares': shares}[verb](kit(), *words)
     # whatever another kit's module answers
     except Exception as error:
         print(f'libraries.py: {error}', file=sys.stderr)
