@@ -1,5 +1,7 @@
 -- The definition gives the cases of conformance/functions.cases, from which this file is written.
-use Rattle.trac_laws.proofs.Words.{◌≡◌, List, [], ◌∷◌, refl, codes, map, Halted, InputEnded}
+use Rattle.std.proofs.Common.{◌≡◌, List, [], ◌∷◌, refl}
+use Rattle.std.specs.Prelude.{codes, map}
+use Rattle.trac_language.specs.declared.fate.Fate.TheVariants.{Halted, InputEnded}
 use Rattle.trac_laws.proofs.Cases.{Case, case, computing, ended, ran}
 
 abbrev cases : List Case
