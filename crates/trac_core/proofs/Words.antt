@@ -20,7 +20,7 @@ pub use Rattle.trac_core.specs.StepsInRow.{Advances, AsksFor, IsLayout, IsOrdina
 pub use Rattle.trac_core.specs.declared.machine.Report.{Report}
 pub use Rattle.trac_devices.specs.Devices.{Breaks, Prints, Sent, Stream, Streams, has_byte}
 pub use Rattle.trac_devices.specs.HeldBytes.{Reads}
-pub use Rattle.trac_forms.specs.Contents.{Contents, IsSound, IsTextPart, form_at, part_text, used}
+pub use Rattle.trac_forms.specs.Contents.{Contents, IsSound, form_at, part_text, used}
 pub use Rattle.trac_functions.specs.Calls.{IsDefined, IsPlaced, IsValue, Makes, texts, texts_from, world}
 pub use Rattle.trac_functions.specs.Flat.{Neutral, arguments_at, is_active_mode, memory_of, memory_with, mode_at, mode_of, neutral_of, no_neutral, texts_of, with_cell, with_cells}
 pub use Rattle.trac_functions.specs.declared.arguments.Made.TheVariants.{Defined, Full, Over, Placed, Value}
@@ -33,7 +33,7 @@ pub use Rattle.trac_language.specs.Rule.{AddCharacter, AddProtected, BeginArgume
 unfoldable pub use Rattle.trac_language.specs.Rule.{rule}
 pub use Rattle.trac_language.specs.Run.{Run}
 unfoldable pub use Rattle.trac_language.specs.Run.{run}
-pub use Rattle.trac_language.specs.State.{Input, Memory, OpenCall, State, add, argument, arguments, begin_argument, begin_call, first, size}
+pub use Rattle.trac_language.specs.State.{Input, Memory, OpenCall, State, add, argument, arguments, begin_argument, first, size}
 pub use Rattle.trac_language.specs.Step.{Next, Outcome, deliver, end_call, end_need, follow, function_of, idling, need_by, perform, with_active, world_of}
 unfoldable pub use Rattle.trac_language.specs.Step.{need, step}
 pub use Rattle.trac_language.specs.Store.{cells, form_named}
@@ -41,14 +41,14 @@ pub use Rattle.trac_language.specs.Text.{Text}
 pub use Rattle.trac_language.specs.declared.fate.Fate.{Fate}
 pub use Rattle.trac_language.specs.declared.fate.Fate.TheVariants.{Halted, InputEnded, InputFailed, OutputFailed, Steps, Workspace}
 pub use Rattle.trac_language.specs.declared.function.Function.{Function}
-pub use Rattle.trac_language.specs.declared.function.Function.TheVariants.{Arithmetic, CallCharacter, CallForm, CallNumber, CallRestore, CallSegment, ChangeMeta, Complement, DefineString, DeleteAll, DeleteDefinition, Equal, Greater, Halt, InitialPart, Intersection, ListNames, PrintForm, PrintString, ReadCharacter, ReadString, Rotate, SegmentString, Shift, Union}
+pub use Rattle.trac_language.specs.declared.function.Function.TheVariants.{Arithmetic, CallCharacter, CallForm, CallNumber, CallRestore, CallSegment, ChangeMeta, Halt, InitialPart, PrintForm, PrintString, ReadCharacter, ReadString, SegmentString}
 pub use Rattle.trac_language.specs.declared.item.Item.{Item}
 pub use Rattle.trac_language.specs.declared.mode.Mode.{Mode}
 pub use Rattle.trac_language.specs.declared.mode.Mode.TheVariants.{Active}
-pub use Rattle.trac_laws.specs.LastRead.{end_reads_last, is_read_string, reads_last, reads_last_by, reads_to_end}
+pub use Rattle.trac_laws.specs.LastRead.{is_read_string, reads_last, reads_last_by, reads_to_end}
 pub use Rattle.trac_space.specs.Calls.{IsLastCall}
 pub use Rattle.trac_space.specs.Cells.{IsNoCall, NoCall, NoComma, is_call, is_comma, seen}
 pub use Rattle.trac_space.specs.Runs.{turned}
 pub use Rattle.trac_space.specs.Texts.{IsByte, character_of, flat_text, text_of_cells}
 pub use Rattle.trac_space.specs.declared.cell.Cell.{Cell}
-pub use Rattle.trac_space.specs.declared.cell.Cell.TheVariants.{Byte, Call, Comma, Gap, Head}
+pub use Rattle.trac_space.specs.declared.cell.Cell.TheVariants.{Byte, Call, Comma}
