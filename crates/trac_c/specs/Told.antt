@@ -3,7 +3,7 @@ use Rattle.std.specs.Prelude.{◌≡◌, ℕ, ◌-◌, ◌<◌, ◌≤◌, List,
 use Rattle.trac_language.specs.declared.fate.Fate.{Fate}
 use Rattle.trac_language.specs.declared.fate.Fate.TheVariants.{Halted, InputEnded, Workspace, Steps}
 use Rattle.trac_language.specs.declared.fate.Fate.TheVariants.{InputFailed, OutputFailed}
-use Rattle.trac_core.specs.declared.machine.Report.{Report}
+use Rattle.trac_language.specs.declared.report.Report.{Report}
 use Rattle.trac_core.specs.Machine.{Course, Reports}
 use Rattle.trac_c.specs.declared.report.TracReport.{TracReport}
 

@@ -54,10 +54,10 @@ fn ended(rt: &HostRuntime, settings: &Settings, report: &Report) -> u8
     ensures { result ≡ status_of report.now.fate }
 {
     if settings.report {
-        write_line(&mut rt.stderr(), &report_line(report.steps, report.peak));
+        write_line(&mut rt.stderr(), &report_line(report));
     }
-    if let Some(line) = fault_line(report.fate, report.steps, settings) {
+    if let Some(line) = fault_line(report, settings) {
         write_line(&mut rt.stderr(), &line);
     }
-    status(report.fate)
+    status(report)
 }

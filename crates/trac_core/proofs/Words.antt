@@ -17,7 +17,7 @@ pub use Rattle.trac_core.specs.Matching.{IsAt, side_in, side_of}
 pub use Rattle.trac_core.specs.Performed.{is_plain, performed_by, performs, prints_output}
 pub use Rattle.trac_core.specs.Session.{printed_in}
 pub use Rattle.trac_core.specs.StepsInRow.{Advances, AsksFor, IsLayout, IsOrdinary, IsPlainFrom, Passes, PassesTimes, SomeSteps, is_special, kind_in, kind_of, passed, peak_after, running}
-pub use Rattle.trac_core.specs.declared.machine.Report.{Report}
+pub use Rattle.trac_language.specs.declared.report.Report.{Report}
 pub use Rattle.trac_devices.specs.Devices.{Breaks, Prints, Sent, Stream, Streams, has_byte}
 pub use Rattle.trac_devices.specs.HeldBytes.{Reads}
 pub use Rattle.trac_forms.specs.Contents.{Contents, IsSound, form_at, part_text, used}

@@ -10,7 +10,7 @@ use Rattle.trac_language.specs.Step.{Next, Over, step, need}
 use Rattle.trac_language.specs.Run.{Run, run}
 use Rattle.trac_laws.specs.LastRead.{reads_to_end}
 use Rattle.trac_devices.specs.Devices.{Stream}
-use Rattle.trac_core.specs.declared.machine.Report.{Report}
+use Rattle.trac_language.specs.declared.report.Report.{Report}
 
 -- what a contract sees of a machine
 pub record MachineState : Type 0 where

@@ -12,7 +12,7 @@ mod scan;
 mod text_io;
 
 pub use display::{display_len, show_form};
-pub use machine::{Awaits, Machine, Report, ScanningRule};
+pub use machine::{Awaits, Machine, ScanningRule};
 pub use runs::is_layout;
 pub use trac_devices::{
     BufferedReader, BufferedWriter, Input, Next, Output, ReadSource, RetryingReader,
@@ -20,7 +20,7 @@ pub use trac_devices::{
     write_characters,
 };
 pub use trac_forms::{Forms, StoredForm, Work};
-pub use trac_language::{Fate, Item};
+pub use trac_language::{Fate, Item, Report};
 pub use trac_laws as laws;
 pub use trac_space::Cell;
 pub use trac_values as values;

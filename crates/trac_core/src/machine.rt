@@ -18,7 +18,7 @@ use crate::scan::{Attempt, pass, scan_once};
 use std::marker::Model;
 use trac_devices::{Sink, Source};
 use trac_forms::Work;
-use trac_language::Fate;
+use trac_language::{Fate, Report};
 use trac_space::Cell;
 
 pub(crate) mod closing;
@@ -28,17 +28,6 @@ pub(crate) mod view;
 
 pub use session::Awaits;
 pub use view::ScanningRule;
-
-/// What a run came to.
-#[derive(Clone, Copy, Debug, PartialEq, Eq)]
-pub struct Report {
-    /// How it ended.
-    pub fate: Fate,
-    /// The steps done.
-    pub steps: u64,
-    /// The greatest need of a step, in cells: the least room in which the run ends the same way.
-    pub peak: u32,
-}
 
 /// A processor over a lent block of cells, with an allowance of steps. It takes no other memory.
 /// The rules that it follows are Mooers' (1966 and 1972); the block, the allowance and the

@@ -12,9 +12,11 @@ mod fate;
 mod function;
 mod item;
 mod mode;
+mod report;
 
 pub use arith::Arith;
 pub use fate::Fate;
 pub use function::Function;
 pub use item::Item;
 pub use mode::Mode;
+pub use report::Report;

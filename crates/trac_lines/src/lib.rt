@@ -10,7 +10,7 @@ ghost use Rattle.trac_lines.specs.Lines.{status_of};
 use itoa::Buffer;
 use std::io::Write;
 use std::marker::Model;
-use trac_language::Fate;
+use trac_language::{Fate, Report};
 use trac_words::Settings;
 
 /// A line of at most 80 bytes, without a line feed.
@@ -75,15 +75,15 @@ impl Line {
     }
 }
 
-/// The line on a run that did not end well after so many steps, or `None` where it halted or its input
-/// ended. It tells the cells or the steps of the settings, or the step that was not done: one more
-/// than were.
-pub fn fault_line(fate: Fate, steps: u64, settings: &Settings) -> Option<Line>
-    ensures { result ≡ fault_text fate settings.now.cells settings.now.steps steps }
+/// The line on a run that didn't end well, `None` where it halted or its input ended. It tells the
+/// cells or the steps of the settings, or the step that wasn't done: one more than the steps done.
+pub fn fault_line(report: &Report, settings: &Settings) -> Option<Line>
+    ensures { result ≡
+        fault_text report.now.fate settings.now.cells settings.now.steps report.now.steps }
 {
-    let next = u128::from(steps) + 1;
+    let next = u128::from(report.steps) + 1;
     let mut line = Line::new();
-    match fate {
+    match report.fate {
         Fate::Halted | Fate::InputEnded => return None,
         Fate::Workspace => {
             line.push(b"trac: workspace of ");
@@ -109,14 +109,14 @@ pub fn fault_line(fate: Fate, steps: u64, settings: &Settings) -> Option<Line>
 }
 
 /// The line that tells the steps that a run did and its peak in cells, always in the plural.
-pub fn report_line(steps: u64, peak: u32) -> Line
-    ensures { result ≡ report_text steps peak }
+pub fn report_line(report: &Report) -> Line
+    ensures { result ≡ report_text report.now.steps report.now.peak }
 {
     let mut line = Line::new();
     line.push(b"trac: ");
-    line.push_number(u128::from(steps));
+    line.push_number(u128::from(report.steps));
     line.push(b" steps, peak ");
-    line.push_number(u128::from(peak));
+    line.push_number(u128::from(report.peak));
     line.push(b" cells");
     line
 }
@@ -134,10 +134,10 @@ pub fn memory_line(settings: &Settings) -> Line
 
 /// The exit status of the program after a run: 0 where it halted or its input ended, 1 for a full
 /// workspace, 3 for steps used up, 4 for input and 5 for output that failed.
-pub fn status(fate: Fate) -> u8
-    ensures { result ≡ status_of fate }
+pub fn status(report: &Report) -> u8
+    ensures { result ≡ status_of report.now.fate }
 {
-    match fate {
+    match report.fate {
         Fate::Halted | Fate::InputEnded => 0,
         Fate::Workspace => 1,
         Fate::Steps => 3,

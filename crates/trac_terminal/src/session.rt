@@ -39,7 +39,7 @@ pub fn run_strings<I: Source, O: Sink, E: Write>(
         let fate = end_output(fate, reading.is_typed(), screen);
         if let Some(fate) = fate {
             let report = report_of(machine, fate);
-            if let Some(line) = fault_line(fate, report.steps, settings) {
+            if let Some(line) = fault_line(&report, settings) {
                 write_line(errors, &line);
             }
             if ends_session(fate) || !reading.has_read() {

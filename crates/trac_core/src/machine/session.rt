@@ -9,10 +9,10 @@ ghost use Rattle.trac_core.specs.Machine.{output_failures};
 ghost use Rattle.trac_core.specs.Session.{awaited, next_function};
 
 use super::closing::{closed_call, named_at};
-use super::{Counters, Machine, Report, run_to_end};
+use super::{Counters, Machine, run_to_end};
 use trac_devices::{Sink, Source};
 use trac_forms::{Forms, Work};
-use trac_language::{Fate, Function};
+use trac_language::{Fate, Function, Report};
 
 /// What the next step of a machine reads.
 #[derive(Clone, Copy, Debug, PartialEq, Eq)]

@@ -1,0 +1,14 @@
+//! What runs come to.
+
+use crate::fate::Fate;
+
+/// What a run came to. The accounting of steps and cells is this processor's own choice.
+#[derive(Clone, Copy, Debug, PartialEq, Eq)]
+pub struct Report {
+    /// How it ended.
+    pub fate: Fate,
+    /// The steps done.
+    pub steps: u64,
+    /// The greatest need of a step, in cells: the least room in which the run ends the same way.
+    pub peak: u32,
+}
