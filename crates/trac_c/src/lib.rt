@@ -1,4 +1,4 @@
-//! The engine for C. Each export is called by the function of `include/trac.h` whose name lacks
+//! The engine for C. Each export is called by the function of `hosts/c/trac.h` whose name lacks
 //! `engine_`, which tests the pointers: nothing here can. The exports and their numbers are this
 //! processor's own choice.
 #![tactic(auto)]

@@ -5,7 +5,7 @@
  * @module
  */
 
-import { Session } from '../packaging/trac.mjs';
+import { Session } from '../js/trac.mjs';
 import { stepsToCall } from './codes.js';
 
 /** Of how many steps at most the calls are listed. */
@@ -85,7 +85,7 @@ class Walker {
 
     /**
      * Takes over what a turn came to.
-     * @param {import('../packaging/trac.mjs').TurnReport} told
+     * @param {import('../js/trac.mjs').TurnReport} told
      */
     note({ fate, steps, peak, output, consumed }) {
         this.state.step = Number(steps);

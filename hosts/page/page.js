@@ -3,7 +3,7 @@
  * @module
  */
 
-import { MOST_CELLS, provide } from '../packaging/trac.mjs';
+import { MOST_CELLS, provide } from '../js/trac.mjs';
 import { RULES, counted, innermostCall, several } from './codes.js';
 import { History, MOST_LISTED } from './history.js';
 import {

@@ -171,7 +171,7 @@ function gap(ordinal) {
 /**
  * Shows the forms.
  * @param {HTMLElement} list
- * @param {import('../packaging/trac.mjs').StoredForm[]} forms
+ * @param {import('../js/trac.mjs').StoredForm[]} forms
  * @param {number} count how many there are in all
  */
 export function showForms(list, forms, count) {

@@ -9,9 +9,10 @@ import re
 import sys
 
 FOLDER = os.path.dirname(os.path.abspath(__file__))
-TOP = os.path.dirname(FOLDER)
+TOP = os.path.dirname(os.path.dirname(FOLDER))
 # Each file's imports name only files that stand before it here.
-CODE = ['packaging/trac.mjs', 'page/codes.js', 'page/history.js', 'page/view.js', 'page/page.js']
+CODE = ['hosts/js/trac.mjs', 'hosts/page/codes.js', 'hosts/page/history.js', 'hosts/page/view.js',
+        'hosts/page/page.js']
 IMPORT = re.compile(r"^import [^;]*? from '\.{1,2}/[^']*';\n", re.MULTILINE | re.DOTALL)
 NAME = re.compile(r'^(?:export )?(?:async )?(?:function|class|const|let) (\w+)', re.MULTILINE)
 PART = re.compile('@([A-Z]+)@')
@@ -50,14 +51,14 @@ def hashed(text):
 
 def page(module, version):
     """The whole page."""
-    style, script = read('page', 'style.css'), code(version)
+    style, script = read('hosts', 'page', 'style.css'), code(version)
     parts = {
         'STYLE': style, 'CODE': script, 'EXAMPLES': examples(), 'VERSION': version,
         'ENGINE': base64.b64encode(module).decode(),
         'POLICY': "default-src 'none'; base-uri 'none'; form-action 'none'; "
                   f"script-src {hashed(script)} 'wasm-unsafe-eval'; style-src {hashed(style)}",
     }
-    return PART.sub(lambda found: parts[found[1]], read('page', 'index.html'))
+    return PART.sub(lambda found: parts[found[1]], read('hosts', 'page', 'index.html'))
 
 
 if __name__ == '__main__':
