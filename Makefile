@@ -1,0 +1,114 @@
+# Builds, proves and checks; `make help` lists the words. Works with GNU make and with bmake.
+.POSIX:
+.NOTPARALLEL:
+
+CC = cc
+CFLAGS = -O2
+# Debian's own Python has Debian's packages of pytest and Selenium.
+PYTHON = /usr/bin/python3
+VERSION != cat VERSION
+SOURCES != find crates.txt crates -name out -prune -o -type f \( -name '*.rt' -o -name '*.antt' -o -name crates.txt \) -print
+PAGE != find hosts/page hosts/js examples -type f
+# The crates of which `make edits` tries the edits that the gate leaves out.
+CRATES != ls further-edits
+
+RT = $(PYTHON) checks/progress.py
+PYTEST = $(PYTHON) -m pytest -q -n auto --dist loadfile
+
+all: build/trac
+
+help:
+	@sed -n 's/^## //p' Makefile
+
+## make            the program in C, build/trac: any C compiler, some seconds
+build/trac: hosts/c/trac.c hosts/c/trac_engine.c hosts/c/trac.h
+	mkdir -p build
+	$(CC) -std=c11 $(CFLAGS) -o $@ hosts/c/trac.c hosts/c/trac_engine.c
+
+## make prove      the proved program, crates/trac_cli/out/trac_cli: proves all that it stands on
+prove: crates/trac_cli/out/trac_cli
+
+crates/trac_cli/out/trac_cli: $(SOURCES)
+	@$(RT) trac_cli rt run
+	touch $@
+
+crates/trac_trace/out/trac_trace: $(SOURCES)
+	@$(RT) trac_trace rt run
+	touch $@
+
+crates/trac_terminal/out/trac_terminal: $(SOURCES)
+	@$(RT) trac_terminal rt run
+	touch $@
+
+programs: prove crates/trac_trace/out/trac_trace crates/trac_terminal/out/trac_terminal
+
+## make check      all that needs no kit, over the program in C
+check: build/trac check-tools
+	$(PYTEST) checks --ignore checks/proved
+
+## make test       the gate: make check, all proofs, tests and edits, and the checks of what is proved
+test:
+	@checks/gate check proofs check-proved
+
+proofs:
+	@$(RT) . rt ci
+
+check-proved: programs dist check-tools
+	$(PYTEST) checks/proved
+	$(PYTHON) bench/bench.py --smoke
+
+## make edits      the edits that the gate leaves out; CRATES='trac_space ..' names some
+edits:
+	@copy=$$(mktemp -d) && trap 'rm -rf "$$copy"' EXIT && \
+	    cp -a crates crates.txt HANDLES "$$copy" && rm -f "$$copy"/crates/*/must-fail/*.edit && \
+	    for crate in $(CRATES); do \
+	        mkdir -p "$$copy/crates/$$crate/must-fail" && \
+	        cp further-edits/$$crate/*.edit "$$copy/crates/$$crate/must-fail" || exit; \
+	    done && cd "$$copy" && printf '%s\n' $(CRATES) | xargs -n 1 -P "$$(nproc)" rt must-fail
+
+## make generate   the engine as C, hosts/c/trac_engine.c, anew from the proved library
+generate:
+	hosts/c/generate
+
+## make dist       what is handed out, in dist/: programs, libraries, the page, the manual
+dist: dist/trac dist/libtrac.a dist/trac.h dist/trac.wasm dist/trac.mjs dist/trac.html
+
+dist/trac: crates/trac_cli/out/trac_cli
+	mkdir -p dist
+	cp -p crates/trac_cli/out/trac_cli $@
+	cp docs/*.1 dist
+
+dist/libtrac.a: $(SOURCES)
+	mkdir -p dist
+	@$(RT) trac_c rt lib
+	cp crates/trac_c/out/libtrac_c.a $@
+
+dist/trac.h: hosts/c/trac.h VERSION
+	mkdir -p dist
+	{ echo '/* Version $(VERSION) */' && cat hosts/c/trac.h; } >$@
+
+dist/trac.wasm: $(SOURCES)
+	mkdir -p build dist
+	@$(RT) trac_c rt lib --target wasm64-unknown-unknown
+	kit=$$(dirname "$$(rt doc)") && "$$kit/bin/rattle-link" --target wasm64-unknown-unknown \
+	    --toolchain "$$kit/toolchain" --stack 65536 -o build/trac64.wasm crates/trac_c/out/libtrac_c.a
+	wasm-opt --enable-memory64 --enable-bulk-memory --memory64-lowering -O2 build/trac64.wasm -o $@
+
+dist/trac.mjs: hosts/js/trac.mjs VERSION
+	mkdir -p dist
+	sed 's/@VERSION@/$(VERSION)/' hosts/js/trac.mjs >$@
+
+dist/trac.html: dist/trac.wasm $(PAGE) VERSION
+	$(PYTHON) hosts/page/make.py dist/trac.wasm $(VERSION) $@
+
+## make install    puts what is built below PREFIX (~/.local); make uninstall takes it away again
+## make package    Debian packages of it, in dist/
+## make clean      takes away what was built, but no proofs
+clean:
+	rm -rf build dist
+
+# What checks need, from Debian's packages.
+check-tools:
+	@checks/tools
+
+.PHONY: all help prove programs check test proofs check-proved edits generate dist clean check-tools
