@@ -5,7 +5,7 @@ import subprocess
 import tempfile
 import unittest
 
-from trac import PROGRAM, TRACER
+from trac import PROGRAM
 
 HELLO = b"#(ps,hello)'"
 # for how many calls in a row the second kind of trial goes on
@@ -37,35 +37,36 @@ def first_read(lines):
     return 1 + next(at for at, line in enumerate(reads) if re.match(r'read\(0,', line))
 
 
+def interrupt(case, words, wanted):
+    """Interrupts the first reads and the first write of a program, once and many times in a row."""
+    plain, lines = traced(words)
+    case.assertEqual(plain, wanted)
+    case.assertEqual(injected(lines, ''), 0)
+    first = first_read(lines)
+    for call, name, at in (('read(0,', 'read', first), ('read(0,', 'read', first + 1),
+                           ('write(1,', 'write', 1)):
+        for more in (0, MANY - 1):
+            with case.subTest(program=words[0], call=name, at=at, more=more):
+                got, lines = traced(words, f'{name}:error=EINTR:when={at}..{at + more}')
+                case.assertEqual(got, wanted)
+                case.assertEqual(injected(lines, call), 1 + more)
+
+
+def shown_though_interrupted(case, program):
+    """Interrupts the write of the help."""
+    shown, _ = traced([program, '--help'])
+    case.assertIn(b'--cells <N>', shown[0])
+    got, lines = traced([program, '--help'], 'write:error=EINTR:when=1')
+    case.assertEqual(got, shown)
+    case.assertEqual(injected(lines, 'write(1,'), 1)
+
+
 class Interruptions(unittest.TestCase):
-    def interrupt(self, words, wanted):
-        plain, lines = traced(words)
-        self.assertEqual(plain, wanted)
-        self.assertEqual(injected(lines, ''), 0)
-        first = first_read(lines)
-        for call, name, at in (('read(0,', 'read', first), ('read(0,', 'read', first + 1),
-                               ('write(1,', 'write', 1)):
-            for more in (0, MANY - 1):
-                with self.subTest(program=words[0], call=name, at=at, more=more):
-                    got, lines = traced(words, f'{name}:error=EINTR:when={at}..{at + more}')
-                    self.assertEqual(got, wanted)
-                    self.assertEqual(injected(lines, call), 1 + more)
-
     def test_the_program(self):
-        self.interrupt([PROGRAM], (b'hello', '', 0))
-
-    def test_the_program_that_shows_steps(self):
-        shown = subprocess.run([TRACER], input=HELLO, capture_output=True, check=True).stdout
-        self.assertEqual(len(shown.splitlines()), 32)
-        self.interrupt([TRACER], (shown, '', 0))
+        interrupt(self, [PROGRAM], (b'hello', '', 0))
 
     def test_the_help(self):
-        for program in (PROGRAM, TRACER):
-            shown, _ = traced([program, '--help'])
-            self.assertIn(b'--cells <N>', shown[0])
-            got, lines = traced([program, '--help'], 'write:error=EINTR:when=1')
-            self.assertEqual(got, shown)
-            self.assertEqual(injected(lines, 'write(1,'), 1)
+        shown_though_interrupted(self, PROGRAM)
 
     def test_standard_error(self):
         words = [PROGRAM, '--report']

@@ -6,7 +6,7 @@ import subprocess
 import tempfile
 import unittest
 
-from trac import LAUNCHER, PROGRAM, TERMINAL, TRACER, run
+from trac import PROGRAM, run
 
 HELLO = "#(ps,hello)'"
 LOOP = "#(ds,L,(#(cl,L)))#(cl,L)'"
@@ -102,15 +102,6 @@ class Program(unittest.TestCase):
                              (less, '-' + more, 'yes'), ('-' + more, '-' + more, 'no')):
             self.assertEqual(run(f"#(gr,{a},{b},yes,no)'"), (answer.encode(), '', 0))
 
-    def test_the_launcher_passes_words_devices_and_status(self):
-        done = subprocess.run([LAUNCHER, '--cells', '18', '--report'],
-                              input=HELLO.encode(), capture_output=True)
-        self.assertEqual(done.stdout, b'')
-        self.assertEqual(
-            done.stderr,
-            b'trac: 8 steps, peak 11 cells\ntrac: workspace of 18 cells full at step 9\n')
-        self.assertEqual(done.returncode, 1)
-
     def test_words_that_are_refused(self):
         for words in REFUSED:
             with self.subTest(words=words):
@@ -130,31 +121,21 @@ class Program(unittest.TestCase):
             self.assertIn(b'--cells <N>', output)
 
     def test_a_usage_that_shows_where_the_script_is(self):
-        for program, usage in ((PROGRAM, 'trac [OPTIONS] < SCRIPT'),
-                               (TRACER, 'trac_trace [OPTIONS] < SCRIPT'),
-                               (TERMINAL, 'trac_terminal [OPTIONS] [FILE ..]')):
-            with self.subTest(program=program):
-                told = subprocess.run([program, '--help'], capture_output=True, check=True)
-                self.assertIn(f'\nUsage: {usage}\n', told.stdout.decode())
-        for program, name in ((PROGRAM, 'trac'), (TRACER, 'trac_trace')):
-            with self.subTest(program=program):
-                done = subprocess.run([program, 'file.trac'], input=b'', capture_output=True)
-                self.assertIn(f'\nUsage: {name} [OPTIONS] < SCRIPT\n', done.stderr.decode())
+        usage = '\nUsage: trac [OPTIONS] < SCRIPT\n'
+        self.assertIn(usage, run('', '--help')[0].decode())
+        self.assertIn(usage, run('', 'file.trac')[1])
 
     def test_a_help_that_is_not_written(self):
-        for program in (PROGRAM, TRACER):
-            for word in ('--help', '-h'):
-                with self.subTest(program=program, word=word):
-                    self.assertEqual(into_full(program, word), (b'', 5))
-                    self.assertEqual(into_closed_pipe(program, word), (b'', 5))
-                    self.assertEqual(into_nothing(program, word), (b'', 5))
+        for word in ('--help', '-h'):
+            for ends in (into_full, into_closed_pipe, into_nothing):
+                with self.subTest(word=word, ends=ends.__name__):
+                    self.assertEqual(ends(PROGRAM, word), (b'', 5))
 
     def test_a_usage_text_that_is_not_written(self):
-        for program in (PROGRAM, TRACER):
-            with open('/dev/full', 'wb') as full:
-                done = subprocess.run([program, '--unknown'], stdin=subprocess.DEVNULL,
-                                      stdout=subprocess.PIPE, stderr=full)
-            self.assertEqual((done.stdout, done.returncode), (b'', 2))
+        with open('/dev/full', 'wb') as full:
+            done = subprocess.run([PROGRAM, '--unknown'], stdin=subprocess.DEVNULL,
+                                  stdout=subprocess.PIPE, stderr=full)
+        self.assertEqual((done.stdout, done.returncode), (b'', 2))
 
 
 class Devices(unittest.TestCase):

@@ -1,4 +1,7 @@
-"""Runs the built programs on a script, and counts their instructions."""
+"""Runs the built programs on a script, and counts their instructions.
+
+The checks of this folder need no kit. They run the program in C, or the one that TRAC names in the
+environment. Those of proved/ need the proved programs or the proved library."""
 import os
 import subprocess
 import sys
@@ -9,7 +12,9 @@ from bench import cost, instructions
 from growing import GROWING, GROWS, WORDS
 
 LAUNCHER = os.path.join(TOP, 'trac')
-PROGRAM = os.path.join(TOP, 'crates', 'trac_cli', 'out', 'trac_cli')
+PROVED = os.path.join(TOP, 'crates', 'trac_cli', 'out', 'trac_cli')
+IN_C = os.path.join(TOP, 'build', 'trac')
+PROGRAM = os.path.abspath(os.environ.get('TRAC') or IN_C)
 TRACER = os.path.join(TOP, 'crates', 'trac_trace', 'out', 'trac_trace')
 TERMINAL = os.path.join(TOP, 'crates', 'trac_terminal', 'out', 'trac_terminal')
 # Set in the environment where ./release was run for all checks together.

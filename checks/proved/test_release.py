@@ -7,10 +7,10 @@ import subprocess
 import tempfile
 import unittest
 
-import test_c_library
+import c_api
 from rows import rows
 from trac import PROGRAM, TOP, release, run
-from test_c_library import SANITIZED, STRICT, compiled
+from c_api import SANITIZED, STRICT, compiled
 from test_program import REFUSED as WORDS_REFUSED
 
 DIST = os.path.join(TOP, 'dist')
@@ -57,7 +57,7 @@ class Module(unittest.TestCase):
         lines = '\n'.join(json.dumps({'script': list(row.script), 'cells': row.cells,
                                       'steps': row.allowed}) for row in rows())
         done = subprocess.run(
-            ['node', os.path.join(TOP, 'checks', 'release.mjs'), os.path.join(DIST, 'trac.mjs')],
+            ['node', os.path.join(TOP, 'checks', 'proved', 'release.mjs'), os.path.join(DIST, 'trac.mjs')],
             input=lines.encode(), capture_output=True, timeout=300, check=True)
         cls.answers = json.loads(done.stdout)
 
@@ -108,7 +108,7 @@ class Module(unittest.TestCase):
         self.assertEqual((self.answers['text'], self.answers['version']), ('été', version()))
 
 
-class PlainEngine(test_c_library.Engine, unittest.TestCase):
+class PlainEngine(c_api.Engine, unittest.TestCase):
     @classmethod
     def setUpClass(cls):
         cls.folder = tempfile.mkdtemp()

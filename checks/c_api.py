@@ -1,51 +1,28 @@
-"""The library for C, through a C program over trac.h: each script does there what it does in the
-built program. The header is accepted by two compilers, and by C++."""
+"""What holds of an engine behind trac.h, through a C program over it: each script does there what it
+does in the built program, at once and in pieces."""
 import os
-import re
-import shutil
 import subprocess
-import tempfile
-import unittest
 
 from rows import Row, rows
-from trac import TOP, release, report, trace
+from trac import TOP, report
 
-DIST = os.path.join(TOP, 'dist')
-LIBRARY = os.path.join(DIST, 'libtrac.a')
+HEADERS = os.path.join(TOP, 'hosts', 'c')
 DRIVER = os.path.join(TOP, 'checks', 'c_library.c')
-EXAMPLE = os.path.join(TOP, 'examples', 'embedding_c', 'embedding.c')
 STRICT = ['-std=c11', '-Wall', '-Wextra', '-Wpedantic', '-Werror', '-O2']
 SANITIZED = [*STRICT, '-g', '-fsanitize=address,undefined', '-fno-sanitize-recover=all']
-
-AS_CPP = ['-std=c++17', *STRICT[1:], '-x', 'c++']
 
 INPUT_ENDED, WORKSPACE, STEPS, OUTPUT_FAILED, REFUSED = 2, 3, 4, 6, 9
 STATUS = {1: 0, INPUT_ENDED: 0, WORKSPACE: 1, STEPS: 3}
 
-# What the library may leave to the program that it is linked with: the moves of memory, and the
-# compiler's own arithmetic on numbers of 128 bits.
-LEFT_OPEN = {'memcpy', 'memmove', 'memset', '__divti3', '__udivti3', '__modti3', '__umodti3',
-             '__multi3', '__muloti4'}
-
 # The bytes of input that a turn gets more.
 PIECES = (1, 2, 3, 7, 64)
 
-# The most steps of a row whose strings are compared with those of its trace.
-SEEN = 200
 
-RULES = ('idling', 'layout', 'protection', 'argument', 'active call', 'neutral call', 'number sign',
-         'end of call', 'character')
-MARKS = {256: '<#>', 257: '<##>', 258: '<,>'}
-ESCAPED = {9: r'\t', 10: r'\n', 13: r'\r', 92: r'\\'}
-
-# Bytes of stack that trac_run needs beside what its caller has.
-STACK = 8 * 1024
-
-
-def compiled(folder, compiler, flags, source=DRIVER, headers=DIST, engine=LIBRARY):
+def compiled(folder, compiler, flags, engine, source=DRIVER):
+    """A program in C over an engine."""
     program = os.path.join(folder, f'{compiler}{len(os.listdir(folder))}')
-    subprocess.run([compiler, '-I', headers, '-I', DIST, '-o', program, *flags, source,
-                    '-x', 'none', engine], check=True)
+    subprocess.run([compiler, '-I', HEADERS, '-o', program, *flags, source, '-x', 'none', engine],
+                   check=True)
     return program
 
 
@@ -75,13 +52,6 @@ def turns(program, row, most, sizes):
     return found
 
 
-def shown(code):
-    """A code as a trace shows it."""
-    if code in MARKS or code in ESCAPED:
-        return MARKS.get(code) or ESCAPED[code]
-    return chr(code) if 32 <= code <= 126 else f'\\x{code:02x}'
-
-
 def codes(text):
     return [int(word) for word in text.split()]
 
@@ -97,13 +67,6 @@ def view(program, row, most):
     parts = [[codes(part) for part in line.replace('form', '').split('|')] for line in lines]
     first = [line.startswith('form') for line in lines].index(True)
     return parts[:first], parts[first:], int(compared.split()[1])
-
-
-def traced(row):
-    """The steps of a row's trace: the rule, the size before it, and both strings after it."""
-    lines, _ = trace(row.script, '--cells', str(row.cells), '--steps', str(row.allowed))
-    return [(line[8:21].rstrip(), int(line[21:27]), line[35:]) for line in lines
-            if re.match(r' *\d+  [a-z]', line)]
 
 
 class Engine:
@@ -147,26 +110,6 @@ class Engine:
                     self.assertEqual(
                         (output, STATUS.get(fate), steps, peak, written),
                         (row.output, row.status, row.steps, row.peak, len(row.output)))
-
-    def test_what_each_row_shows_before_each_step(self):
-        for row in rows():
-            if not 0 < row.steps <= SEEN:
-                continue
-            with self.subTest(row=row):
-                steps, _, _ = view(self.programs[2], row, SEEN)
-                wanted = traced(row)
-                self.assertGreaterEqual(len(steps), len(wanted))
-                before = '|'
-                for ((rule, awaits, _, *cells), neutral, active), (name, size, after) in zip(
-                        steps, wanted):
-                    self.assertEqual(
-                        ''.join(map(shown, neutral)) + '|' + ''.join(map(shown, active)), before)
-                    self.assertEqual(RULES[rule], name)
-                    self.assertEqual((sum(cells), cells[1], cells[2], cells[3]),
-                                     (row.cells, len(neutral), row.cells - size, len(active)))
-                    if awaits:
-                        self.assertEqual(name, 'end of call')
-                    before = after
 
     def test_what_a_step_awaits_and_the_meta_character(self):
         row = Row(b"#(cm,!)'#(ps,#(rc))!x", 100, 1000, b'x', 0, 0, 0)
@@ -228,39 +171,3 @@ class Engine:
             self.assertEqual(call(program, hello, 16777217, 1000, 9), (b'', REFUSED, 0, 0, 0, 0, 0))
         self.assertEqual(call(self.programs[0], hello, 16777216, 1000, 9)[:2],
                          (b'hello', INPUT_ENDED))
-
-
-class Library(Engine, unittest.TestCase):
-    @classmethod
-    def setUpClass(cls):
-        release('library')
-        cls.folder = tempfile.mkdtemp()
-        cls.addClassCleanup(shutil.rmtree, cls.folder)
-        cls.programs = [compiled(cls.folder, 'gcc', STRICT), compiled(cls.folder, 'clang', STRICT),
-                        compiled(cls.folder, 'gcc', SANITIZED),
-                        compiled(cls.folder, 'g++', AS_CPP)]
-
-    def test_pointers_that_are_refused(self):
-        done = subprocess.run([self.programs[2], 'pointers'], capture_output=True, timeout=60)
-        self.assertEqual((done.returncode, done.stderr), (0, b''))
-
-    def test_what_the_library_leaves_open(self):
-        names = subprocess.run(['nm', '--undefined-only', LIBRARY], capture_output=True, check=True)
-        found = set(re.findall(r' U (\S+)', names.stdout.decode()))
-        self.assertLessEqual(found, LEFT_OPEN)
-
-    def test_the_stack_that_it_needs(self):
-        for row in rows():
-            done = subprocess.run(
-                [self.programs[0], *map(str, (row.cells, row.allowed, len(row.output), STACK))],
-                input=row.script, capture_output=True, timeout=60)
-            self.assertEqual((done.stdout, done.returncode), (row.output, 0), row)
-
-    def test_the_example(self):
-        with open(EXAMPLE, encoding='utf-8') as lines:
-            self.assertLess(len(lines.readlines()), 80)
-        for compiler in ('gcc', 'clang'):
-            program = compiled(self.folder, compiler, STRICT, EXAMPLE)
-            done = subprocess.run([program], capture_output=True, timeout=60, check=True)
-            with open(EXAMPLE[:-1] + 'out', 'rb') as wanted:
-                self.assertEqual(done.stdout, wanted.read())

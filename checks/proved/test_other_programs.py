@@ -1,0 +1,45 @@
+"""What trac_trace and trac_terminal have in common with trac: their help, where it can't be written,
+and calls of the system that are interrupted."""
+import subprocess
+import unittest
+
+from test_interruptions import HELLO, interrupt, shown_though_interrupted
+from test_program import into_closed_pipe, into_full, into_nothing
+from trac import TERMINAL, TRACER
+
+
+class Words(unittest.TestCase):
+    def test_a_usage_that_shows_where_the_script_is(self):
+        for program, usage in ((TRACER, 'trac_trace [OPTIONS] < SCRIPT'),
+                               (TERMINAL, 'trac_terminal [OPTIONS] [FILE ..]')):
+            with self.subTest(program=program):
+                told = subprocess.run([program, '--help'], capture_output=True, check=True)
+                self.assertIn(f'\nUsage: {usage}\n', told.stdout.decode())
+        done = subprocess.run([TRACER, 'file.trac'], input=b'', capture_output=True)
+        self.assertIn('\nUsage: trac_trace [OPTIONS] < SCRIPT\n', done.stderr.decode())
+
+    def test_a_help_that_is_not_written(self):
+        for word in ('--help', '-h'):
+            for ends in (into_full, into_closed_pipe, into_nothing):
+                with self.subTest(word=word, ends=ends.__name__):
+                    self.assertEqual(ends(TRACER, word), (b'', 5))
+
+    def test_a_usage_text_that_is_not_written(self):
+        with open('/dev/full', 'wb') as full:
+            done = subprocess.run([TRACER, '--unknown'], stdin=subprocess.DEVNULL,
+                                  stdout=subprocess.PIPE, stderr=full)
+        self.assertEqual((done.stdout, done.returncode), (b'', 2))
+
+
+class Interruptions(unittest.TestCase):
+    def test_the_program_that_shows_steps(self):
+        shown = subprocess.run([TRACER], input=HELLO, capture_output=True, check=True).stdout
+        self.assertEqual(len(shown.splitlines()), 32)
+        interrupt(self, [TRACER], (shown, '', 0))
+
+    def test_the_help(self):
+        shown_though_interrupted(self, TRACER)
+
+
+if __name__ == '__main__':
+    unittest.main()
