@@ -1,0 +1,133 @@
+
+/* ---- The exports of trac.h, each with a stack for the engine, which is gone when it returns. */
+
+/* The bytes of that stack, beside what the functions above take of C's. The engine traps before it needs more. */
+#ifndef TRAC_STACK
+#define TRAC_STACK 1024
+#endif
+
+struct lent {
+    struct engine engine;
+    u8 stack[TRAC_STACK];
+};
+
+static u64 address_of(const void *place) { return (u64)(uintptr_t)place; }
+
+/* An engine with a stack whose ends are multiples of 16. */
+static struct engine *lend(struct lent *to) {
+    to->engine.stack = (address_of(to->stack) + 15) & ~(u64)15;
+    to->engine.stack_pointer = address_of(to->stack + TRAC_STACK) & ~(u64)15;
+    return &to->engine;
+}
+
+/* A report as the engine writes it. */
+struct engine_report {
+    u32 fate, peak;
+    u64 steps, written, consumed, wanted;
+};
+
+static trac_report told(const struct engine_report *report) {
+    trac_report given;
+    given.fate = order32(report->fate);
+    given.peak = order32(report->peak);
+    given.steps = order64(report->steps);
+    given.written = (size_t)order64(report->written);
+    given.consumed = (size_t)order64(report->consumed);
+    given.wanted = (size_t)order64(report->wanted);
+    return given;
+}
+
+/* Puts the codes that were laid into the order of bytes of this machine. */
+static size_t in_order(u32 *codes, size_t room, u64 count) {
+    for (size_t i = 0; i < count && i < room; i++)
+        codes[i] = order32(codes[i]);
+    return (size_t)count;
+}
+
+trac_report trac_engine_run(void *block, size_t cells, uint64_t steps, const uint8_t *script, size_t script_len,
+                            uint8_t *output, size_t output_len) {
+    struct lent lent;
+    struct engine_report report;
+    engine_run(lend(&lent), address_of(&report), address_of(block), cells, steps, address_of(script), script_len,
+               address_of(output), output_len);
+    return told(&report);
+}
+
+size_t trac_engine_machine_size(void) {
+    struct lent lent;
+    return (size_t)engine_machine_size(lend(&lent));
+}
+
+uint32_t trac_engine_open(void *machine, void *block, size_t cells, uint64_t steps) {
+    struct lent lent;
+    return engine_open(lend(&lent), address_of(machine), address_of(block), cells, steps);
+}
+
+trac_report trac_engine_turn(void *machine, const uint8_t *input, size_t input_len, uint8_t *output,
+                             size_t output_len, uint32_t ended, uint64_t most) {
+    struct lent lent;
+    struct engine_report report;
+    engine_turn(lend(&lent), address_of(&report), address_of(machine), address_of(input), input_len,
+                address_of(output), output_len, ended, most);
+    return told(&report);
+}
+
+void trac_engine_again(void *machine, uint64_t steps) {
+    struct lent lent;
+    engine_again(lend(&lent), address_of(machine), steps);
+}
+
+size_t trac_engine_form_count(void *machine) {
+    struct lent lent;
+    return (size_t)engine_form_count(lend(&lent), address_of(machine));
+}
+
+size_t trac_engine_form_name(void *machine, size_t k, uint8_t *to, size_t room) {
+    struct lent lent;
+    return (size_t)engine_form_name(lend(&lent), address_of(machine), k, address_of(to), room);
+}
+
+size_t trac_engine_form_text(void *machine, size_t k, uint8_t *to, size_t room) {
+    struct lent lent;
+    return (size_t)engine_form_text(lend(&lent), address_of(machine), k, address_of(to), room);
+}
+
+size_t trac_engine_form_codes(void *machine, size_t k, uint32_t *to, size_t room) {
+    struct lent lent;
+    return in_order(to, room, engine_form_codes(lend(&lent), address_of(machine), k, address_of(to), room));
+}
+
+size_t trac_engine_form_pointer(void *machine, size_t k) {
+    struct lent lent;
+    return (size_t)engine_form_pointer(lend(&lent), address_of(machine), k);
+}
+
+size_t trac_engine_neutral(void *machine, uint32_t *to, size_t room) {
+    struct lent lent;
+    return in_order(to, room, engine_neutral(lend(&lent), address_of(machine), address_of(to), room));
+}
+
+size_t trac_engine_active(void *machine, uint32_t *to, size_t room) {
+    struct lent lent;
+    return in_order(to, room, engine_active(lend(&lent), address_of(machine), address_of(to), room));
+}
+
+uint32_t trac_engine_rule(void *machine) {
+    struct lent lent;
+    return engine_rule(lend(&lent), address_of(machine));
+}
+
+size_t trac_engine_part(void *machine, uint32_t which) {
+    struct lent lent;
+    return (size_t)engine_part(lend(&lent), address_of(machine), which);
+}
+
+uint32_t trac_engine_meta(void *machine) {
+    struct lent lent;
+    return engine_meta(lend(&lent), address_of(machine));
+}
+
+uint32_t trac_engine_awaits(void *machine) {
+    struct lent lent;
+    return engine_awaits(lend(&lent), address_of(machine));
+}

@@ -1,0 +1,517 @@
+"""wasm_to_c.py MODULE.wat SAME.wat > C: the functions of a WebAssembly module as C.
+
+Both are wasm2wat's text of one module with 64-bit addresses, linked to two places, whose instructions are those of
+whole numbers alone. A number that differs between them is an address: of the module's tables, which the C has as an
+array. All other addresses are the caller's. So the C takes no memory, and has no state but a stack that is lent."""
+import re
+import sys
+from collections import Counter
+
+TYPES = {'i32': 'u32', 'i64': 'u64'}
+BINARY = {'add': '+', 'sub': '-', 'mul': '*', 'and': '&', 'or': '|', 'xor': '^'}
+COMPARISONS = {'eq': '==', 'ne': '!=', 'lt': '<', 'gt': '>', 'le': '<=', 'ge': '>='}
+# Longer expressions are put into a variable.
+LONGEST = 90
+DEFINED = re.compile(r' *const u\d\d (t\d+) = (.*)')
+GLOBALS = {'$__stack_pointer': 'e->stack_pointer'}
+# What each export does around its work, which keeps a caller of its own from calling it from within: none here can.
+GUARD = '$__rattle_enter'
+GUARDS = [[['call', GUARD], ['if'], ['unreachable'], ['end']], [['i32.const', '0'], ['global.set', '$in_call']]]
+ESCAPES = {'t': 9, 'n': 10, 'r': 13, '"': 34, "'": 39, '\\': 92}
+
+
+def is_plain(text):
+    """Whether a text is a name, a number or in parentheses, so that any operator may stand in front of it."""
+    return text.isalnum() or (text.startswith('(') and text.find(')') == len(text) - 1)
+
+
+def cast(kind, text):
+    return f'({kind}){text}' if is_plain(text) else f'({kind})({text})'
+
+
+def bare(text):
+    """A text without parentheses around all of it."""
+    depth = 0
+    for at, letter in enumerate(text):
+        depth += (letter == '(') - (letter == ')')
+        if not depth:
+            return text[1:-1] if at == len(text) - 1 and letter == ')' else text
+    return text
+
+
+def number_of(text):
+    """The number of a constant, None of any other text."""
+    return int(text.rstrip('ul')) if re.fullmatch(r'\d+u(ll)?', text) else None
+
+
+class Value:
+    """What stands on the stack: C's text of it, its type, and the variables and the memory that it reads."""
+
+    def __init__(self, text, kind, reads=frozenset()):
+        self.text, self.kind, self.reads = text, kind, reads
+
+
+class Block:
+    """A block, a loop, a branch of an if, or the function: where branches to it go, and its value."""
+
+    def __init__(self, number, kind, result, height):
+        self.number, self.kind, self.result, self.height = number, kind, result, height
+        self.is_used = False
+        self.name = f'v{number}'
+
+
+class Function:
+    """Turns the instructions of a function into lines of C."""
+
+    def __init__(self, module, head, kinds, body):
+        self.module, self.head, self.kinds, self.body = module, head, kinds, body
+        self.lines, self.stack, self.blocks, self.count = [], [], [], 0
+        # The texts of what points into the module's stack.
+        self.of_stack = set(GLOBALS.values())
+
+    def say(self, line):
+        self.lines.append('    ' * len(self.blocks) + line)
+
+    def label(self, block):
+        self.lines.append('    ' * len(self.blocks) + f'L{block.number}:;')
+
+    def fresh(self):
+        self.count += 1
+        return self.count
+
+    def push(self, text, kind, *used):
+        value = Value(text, kind, frozenset().union(*(one.reads for one in used)))
+        self.stack.append(value if len(text) <= LONGEST else self.settle(value))
+
+    def settle(self, value):
+        """The value in a variable of its own."""
+        if re.fullmatch(r't\d+|\d+u(ll)?', value.text):
+            return value
+        name = f't{self.fresh()}'
+        self.say(f'const {TYPES[value.kind]} {name} = {bare(value.text)};')
+        return Value(name, value.kind)
+
+    def settle_all(self, changed=None):
+        """Puts values of the stack into variables, in front of what changes something that they read."""
+        for i, value in enumerate(self.stack):
+            if value.reads and (changed is None or changed in value.reads):
+                self.stack[i] = self.settle(value)
+
+    def pop(self, count):
+        """The topmost values, the lowest first."""
+        found = self.stack[-count:]
+        del self.stack[-count:]
+        return found
+
+    def give_back(self):
+        return f'return {bare(self.stack[-1].text)};' if self.head.results else 'return;'
+
+    def branch(self, depth):
+        """The statements of a branch; the values stay on the stack."""
+        block = self.blocks[-1 - depth]
+        if block.kind == 'func':
+            return self.give_back()
+        block.is_used = True
+        value = f'{block.name} = {bare(self.stack[-1].text)}; ' if block.result and block.kind != 'loop' else ''
+        return f'{value}goto L{block.number};'
+
+    def open(self, kind, result, line):
+        self.settle_all()
+        block = Block(self.fresh(), kind, result, len(self.stack))
+        if result:
+            self.say(f'{TYPES[result]} {block.name};')
+        if kind == 'loop':
+            self.label(block)
+        self.say(line)
+        self.blocks.append(block)
+
+    def end_value(self, is_dead):
+        """Puts the value of a block that ends into its variable."""
+        block = self.blocks[-1]
+        if block.result and not is_dead:
+            self.say(f'{block.name} = {bare(self.stack[-1].text)};')
+        del self.stack[block.height:]
+
+    def close(self, is_dead):
+        self.end_value(is_dead)
+        block = self.blocks.pop()
+        self.say('}')
+        if block.kind != 'loop' and block.is_used:
+            self.label(block)
+        if block.result:
+            self.stack.append(Value(block.name, block.result, frozenset({block.name})))
+
+    def turn(self, is_dead):
+        """Ends the first branch of an if, and begins the other."""
+        self.end_value(is_dead)
+        block = self.blocks.pop()
+        self.say('} else {')
+        self.blocks.append(block)
+
+    def translate(self):
+        """The lines. What can't be reached, behind a branch and up to the end of its block, is left out."""
+        self.blocks.append(Block(0, 'func', None, 0))
+        dead = 0
+        for words in self.body:
+            name = words[0]
+            if dead and (dead > 1 or name not in ('end', 'else')):
+                dead += (name in ('block', 'loop', 'if')) - (name == 'end')
+            elif name in ('end', 'else'):
+                (self.close if name == 'end' else self.turn)(bool(dead))
+                dead = 0
+            else:
+                dead = int(self.one(name, words[1:]) is True)
+        if not dead and self.head.results:
+            self.say(self.give_back())
+        elif self.head.results and self.lines[-1].endswith('trap();'):
+            self.say('return 0;')
+        return self.used(self.lines)
+
+    def used(self, lines):
+        """The lines, without variables that nothing reads, and with those of the function that something does."""
+        counts = Counter(re.findall(r'\b[tle]\d*\b', '\n'.join(lines)))
+        first = len(self.head.params)
+        found = [f'    {TYPES[kind]} l{i} = 0;' for i, kind in enumerate(self.kinds) if i >= first and counts[f'l{i}']]
+        found += ['    (void)e;'] if not counts['e'] else []
+        for line in lines:
+            name, call = DEFINED.match(line).groups() if DEFINED.match(line) else ('', '')
+            if counts[name] != 1:
+                found.append(line)
+            elif not call.startswith('load'):
+                found.append(f"{line[:line.index('const')]}(void){call}")
+        return found
+
+    def one(self, name, words):
+        """Translates an instruction. True: what follows is never reached."""
+        known = getattr(self, 'do_' + name.replace('.', '_'), None)
+        if known:
+            return known(*words)
+        access = re.fullmatch(r'(i\d\d)\.(load|store)(\d*)(_[us])?', name)
+        if access:
+            return self.access(*access.groups(''), *words)
+        kind, _, action = name.partition('.')
+        return self.number(kind, *action.split('_', 1), words=words)
+
+    def do_block(self, *words):
+        self.open('block', result_of(words), '{')
+
+    def do_loop(self, *words):
+        self.open('loop', result_of(words), '{')
+
+    def do_if(self, *words):
+        [condition] = self.pop(1)
+        self.open('if', result_of(words), f'if ({bare(condition.text)}) {{')
+
+    def do_br(self, depth):
+        self.say(self.branch(int(depth)))
+        return True
+
+    def do_br_if(self, depth):
+        [condition] = self.pop(1)
+        said = self.branch(int(depth))
+        self.say(f'if ({bare(condition.text)}) ' + (said if said.count(';') == 1 else f'{{ {said} }}'))
+
+    def do_br_table(self, *words):
+        [value] = self.pop(1)
+        *depths, default = map(int, words)
+        self.say(f'switch ({bare(value.text)}) {{')
+        for i, depth in enumerate(depths):
+            if depth != default:
+                self.say(f'case {i}: {self.branch(depth)}')
+        self.say(f'default: {self.branch(default)}')
+        self.say('}')
+        return True
+
+    def do_return(self):
+        self.say(self.give_back())
+        return True
+
+    def do_unreachable(self):
+        self.say('trap();')
+        return True
+
+    def do_drop(self):
+        self.pop(1)
+
+    def do_nop(self):
+        pass
+
+    def do_local_get(self, number):
+        name = f'l{number}'
+        self.stack.append(Value(name, self.kinds[int(number)], frozenset({name})))
+
+    def do_local_set(self, number):
+        [value] = self.pop(1)
+        self.settle_all(f'l{number}')
+        self.say(f'l{number} = {bare(value.text)};')
+        (self.of_stack.add if value.text in self.of_stack else self.of_stack.discard)(f'l{number}')
+
+    def do_local_tee(self, number):
+        self.do_local_set(number)
+        self.do_local_get(number)
+
+    def do_global_get(self, name):
+        self.stack.append(Value(GLOBALS[name], 'i64', frozenset({'engine'})))
+
+    def do_global_set(self, name):
+        [value] = self.pop(1)
+        self.settle_all('engine')
+        self.say(f'{GLOBALS[name]} = {bare(value.text)};')
+
+    def do_call(self, name):
+        head = self.module.heads[name]
+        given = self.pop(len(head.params)) if head.params else []
+        self.settle_all('engine')
+        self.settle_all('memory')
+        call = f"{self.module.names[name]}({', '.join(['e', *(bare(value.text) for value in given)])})"
+        if head.results:
+            self.stack.append(self.settle(Value(call, head.results[0])))
+        else:
+            self.say(f'{call};')
+
+    def do_select(self):
+        first, second, condition = self.pop(3)
+        self.push(f'({condition.text} ? {first.text} : {second.text})', first.kind, first, second, condition)
+
+    def do_memory_copy(self):
+        to, source, count = self.pop(3)
+        self.settle_all('memory')
+        self.say(f'memmove(at({bare(to.text)}), at({bare(source.text)}), {cast("size_t", count.text)});')
+
+    def do_memory_fill(self):
+        to, byte, count = self.pop(3)
+        self.settle_all('memory')
+        self.say(f'memset(at({bare(to.text)}), {cast("int", byte.text)}, {cast("size_t", count.text)});')
+
+    def access(self, kind, action, narrow, sign, *words):
+        """A load or a store, whose address has a fixed number added to it."""
+        bits = narrow or kind[1:]
+        value = self.pop(1)[0].text if action == 'store' else ''
+        [place] = self.pop(1)
+        offset = next((word[7:] for word in words if word.startswith('offset=')), '0')
+        offset = self.module.address(offset) if '@' in offset else f'{offset}u'
+        where = bare(place.text) if offset == '0u' else f'{place.text} + {offset}'
+        if action == 'store':
+            self.settle_all('memory')
+            self.say(f'store{bits}({where}, {cast(f"u{bits}", value) if narrow else bare(value)});')
+        else:
+            widened = f'({TYPES[kind]})(i{kind[1:]})(i{bits})' if sign == '_s' else ''
+            self.stack.append(self.settle(Value(f'{widened}load{bits}({where})', kind)))
+
+    def number(self, kind, action, sign='', words=()):
+        """An instruction that makes a number of numbers."""
+        if action == 'const':
+            self.push(self.constant(kind, words[0]), kind)
+        elif action in BINARY or action in COMPARISONS or action in ('shl', 'shr', 'div', 'rem'):
+            self.binary(kind, action, sign)
+        else:
+            self.unary(kind, action, sign)
+
+    def constant(self, kind, word):
+        if '@' in word:
+            return f'({self.module.address(word)})'
+        return f"{int(word) % (1 << int(kind[1:]))}u{'ll' if kind == 'i64' else ''}"
+
+    def binary(self, kind, action, sign):
+        a, b = self.pop(2)
+        signed = f'(i{kind[1:]})' if sign == 's' else ''
+        if action in COMPARISONS:
+            left = self.compared(a, b, sign)
+            self.push(f'({signed}{left} {COMPARISONS[action]} {signed}{b.text})', 'i32', a, b)
+        elif action in ('shl', 'shr'):
+            by = f'({b.text} & {int(kind[1:]) - 1})' if number_of(b.text) is None else number_of(b.text) % int(kind[1:])
+            self.push(signed_back(kind, sign, f"({signed}{a.text} {'<<' if action == 'shl' else '>>'} {by})"), kind, a, b)
+        elif action in ('div', 'rem'):
+            self.push(signed_back(kind, sign, f"({signed}{a.text} {'/' if action == 'div' else '%'} {signed}{b.text})"),
+                      kind, a, b)
+        else:
+            self.arithmetic(kind, action, a, b)
+
+    def arithmetic(self, kind, action, a, b):
+        """A negative constant is added or subtracted as its opposite. What a constant moves the stack's end by is
+        one of the stack too."""
+        number, whole = number_of(b.text), 1 << int(kind[1:])
+        right = b.text
+        if action in ('add', 'sub') and number is not None and number >= whole // 2:
+            action, right = {'add': 'sub', 'sub': 'add'}[action], self.constant(kind, str(whole - number))
+        self.push(f'({a.text} {BINARY[action]} {right})', kind, a, b)
+        if a.text in self.of_stack and number is not None:
+            self.of_stack.add(self.stack[-1].text)
+
+    def compared(self, a, b, sign):
+        """The left side of a comparison. The module tests whether its stack has 16 bytes left, and its stack begins
+        at 0; here it begins where the caller lends it."""
+        if sign != 's' or b.kind != 'i64' or number_of(b.text) not in (15, 16):
+            return a.text
+        if a.text not in self.of_stack:
+            raise SystemExit(f'wasm_to_c.py: {a.text} is not known to be of the stack')
+        return f'({a.text} - e->stack)'
+
+    def unary(self, kind, action, sign):
+        [a] = self.pop(1)
+        texts = {'eqz': f'({a.text} == 0)', 'wrap_i64': cast('u32', a.text), 'extend_i32_u': cast('u64', a.text),
+                 'extend_i32_s': f'(u64)(i64){cast("i32", a.text)}', 'clz': f'clz{kind[1:]}({a.text})'}
+        name = f'{action}_{sign}' if sign else action
+        if name not in texts:
+            raise SystemExit(f'wasm_to_c.py: no translation of {kind}.{name}')
+        self.push(texts[name], 'i32' if action == 'eqz' else kind, a)
+
+
+def signed_back(kind, sign, text):
+    return f'({TYPES[kind]}){text}' if sign == 's' else text
+
+
+def result_of(words):
+    return words[1].rstrip(')') if words and words[0] == '(result' else None
+
+
+class Head:
+    """The types of a function's arguments and of its result."""
+
+    def __init__(self, text):
+        self.params, self.results = kinds_of(text, 'param'), kinds_of(text, 'result')
+
+
+def kinds_of(text, word):
+    return [kind for group in re.findall(rf'\({word}((?: i\d\d)+)\)', text) for kind in group.split()]
+
+
+def bytes_of(text):
+    """The bytes of a data segment as wabt writes it."""
+    found = re.findall(r'\\([0-9a-f]{2})|\\(.)|([^\\])', text)
+    return bytes(int(code, 16) if code else ESCAPES[escaped] if escaped else ord(plain)
+                 for code, escaped, plain in found)
+
+
+class Module:
+    """The parts of a module: types, functions, globals and data."""
+
+    def __init__(self, lines):
+        self.types, self.heads, self.names, self.starts = {}, {}, {}, {}
+        self.functions, self.data = [], []
+        body = None
+        for line in lines:
+            text = re.sub(r'\s*;;.*', '', line.strip())
+            if text.startswith('('):
+                body = self.part(text, body)
+            elif text and body is not None:
+                body.append(re.sub(r'\(;.*?;\)', '', text).split())
+                body = self.end(body)
+        # the tables begin where the stack ends
+        self.first = self.starts['$__stack_pointer']
+        self.last = max(self.starts.values())
+
+    def part(self, text, body):
+        """Takes a line that begins a part. Gives the body that the next lines are of."""
+        word = text.split()[0]
+        if word == '(local':
+            self.functions[-1][1].extend(kinds_of(text, 'local'))
+            return body
+        if word == '(type':
+            self.types[re.search(r';(\d+);', text)[1]] = Head(text)
+        elif word == '(func':
+            return self.function(text)
+        elif word == '(global':
+            name, start = re.match(r'\(global (\S+) .* \(i\d\d.const @?(\d+)\)', text).groups()
+            self.starts[name] = int(start)
+        elif word == '(data':
+            at, held = re.match(r'\(data \S+ \(i64.const @?(\d+)\) "(.*)"\)+$', text).groups()
+            self.data.append((int(at), bytes_of(held)))
+        return None
+
+    def function(self, text):
+        """Takes a function's head. Its name in C is what stands in the module, without types."""
+        name = re.match(r'\(func (\S+) \(type', text)[1]
+        head = self.heads[name] = self.types[re.search(r'\(type (\d+)\)', text)[1]]
+        short = re.sub(r'<.*?>', '', re.sub(r'::<[^>]*>', '', name.strip('$')))
+        short = re.sub(r'\W+', '_', short).strip('_').removeprefix('trac_')
+        count = 1
+        while short + str(count) * (count > 1) in self.names.values():
+            count += 1
+        self.names[name] = short + str(count) * (count > 1)
+        self.functions.append((name, list(head.params), []))
+        return self.functions[-1][2]
+
+    def end(self, body):
+        """Ends a body behind the instruction that has one parenthesis too many."""
+        last = body[-1]
+        if sum(word.count('(') - word.count(')') for word in last) >= 0:
+            return body
+        last[-1] = last[-1].rstrip(')') if '(' not in ''.join(last) else last[-1][:-1]
+        if not last[-1]:
+            last.pop()
+        return None
+
+    def address(self, text):
+        at = int(text.strip('@')) - self.first
+        if not 0 <= at <= self.last - self.first:
+            raise SystemExit(f'wasm_to_c.py: {text} is no address of the tables')
+        return f'TABLES + {at}u'
+
+    def table(self):
+        table = bytearray(self.last - self.first)
+        for at, held in self.data:
+            table[at - self.first:at - self.first + len(held)] = held
+        return table
+
+
+def without_guards(body):
+    kept = []
+    for words in body:
+        kept.append(words)
+        for guard in GUARDS:
+            if kept[-len(guard):] == guard:
+                del kept[-len(guard):]
+    return kept
+
+
+def lines_of(path):
+    with open(path, encoding='latin-1') as file:
+        return file.read().splitlines()
+
+
+def marked(line, same):
+    """A line of the module, its number marked where it is an address."""
+    if line == same or not re.match(r' *i', line):
+        return line
+    if re.sub(r'\d+', '', line) != re.sub(r'\d+', '', same):
+        raise SystemExit(f'wasm_to_c.py: the modules differ by more than addresses: {line} and {same}')
+    return re.sub(r'(i64.const |offset=)(\d+)', r'\1@\2', line)
+
+
+def print_table(module):
+    table = module.table()
+    print(f'static const u8 tables[{len(table)}] = {{')
+    for i in range(0, len(table), 24):
+        print('    ' + ', '.join(map(str, table[i:i + 24])) + ',')
+    print('};\n')
+
+
+def print_functions(module):
+    heads = {}
+    del module.heads[GUARD]
+    for name, head in module.heads.items():
+        params = ''.join(f', {TYPES[kind]} l{i}' for i, kind in enumerate(head.params))
+        result = TYPES[head.results[0]] if head.results else 'void'
+        heads[name] = f'static {result} {module.names[name]}(struct engine *e{params})'
+        print(heads[name] + ';')
+    for name, kinds, body in module.functions:
+        if name == GUARD:
+            continue
+        print(f'\n{heads[name]} {{')
+        head = module.heads[name]
+        print('\n'.join(Function(module, head, kinds, without_guards(body)).translate()))
+        print('}')
+
+
+def main(path, other):
+    lines, others = lines_of(path), lines_of(other)
+    if len(lines) != len(others):
+        raise SystemExit('wasm_to_c.py: the modules differ in their lengths')
+    module = Module([marked(line, same) for line, same in zip(lines, others)])
+    print_table(module)
+    print_functions(module)
+
+
+if __name__ == '__main__':
+    main(*sys.argv[1:])
