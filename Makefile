@@ -4,6 +4,8 @@
 
 CC = cc
 CFLAGS = -O2
+PREFIX = $(HOME)/.local
+LIBDIR = lib
 # Debian's own Python has Debian's packages of pytest and Selenium.
 PYTHON = /usr/bin/python3
 VERSION != cat VERSION
@@ -101,8 +103,27 @@ dist/trac.mjs: hosts/js/trac.mjs VERSION
 dist/trac.html: dist/trac.wasm $(PAGE) VERSION
 	$(PYTHON) hosts/page/make.py dist/trac.wasm $(VERSION) $@
 
+build/libtrac.a: hosts/c/trac_engine.c hosts/c/trac.h
+	mkdir -p build
+	$(CC) -std=c11 $(CFLAGS) -fPIC -ffunction-sections -c -o build/trac_engine.o hosts/c/trac_engine.c
+	rm -f $@ && ar rcs $@ build/trac_engine.o
+
+build/libtrac.so.0: build/libtrac.a
+	$(CC) -shared -Wl,-soname,libtrac.so.0 -o $@ build/trac_engine.o
+
 ## make install    puts what is built below PREFIX (~/.local); make uninstall takes it away again
+install: build/trac build/libtrac.so.0
+	@hosts/system/stage build/stage "$(PREFIX)" "$(LIBDIR)"
+	@hosts/system/install build/stage "$(DESTDIR)$(PREFIX)"
+
+uninstall:
+	@hosts/system/install --undo "$(DESTDIR)$(PREFIX)"
+
 ## make package    Debian packages of it, in dist/
+package: build/trac build/libtrac.so.0
+	@lib=lib/$$(dpkg-architecture -qDEB_HOST_MULTIARCH 2>/dev/null || $(CC) -print-multiarch) && \
+	    hosts/system/stage build/debian /usr "$$lib" && hosts/system/package build/debian "$$lib"
+
 ## make clean      takes away what was built, but no proofs
 clean:
 	rm -rf build dist
@@ -111,4 +132,5 @@ clean:
 check-tools:
 	@checks/tools
 
-.PHONY: all help prove programs check test proofs check-proved edits generate dist clean check-tools
+.PHONY: all help prove programs check test proofs check-proved edits generate dist install uninstall package \
+    clean check-tools
