@@ -73,7 +73,7 @@ generate:
 	hosts/c/generate
 
 ## make dist       what is handed out, in dist/: programs, libraries, the page, the manual
-dist: dist/trac dist/libtrac.a dist/trac.h dist/trac.wasm dist/trac.mjs dist/trac.html
+dist: dist/trac dist/libtrac.a dist/trac.h dist/trac.html dist/npm/package.json
 
 dist/trac: crates/trac_cli/out/trac_cli
 	mkdir -p dist
@@ -99,6 +99,17 @@ dist/trac.wasm: $(SOURCES)
 dist/trac.mjs: hosts/js/trac.mjs VERSION
 	mkdir -p dist
 	sed 's/@VERSION@/$(VERSION)/' hosts/js/trac.mjs >$@
+
+# The package for npm.
+dist/npm/package.json: dist/trac.wasm dist/trac.mjs hosts/js/package.json hosts/js/README.md hosts/js/trac.d.mts
+	mkdir -p dist/npm
+	cp dist/trac.wasm dist/trac.mjs hosts/js/README.md hosts/js/trac.d.mts dist/npm
+	sed 's/"version": "[^"]*"/"version": "$(VERSION)"/' hosts/js/package.json >$@
+
+## make types      the types of the module for JavaScript, hosts/js/trac.d.mts, anew from its comments
+types:
+	tsc -p hosts/js
+	sed -i '1i // Generated from trac.mjs by `make types`, and never edited.' hosts/js/trac.d.mts
 
 dist/trac.html: dist/trac.wasm $(PAGE) VERSION
 	$(PYTHON) hosts/page/make.py dist/trac.wasm $(VERSION) $@
@@ -132,5 +143,5 @@ clean:
 check-tools:
 	@checks/tools
 
-.PHONY: all help prove programs check test proofs check-proved edits generate dist install uninstall package \
+.PHONY: all help prove programs check test proofs check-proved edits generate types dist install uninstall package \
     clean check-tools
