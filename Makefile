@@ -4,6 +4,8 @@
 
 CC = cc
 CFLAGS = -O2
+PREFIX = $(HOME)/.local
+LIBDIR = lib
 # Debian's own Python has Debian's packages of pytest and Selenium.
 PYTHON = /usr/bin/python3
 VERSION != cat VERSION
@@ -71,7 +73,7 @@ generate:
 	hosts/c/generate
 
 ## make dist       what is handed out, in dist/: programs, libraries, the page, the manual
-dist: dist/trac dist/libtrac.a dist/trac.h dist/trac.wasm dist/trac.mjs dist/trac.html
+dist: dist/trac dist/libtrac.a dist/trac.h dist/trac.html dist/npm/package.json
 
 dist/trac: crates/trac_cli/out/trac_cli
 	mkdir -p dist
@@ -98,11 +100,41 @@ dist/trac.mjs: hosts/js/trac.mjs VERSION
 	mkdir -p dist
 	sed 's/@VERSION@/$(VERSION)/' hosts/js/trac.mjs >$@
 
+# The package for npm.
+dist/npm/package.json: dist/trac.wasm dist/trac.mjs hosts/js/package.json hosts/js/README.md hosts/js/trac.d.mts
+	mkdir -p dist/npm
+	cp dist/trac.wasm dist/trac.mjs hosts/js/README.md hosts/js/trac.d.mts dist/npm
+	sed 's/"version": "[^"]*"/"version": "$(VERSION)"/' hosts/js/package.json >$@
+
+## make types      the types of the module for JavaScript, hosts/js/trac.d.mts, anew from its comments
+types:
+	tsc -p hosts/js
+	sed -i '1i // Generated from trac.mjs by `make types`, and never edited.' hosts/js/trac.d.mts
+
 dist/trac.html: dist/trac.wasm $(PAGE) VERSION
 	$(PYTHON) hosts/page/make.py dist/trac.wasm $(VERSION) $@
 
+build/libtrac.a: hosts/c/trac_engine.c hosts/c/trac.h
+	mkdir -p build
+	$(CC) -std=c11 $(CFLAGS) -fPIC -ffunction-sections -c -o build/trac_engine.o hosts/c/trac_engine.c
+	rm -f $@ && ar rcs $@ build/trac_engine.o
+
+build/libtrac.so.0: build/libtrac.a
+	$(CC) -shared -Wl,-soname,libtrac.so.0 -o $@ build/trac_engine.o
+
 ## make install    puts what is built below PREFIX (~/.local); make uninstall takes it away again
+install: build/trac build/libtrac.so.0
+	@hosts/system/stage build/stage "$(PREFIX)" "$(LIBDIR)"
+	@hosts/system/install build/stage "$(DESTDIR)$(PREFIX)"
+
+uninstall:
+	@hosts/system/install --undo "$(DESTDIR)$(PREFIX)"
+
 ## make package    Debian packages of it, in dist/
+package: build/trac build/libtrac.so.0
+	@lib=lib/$$(dpkg-architecture -qDEB_HOST_MULTIARCH 2>/dev/null || $(CC) -print-multiarch) && \
+	    hosts/system/stage build/debian /usr "$$lib" && hosts/system/package build/debian "$$lib"
+
 ## make clean      takes away what was built, but no proofs
 clean:
 	rm -rf build dist
@@ -111,4 +143,5 @@ clean:
 check-tools:
 	@checks/tools
 
-.PHONY: all help prove programs check test proofs check-proved edits generate dist clean check-tools
+.PHONY: all help prove programs check test proofs check-proved edits generate types dist install uninstall package \
+    clean check-tools

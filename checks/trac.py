@@ -17,8 +17,6 @@ IN_C = os.path.join(TOP, 'build', 'trac')
 PROGRAM = os.path.abspath(os.environ.get('TRAC') or IN_C)
 TRACER = os.path.join(TOP, 'crates', 'trac_trace', 'out', 'trac_trace')
 TERMINAL = os.path.join(TOP, 'crates', 'trac_terminal', 'out', 'trac_terminal')
-# Set in the environment where ./release was run for all checks together.
-RELEASED = 'RELEASED'
 
 
 def crates_of(crate):
@@ -35,10 +33,11 @@ def crates_of(crate):
     return [name for name in uses if name in found]
 
 
-def release(*words):
-    """Makes dist/, or a part of it, where that was not done before."""
-    if RELEASED not in os.environ:
-        subprocess.run([os.path.join(TOP, 'release'), *words], check=True)
+def make(*targets):
+    """Makes targets of the Makefile that aren't there or aren't current."""
+    done = subprocess.run(['make', '-s', *targets], cwd=TOP, capture_output=True, text=True, check=False)
+    if done.returncode:
+        raise AssertionError(done.stdout + done.stderr)
 
 
 def run(script, *words, **more):

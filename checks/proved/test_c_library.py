@@ -10,7 +10,7 @@ import unittest
 
 from c_api import SANITIZED, STRICT, Engine, compiled, view
 from rows import rows
-from trac import TOP, release, trace
+from trac import TOP, make, trace
 
 LIBRARY = os.path.join(TOP, 'dist', 'libtrac.a')
 EXAMPLE = os.path.join(TOP, 'examples', 'embedding_c', 'embedding.c')
@@ -51,7 +51,7 @@ def traced(row):
 class Library(Engine, unittest.TestCase):
     @classmethod
     def setUpClass(cls):
-        release('library')
+        make('dist/libtrac.a', 'dist/trac.h')
         cls.folder = tempfile.mkdtemp()
         cls.addClassCleanup(shutil.rmtree, cls.folder)
         kinds = (('gcc', STRICT), ('clang', STRICT), ('gcc', SANITIZED), ('g++', AS_CPP))

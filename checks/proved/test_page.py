@@ -8,7 +8,7 @@ import sys
 import unittest
 
 from test_trace import rows as traced
-from trac import TOP, release, report, run, trace
+from trac import TOP, make, report, run, trace
 
 # Where Debian puts what belongs to no Python of one's own.
 sys.path.append('/usr/lib/python3/dist-packages')
@@ -63,7 +63,7 @@ CONTRAST = """
 
 def setUpModule():
     global browser
-    release()
+    make('dist/trac.html')
     options = webdriver.ChromeOptions()
     options.binary_location = '/usr/bin/chromium'
     for word in ('--headless=new', '--no-sandbox', '--disable-gpu', '--disable-dev-shm-usage'):

@@ -9,7 +9,7 @@ import unittest
 
 import c_api
 from rows import rows
-from trac import PROGRAM, TOP, release, run
+from trac import PROGRAM, TOP, make, run
 from c_api import SANITIZED, STRICT, compiled
 from test_program import REFUSED as WORDS_REFUSED
 
@@ -24,7 +24,7 @@ FATES = {'halted': 0, 'input ended': 0, 'workspace': 1, 'steps': 3}
 
 
 def setUpModule():
-    release()
+    make('dist')
 
 
 def version():

@@ -16,8 +16,10 @@ const CELL_SIZE = 8;
 const CODE_SIZE = 4;
 const REPORT_SIZE = 40;
 const LARGEST = 2n ** 64n - 1n;
-const OUTPUT_FAILED = 6;
+const REFUSED = 9;
 const WANTS_OUTPUT = 8;
+/** The fates of a turn after which its run goes on. */
+const ON_ITS_WAY = new Set(['going', 'wants input', 'wants output']);
 const FATE_NAMES = ['going', 'halted', 'input ended', 'workspace', 'steps', 'input failed',
     'output failed', 'wants input', 'wants output'];
 const RULE_NAMES = ['idling', 'layout', 'protection', 'argument', 'active call', 'neutral call',
@@ -31,33 +33,59 @@ const PART_NAMES = ['store', 'neutral', 'free', 'active'];
  * @property {'halted' | 'input ended' | 'workspace' | 'steps'} fate how it ended: the script called
  * `hl`, or asked for input at its end; a step needs more cells than there are; the allowance is
  * used up
- * @property {bigint} steps the steps done
+ * @property {bigint} steps the steps done; in JSON a number, or a string where no number is exact
  * @property {number} peak the greatest need of a step, in cells: the least room for the same run
- * @property {Uint8Array} output what the script printed
- * @property {string} text the same, read as UTF-8
+ * @property {Uint8Array} output what the script printed; left out of JSON
+ * @property {string} text the same, read as UTF-8; a byte order mark stays
  * @property {number} consumed how many bytes of the script were read
  */
 
-/** @type {Promise<WebAssembly.Module> | undefined} */
+/**
+ * The bytes of trac.wasm that were handed in.
+ * @type {Uint8Array | ArrayBuffer | undefined}
+ */
+let provided;
+
+/**
+ * The module, compiled once.
+ * @type {Promise<WebAssembly.Module> | undefined}
+ */
 let compiled;
 
 /**
  * Hands in the bytes of trac.wasm, for a page or a program that has them inside. Called first, it
- * keeps `run` and `Session.open` from looking for the file.
- * @param {Uint8Array} bytes
+ * keeps `run` and `Session.open` from looking for the file. Bytes that are no module are refused by
+ * the `run` or `Session.open` that uses them.
+ * @param {Uint8Array | ArrayBuffer} bytes
+ * @throws {TypeError} where they are no bytes
  */
 export function provide(bytes) {
-    compiled = WebAssembly.compile(bytes);
+    provided = copied('bytes', bytes);
+    compiled = undefined;
 }
 
 /**
- * The module, compiled once.
+ * The module. A load that failed is made again by the next call.
  * @returns {Promise<WebAssembly.Module>}
  */
-async function module() {
+function engine() {
+    compiled ??= loaded().catch((error) => {
+        compiled = undefined;
+        throw error;
+    });
+    return compiled;
+}
+
+/**
+ * The module, from the bytes that were handed in or from the file.
+ * @returns {Promise<WebAssembly.Module>}
+ */
+async function loaded() {
+    if (provided) return WebAssembly.compile(provided);
     const place = new URL('trac.wasm', import.meta.url);
     if (place.protocol === 'file:' && globalThis.process?.versions?.node) {
-        const { readFile } = await import('node:fs/promises');
+        const files = 'node:fs/promises';
+        const { readFile } = await import(files);
         return WebAssembly.compile(await readFile(place));
     }
     const answer = await fetch(place);
@@ -71,8 +99,12 @@ async function module() {
  * @param {number | bigint} value
  * @param {bigint} least
  * @param {bigint} most
+ * @returns {bigint}
  */
 function whole(name, value, least, most) {
+    if (typeof value !== 'bigint' && !Number.isInteger(value)) {
+        throw new TypeError(`${name} must be a whole number`);
+    }
     const number = BigInt(value);
     if (number < least || number > most) {
         throw new RangeError(`${name} must be from ${least} to ${most}`);
@@ -86,7 +118,7 @@ function whole(name, value, least, most) {
 class Room {
     /** @param {WebAssembly.Instance} instance */
     constructor(instance) {
-        this.exports = instance.exports;
+        this.exports = /** @type {any} */ (instance.exports);
         this.next = BigInt(this.exports.__heap_base.value);
     }
 
@@ -108,11 +140,80 @@ class Room {
 }
 
 /**
- * The bytes of a text, which is UTF-8 where a string is given.
- * @param {string | Uint8Array} text
+ * A copy of bytes.
+ * @param {string} name
+ * @param {unknown} bytes
+ * @returns {Uint8Array}
  */
-function bytesOf(text) {
-    return typeof text === 'string' ? new TextEncoder().encode(text) : text;
+function copied(name, bytes) {
+    if (bytes instanceof Uint8Array) return bytes.slice();
+    if (bytes instanceof ArrayBuffer) return new Uint8Array(bytes.slice(0));
+    throw new TypeError(`${name} must be a Uint8Array or an ArrayBuffer`);
+}
+
+/**
+ * The bytes of a text, which is UTF-8 where a string is given.
+ * @param {string} name
+ * @param {string | Uint8Array | ArrayBuffer} text
+ * @returns {Uint8Array}
+ */
+function bytesOf(name, text) {
+    if (typeof text === 'string') return new TextEncoder().encode(text);
+    if (text instanceof Uint8Array || text instanceof ArrayBuffer) return copied(name, text);
+    throw new TypeError(`${name} must be a string, a Uint8Array or an ArrayBuffer`);
+}
+
+/**
+ * Refuses options of other names.
+ * @param {object} options
+ * @param {string[]} names
+ */
+function known(options, names) {
+    for (const name of Object.keys(options)) {
+        if (!names.includes(name)) throw new TypeError(`there is no option ${name}`);
+    }
+}
+
+/**
+ * How many bytes stand in front of a character that isn't whole yet; all, where none is cut.
+ * @param {Uint8Array} bytes
+ * @returns {number}
+ */
+function wholeCharacters(bytes) {
+    for (let back = 1; back <= Math.min(3, bytes.length); back += 1) {
+        const byte = bytes[bytes.length - back];
+        if (byte >= 0xc0) {
+            const length = byte >= 0xf0 ? 4 : byte >= 0xe0 ? 3 : 2;
+            return bytes.length - (length > back ? back : 0);
+        }
+        if (byte < 0x80) break;
+    }
+    return bytes.length;
+}
+
+/**
+ * Bytes read as UTF-8; a byte order mark stays.
+ * @param {Uint8Array} bytes
+ * @returns {string}
+ */
+function textOf(bytes) {
+    return new TextDecoder('utf-8', { ignoreBOM: true }).decode(bytes);
+}
+
+/**
+ * A report that JSON can hold: its steps are a number, or a string where no number is exact.
+ * @template {{steps: bigint}} T
+ * @param {T} report
+ * @returns {T}
+ */
+function withJson(report) {
+    return Object.defineProperty(report, 'toJSON', {
+        value() {
+            const { output, steps, ...rest } = this;
+            const exact = steps <= BigInt(Number.MAX_SAFE_INTEGER);
+            return { ...rest, steps: exact ? Number(steps) : String(steps) };
+        },
+    });
 }
 
 /**
@@ -133,47 +234,28 @@ function reportAt(buffer, place) {
 }
 
 /**
- * One run, in a memory of its own.
- * @param {WebAssembly.Module} engine
- * @param {Uint8Array} script
- * @param {bigint} cells
- * @param {bigint} steps
- * @param {number} room how many bytes the output may have
- */
-async function once(engine, script, cells, steps, room) {
-    const memory = new Room(await WebAssembly.instantiate(engine, {}));
-    const block = memory.take(Number(cells) * CELL_SIZE);
-    const [text, output, report] = [script.length, room, REPORT_SIZE].map((n) => memory.take(n));
-    memory.reserve();
-    const { buffer } = memory.exports.memory;
-    new Uint8Array(buffer).set(script, Number(text));
-    memory.exports.trac_engine_run(
-        report, block, cells, steps, text, BigInt(script.length), output, BigInt(room));
-    const { fate, peak, steps: done, written, consumed } = reportAt(buffer, report);
-    const printed = new Uint8Array(buffer, Number(output), written).slice();
-    return { fate, peak, steps: done, output: printed, consumed };
-}
-
-/**
- * Runs a script to its end. A script whose output turns out too long for the memory that was set
- * aside is run again with more: it prints the same again.
- * @param {string | Uint8Array} script the script; of a string, its bytes in UTF-8
+ * Runs a script to its end.
+ * @param {string | Uint8Array | ArrayBuffer} script the script; of a string, its bytes in UTF-8
  * @param {object} [limits]
  * @param {number} [limits.cells] cells of the workspace, from 1 to 16777216; 65536 if left out
  * @param {number | bigint} [limits.steps] the steps allowed, from 1 to 2^64 - 1; 1000000 if left out
  * @returns {Promise<Report>}
+ * @throws {TypeError} where the script is no text, a limit no whole number, or an option unknown
  * @throws {RangeError} where a limit is out of its range, or the memory can't be had
  */
-export async function run(script, { cells = 65536, steps = 1000000 } = {}) {
-    const room = whole('cells', cells, 1n, BigInt(MOST_CELLS));
-    const allowed = whole('steps', steps, 1n, LARGEST);
-    const bytes = bytesOf(script);
-    const engine = await (compiled ??= module());
-    for (let output = 65536; ; output *= 4) {
-        const done = await once(engine, bytes, room, allowed, output);
-        if (done.fate !== OUTPUT_FAILED) {
-            const text = new TextDecoder().decode(done.output);
-            return { ...done, fate: FATE_NAMES[done.fate], text };
+export async function run(script, limits = {}) {
+    const bytes = bytesOf('script', script);
+    const session = await Session.open(limits);
+    const parts = [];
+    for (let from = 0; ;) {
+        const told = session.turn(bytes.subarray(from), { ended: true });
+        from += told.consumed;
+        parts.push(told.output);
+        if (!ON_ITS_WAY.has(told.fate)) {
+            const output = joined(parts);
+            const { steps, peak } = told;
+            const fate = /** @type {Report['fate']} */ (told.fate);
+            return withJson({ fate, peak, steps, output, text: textOf(output), consumed: from });
         }
     }
 }
@@ -228,13 +310,16 @@ function joined(rows) {
 /**
  * What a turn came to.
  * @typedef {object} TurnReport
- * @property {'going' | 'wants input' | 'halted' | 'input ended' | 'workspace' | 'steps'} fate `going`
- * where all its steps were done and the run goes on; `wants input` where the next step reads more
- * than there is, and nothing was done of it; else how the run ended, as in a `Report`
+ * @property {'going' | 'wants input' | 'wants output' | 'halted' | 'input ended' | 'workspace' |
+ * 'steps'} fate `going` where all its steps were done and the run goes on; `wants input` where the
+ * next step reads more than there is, and nothing was done of it; `wants output` where there is no
+ * memory for what the next step prints, and nothing was done of it; else how the run ended, as in a
+ * `Report`
  * @property {bigint} steps the steps of the whole run so far
  * @property {number} peak the greatest need of a step of the whole run so far, in cells
- * @property {Uint8Array} output what was printed in this turn
- * @property {string} text the same, read as UTF-8
+ * @property {Uint8Array} output what was printed in this turn; left out of JSON
+ * @property {string} text the same, read as UTF-8, behind the bytes of a character that the turns
+ * before cut; a character that this turn cuts is in the text of the next one
  * @property {number} consumed how many bytes of this input were read: the others are given again at
  * the next turn, with more behind them
  */
@@ -256,6 +341,7 @@ function joined(rows) {
  * @property {Uint8Array} machine
  * @property {Uint8Array | null} block null where there was no turn yet: what it holds is nothing then
  * @property {bigint} steps
+ * @property {Uint8Array} cut the bytes of a character that the last turn cut
  */
 
 /**
@@ -270,14 +356,40 @@ export class Session {
      * @param {number | bigint} [limits.steps] the steps allowed, from 1 to 2^64 - 1; 1000000 if left
      * out
      * @returns {Promise<Session>}
+     * @throws {TypeError} where a limit is no whole number, or an option unknown
      * @throws {RangeError} where a limit is out of its range, or the memory can't be had
      */
-    static async open({ cells = 65536, steps = 1000000 } = {}) {
+    static async open(limits = {}) {
+        known(limits, ['cells', 'steps']);
+        const { cells = 65536, steps = 1000000 } = limits;
         const room = whole('cells', cells, 1n, BigInt(MOST_CELLS));
         const allowed = whole('steps', steps, 1n, LARGEST);
-        const engine = await (compiled ??= module());
-        return new Session(await WebAssembly.instantiate(engine, {}), room, allowed);
+        return new Session(await WebAssembly.instantiate(await engine(), {}), room, allowed);
     }
+
+    #memory;
+
+    #engine;
+
+    #cells;
+
+    #steps = 0n;
+
+    #used = false;
+
+    #cut = new Uint8Array(0);
+
+    #machineSize;
+
+    #machine;
+
+    #report;
+
+    #block;
+
+    #input;
+
+    #output;
 
     /**
      * Use `Session.open`.
@@ -286,45 +398,50 @@ export class Session {
      * @param {bigint} steps
      */
     constructor(instance, cells, steps) {
-        this.memory = new Room(instance);
-        this.engine = instance.exports;
-        this.cells = Number(cells);
-        this.steps = 0n;
-        this.used = false;
-        this.machineSize = Number(this.engine.trac_engine_machine_size());
-        this.machine = this.memory.take(this.machineSize);
-        this.report = this.memory.take(REPORT_SIZE);
-        this.block = this.memory.take(this.cells * CELL_SIZE);
-        this.memory.reserve();
-        this.input = new Buffer(this.memory);
-        this.output = new Buffer(this.memory);
-        this.engine.trac_engine_open(this.machine, this.block, cells, steps);
+        this.#memory = new Room(instance);
+        this.#engine = /** @type {any} */ (instance.exports);
+        this.#cells = Number(cells);
+        this.#machineSize = Number(this.#engine.trac_engine_machine_size());
+        this.#machine = this.#memory.take(this.#machineSize);
+        this.#report = this.#memory.take(REPORT_SIZE);
+        this.#block = this.#memory.take(this.#cells * CELL_SIZE);
+        this.#memory.reserve();
+        this.#input = new Buffer(this.#memory);
+        this.#output = new Buffer(this.#memory);
+        if (this.#engine.trac_engine_open(this.#machine, this.#block, cells, steps) === REFUSED) {
+            throw new RangeError(`cells must be from 1 to ${MOST_CELLS}`);
+        }
     }
 
     /**
      * Makes steps over a piece of input, at most so many.
-     * @param {string | Uint8Array} [input] the bytes to read; of a string, its bytes in UTF-8
+     * @param {string | Uint8Array | ArrayBuffer} [input] the bytes to read; of a string, its bytes in UTF-8
      * @param {object} [how]
      * @param {boolean} [how.ended] whether the input ends behind these bytes; false if left out
      * @param {number | bigint} [how.most] the most steps of this turn; without a bound if left out
      * @returns {TurnReport}
-     * @throws {RangeError} where the memory for the input or the output can't be had
+     * @throws {TypeError} where the input is no text, `most` no whole number, or an option unknown
+     * @throws {RangeError} where `most` is out of its range, or the memory for the input or the
+     * output can't be had; nothing was read or printed then
      */
-    turn(input = '', { ended = false, most = LARGEST } = {}) {
-        const bytes = bytesOf(input);
-        const place = this.input.of(bytes.length);
-        this.bytes(place, bytes.length).set(bytes);
+    turn(input = '', how = {}) {
+        known(how, ['ended', 'most']);
+        const { ended = false, most = LARGEST } = how;
+        const bytes = bytesOf('input', input);
         let left = whole('most', most, 0n, LARGEST);
+        const place = this.#input.of(bytes.length);
+        this.#bytes(place, bytes.length).set(bytes);
         let consumed = 0;
         const printed = [];
         for (;;) {
-            const before = this.steps;
-            const told = this.part(place + BigInt(consumed), bytes.length - consumed, ended, left);
+            const before = this.#steps;
+            const told = this.#part(place + BigInt(consumed), bytes.length - consumed, ended, left);
             consumed += told.consumed;
             left -= told.steps - before;
             printed.push(told.output);
-            if (told.fate !== WANTS_OUTPUT) return reportOf(told, joined(printed), consumed);
-            this.output.of(told.wanted);
+            if (told.fate !== WANTS_OUTPUT || !this.#hasOutput(told, printed)) {
+                return this.#reportOf(told, joined(printed), consumed);
+            }
         }
     }
 
@@ -336,13 +453,13 @@ export class Session {
      * @throws {RangeError} where the number is out of its range
      */
     again(steps = 1000000) {
-        this.engine.trac_engine_again(this.machine, whole('steps', steps, 1n, LARGEST));
-        this.steps = 0n;
+        this.#engine.trac_engine_again(this.#machine, whole('steps', steps, 1n, LARGEST));
+        this.#steps = 0n;
     }
 
     /** How many forms there are. */
     formCount() {
-        return Number(this.engine.trac_engine_form_count(this.machine));
+        return Number(this.#engine.trac_engine_form_count(this.#machine));
     }
 
     /**
@@ -351,15 +468,15 @@ export class Session {
      * @returns {StoredForm[]}
      */
     forms(most = Infinity) {
-        const { trac_engine_form_name: name, trac_engine_form_text: text } = this.engine;
-        const { trac_engine_form_codes: codes, trac_engine_form_pointer: pointer } = this.engine;
+        const { trac_engine_form_name: name, trac_engine_form_text: text } = this.#engine;
+        const { trac_engine_form_codes: codes, trac_engine_form_pointer: pointer } = this.#engine;
         return Array.from({ length: Math.min(this.formCount(), most) }, (_, i) => {
             const k = BigInt(i);
             return {
-                name: this.text((to, room) => name(this.machine, k, to, room)),
-                text: this.text((to, room) => text(this.machine, k, to, room)),
-                items: this.codes((to, room) => codes(this.machine, k, to, room)),
-                pointer: Number(pointer(this.machine, k)),
+                name: this.#text((to, room) => name(this.#machine, k, to, room)),
+                text: this.#text((to, room) => text(this.#machine, k, to, room)),
+                items: this.#codes((to, room) => codes(this.#machine, k, to, room)),
+                pointer: Number(pointer(this.#machine, k)),
             };
         });
     }
@@ -370,7 +487,7 @@ export class Session {
      * call, 258 the mark between two arguments
      */
     neutral() {
-        return this.codes((to, room) => this.engine.trac_engine_neutral(this.machine, to, room));
+        return this.#codes((to, room) => this.#engine.trac_engine_neutral(this.#machine, to, room));
     }
 
     /**
@@ -379,8 +496,8 @@ export class Session {
      * @returns {Uint32Array} a byte each, from 0 to 255
      */
     active(most = Infinity) {
-        return this.codes(
-            (to, room) => this.engine.trac_engine_active(this.machine, to, room), most);
+        return this.#codes(
+            (to, room) => this.#engine.trac_engine_active(this.#machine, to, room), most);
     }
 
     /**
@@ -389,7 +506,7 @@ export class Session {
      * neutral call, number sign, end of call or character
      */
     rule() {
-        return RULE_NAMES[this.engine.trac_engine_rule(this.machine)];
+        return RULE_NAMES[this.#engine.trac_engine_rule(this.#machine)];
     }
 
     /**
@@ -397,13 +514,14 @@ export class Session {
      * @returns {{store: number, neutral: number, free: number, active: number}}
      */
     parts() {
-        return Object.fromEntries(PART_NAMES.map(
-            (name, i) => [name, Number(this.engine.trac_engine_part(this.machine, i))]));
+        const [store, neutral, free, active] = PART_NAMES.map(
+            (_, i) => Number(this.#engine.trac_engine_part(this.#machine, i)));
+        return { store, neutral, free, active };
     }
 
     /** The meta character, a byte. */
     get meta() {
-        return this.engine.trac_engine_meta(this.machine);
+        return this.#engine.trac_engine_meta(this.#machine);
     }
 
     /**
@@ -412,7 +530,8 @@ export class Session {
      * `rc`
      */
     awaits() {
-        return AWAITED_NAMES[this.engine.trac_engine_awaits(this.machine)];
+        const awaited = this.#engine.trac_engine_awaits(this.#machine);
+        return /** @type {'nothing' | 'text' | 'byte'} */ (AWAITED_NAMES[awaited]);
     }
 
     /**
@@ -420,12 +539,13 @@ export class Session {
      * @returns {Saved}
      */
     save() {
-        const block = this.bytes(this.block, this.cells * CELL_SIZE);
+        const block = this.#bytes(this.#block, this.#cells * CELL_SIZE);
         return {
-            cells: this.cells,
-            machine: this.bytes(this.machine, this.machineSize).slice(),
-            block: this.used ? block.slice() : null,
-            steps: this.steps,
+            cells: this.#cells,
+            machine: this.#bytes(this.#machine, this.#machineSize).slice(),
+            block: this.#used ? block.slice() : null,
+            steps: this.#steps,
+            cut: this.#cut.slice(),
         };
     }
 
@@ -433,14 +553,55 @@ export class Session {
      * Makes the machine what one was when it was saved: this one, or another that was opened with as
      * many cells.
      * @param {Saved} saved
-     * @throws {RangeError} where that one had another number of cells
+     * @throws {TypeError} where it isn't what `save` gives
+     * @throws {RangeError} where that one had another number of cells; this one is as before then
      */
     restore(saved) {
-        if (saved.cells !== this.cells) throw new RangeError('saved with another number of cells');
-        this.bytes(this.machine, this.machineSize).set(saved.machine);
-        if (saved.block) this.bytes(this.block, this.cells * CELL_SIZE).set(saved.block);
-        this.used = saved.block !== null;
-        this.steps = saved.steps;
+        const { cells, machine, block, steps, cut } = saved;
+        if (cells !== this.#cells) throw new RangeError('saved with another number of cells');
+        const isMachine = machine instanceof Uint8Array && machine.length === this.#machineSize;
+        const isBlock = block === null
+            || (block instanceof Uint8Array && block.length === this.#cells * CELL_SIZE);
+        if (!isMachine || !isBlock || typeof steps !== 'bigint' || !(cut instanceof Uint8Array)) {
+            throw new TypeError('saved must be what save gives');
+        }
+        this.#bytes(this.#machine, this.#machineSize).set(machine);
+        if (block) this.#bytes(this.#block, this.#cells * CELL_SIZE).set(block);
+        this.#used = block !== null;
+        this.#steps = steps;
+        this.#cut = cut.slice();
+    }
+
+    /**
+     * Whether there is room for what a turn wants to print. Where nothing was done, want of memory is
+     * an error.
+     * @param {{wanted: number, consumed: number}} told
+     * @param {Uint8Array[]} printed
+     */
+    #hasOutput(told, printed) {
+        try {
+            this.#output.of(told.wanted);
+            return true;
+        } catch (error) {
+            if (printed.length === 1 && !printed[0].length && !told.consumed) throw error;
+            return false;
+        }
+    }
+
+    /**
+     * The report of a turn. The text of a run that is over has the bytes of a cut character too.
+     * @param {{fate: number, steps: bigint, peak: number}} told
+     * @param {Uint8Array} output
+     * @param {number} consumed
+     * @returns {TurnReport}
+     */
+    #reportOf({ fate, steps, peak }, output, consumed) {
+        const name = /** @type {TurnReport['fate']} */ (FATE_NAMES[fate]);
+        const bytes = joined([this.#cut, output]);
+        const end = ON_ITS_WAY.has(name) ? wholeCharacters(bytes) : bytes.length;
+        this.#cut = bytes.slice(end);
+        return withJson(
+            { fate: name, steps, peak, output, text: textOf(bytes.subarray(0, end)), consumed });
     }
 
     /**
@@ -448,8 +609,8 @@ export class Session {
      * @param {bigint} place
      * @param {number} length
      */
-    bytes(place, length) {
-        return new Uint8Array(this.engine.memory.buffer, Number(place), length);
+    #bytes(place, length) {
+        return new Uint8Array(this.#engine.memory.buffer, Number(place), length);
     }
 
     /**
@@ -459,25 +620,25 @@ export class Session {
      * @param {boolean} ended
      * @param {bigint} most
      */
-    part(place, length, ended, most) {
-        const output = this.output.of(1);
-        this.used = true;
-        this.engine.trac_engine_turn(this.report, this.machine, place, BigInt(length), output,
-            BigInt(this.output.size), ended ? 1 : 0, most);
-        const told = reportAt(this.engine.memory.buffer, this.report);
-        this.steps = told.steps;
-        return { ...told, output: this.bytes(output, told.written).slice() };
+    #part(place, length, ended, most) {
+        const output = this.#output.of(1);
+        this.#used = true;
+        this.#engine.trac_engine_turn(this.#report, this.#machine, place, BigInt(length), output,
+            BigInt(this.#output.size), ended ? 1 : 0, most);
+        const told = reportAt(this.#engine.memory.buffer, this.#report);
+        this.#steps = told.steps;
+        return { ...told, output: this.#bytes(output, told.written).slice() };
     }
 
     /**
      * What a call writes as bytes, which answers how many there are.
      * @param {(to: bigint, room: bigint) => bigint} call
      */
-    text(call) {
-        const length = Number(call(this.output.of(1), 0n));
-        const place = this.output.of(length);
+    #text(call) {
+        const length = Number(call(this.#output.of(1), 0n));
+        const place = this.#output.of(length);
         call(place, BigInt(length));
-        return this.bytes(place, length).slice();
+        return this.#bytes(place, length).slice();
     }
 
     /**
@@ -485,30 +646,10 @@ export class Session {
      * @param {(to: bigint, room: bigint) => bigint} call
      * @param {number} [most]
      */
-    codes(call, most = Infinity) {
-        const length = Math.min(Number(call(this.output.of(CODE_SIZE), 0n)), most);
-        const place = this.output.of(length * CODE_SIZE);
+    #codes(call, most = Infinity) {
+        const length = Math.min(Number(call(this.#output.of(CODE_SIZE), 0n)), most);
+        const place = this.#output.of(length * CODE_SIZE);
         call(place, BigInt(length));
-        return new Uint32Array(this.engine.memory.buffer, Number(place), length).slice();
+        return new Uint32Array(this.#engine.memory.buffer, Number(place), length).slice();
     }
-}
-
-/**
- * The report of a turn.
- * @param {{fate: number, steps: bigint, peak: number}} told
- * @param {Uint8Array} output
- * @param {number} consumed
- * @returns {TurnReport}
- */
-function reportOf({ fate, steps, peak }, output, consumed) {
-    return {
-        fate: FATE_NAMES[fate],
-        steps,
-        peak,
-        output,
-        get text() {
-            return new TextDecoder().decode(output);
-        },
-        consumed,
-    };
 }

@@ -1,0 +1,73 @@
+// What trac.mjs does with input that can't be used, with loads that fail, with texts that are cut, and
+// with memory that can't be had: prints it as JSON.
+import { readFileSync } from 'node:fs';
+import { pathToFileURL } from 'node:url';
+
+const place = pathToFileURL(process.argv[2]);
+const { provide, run, Session } = await import(place);
+const wasm = readFileSync(new URL('trac.wasm', place));
+
+/** The name of the error of a call, with its words; null where it ends well. */
+async function errorOf(call) {
+    try {
+        await call();
+        return null;
+    } catch (error) {
+        return `${error.name}: ${error.message}`;
+    }
+}
+
+const errors = {};
+for (const [name, call] of Object.entries({
+    script: () => run(12),
+    scriptArray: () => run([35, 40]),
+    cells: () => run('', { cells: 1.5 }),
+    cellsText: () => run('', { cells: '10' }),
+    cellsRange: () => run('', { cells: 0 }),
+    stepsRange: () => Session.open({ steps: 2n ** 64n }),
+    option: () => run('', { cell: 10 }),
+    bytes: () => provide('text'),
+    input: async () => (await Session.open()).turn(null),
+    how: async () => (await Session.open()).turn('', { end: true }),
+    most: async () => (await Session.open()).turn('', { most: -1 }),
+    saved: async () => {
+        const session = await Session.open({ cells: 10 });
+        session.restore({ ...session.save(), machine: new Uint8Array(3) });
+    },
+})) {
+    errors[name] = await errorOf(call);
+}
+
+provide(new Uint8Array([1, 2, 3]));
+const failed = await errorOf(() => run(''));
+provide(wasm);
+const again = (await run("#(ps,again)'")).text;
+
+const script = new TextEncoder().encode("#(ps,kept)'");
+const running = run(script);
+script.fill(0);
+const kept = (await running).text;
+const buffer = (await run(new TextEncoder().encode("#(ps,buffer)'").buffer)).text;
+const mark = [...(await run("#(ps,\ufeffa)'")).text].map((c) => c.codePointAt(0));
+
+const session = await Session.open();
+const parts = [];
+for (const byte of new TextEncoder().encode("##(ps,##(rc))'")) session.turn(Uint8Array.of(byte));
+for (const byte of new TextEncoder().encode('\u20ac')) {
+    const { text, output } = session.turn(Uint8Array.of(byte));
+    parts.push([text, output.length]);
+    session.turn(new TextEncoder().encode("'##(ps,##(rc))'"));
+}
+
+const long = 3000000;
+const large = await run(`#(ds,a,${'x'.repeat(1000)})#(ds,b,(#(ps,${'##(cl,a)'.repeat(100)})))${'#(cl,b)'.repeat(long / 100000)}'`,
+    { cells: 400000, steps: 100000000 });
+const json = JSON.parse(JSON.stringify(await run("#(ps,hello)'")));
+const before = await Session.open({ cells: 10 });
+const other = await Session.open({ cells: 10 });
+other.turn('abc', { ended: true });
+before.restore(other.save());
+console.log(JSON.stringify({
+    errors, failed, again, kept, buffer, mark, parts, large: large.output.length, json,
+    shown: Object.keys(before),
+}));

@@ -1,0 +1,276 @@
+// Generated from trac.mjs by `make types`, and never edited.
+/**
+ * Hands in the bytes of trac.wasm, for a page or a program that has them inside. Called first, it
+ * keeps `run` and `Session.open` from looking for the file. Bytes that are no module are refused by
+ * the `run` or `Session.open` that uses them.
+ * @param {Uint8Array | ArrayBuffer} bytes
+ * @throws {TypeError} where they are no bytes
+ */
+export function provide(bytes: Uint8Array | ArrayBuffer): void;
+/**
+ * Runs a script to its end.
+ * @param {string | Uint8Array | ArrayBuffer} script the script; of a string, its bytes in UTF-8
+ * @param {object} [limits]
+ * @param {number} [limits.cells] cells of the workspace, from 1 to 16777216; 65536 if left out
+ * @param {number | bigint} [limits.steps] the steps allowed, from 1 to 2^64 - 1; 1000000 if left out
+ * @returns {Promise<Report>}
+ * @throws {TypeError} where the script is no text, a limit no whole number, or an option unknown
+ * @throws {RangeError} where a limit is out of its range, or the memory can't be had
+ */
+export function run(script: string | Uint8Array | ArrayBuffer, limits?: {
+    cells?: number;
+    steps?: number | bigint;
+}): Promise<Report>;
+/**
+ * TRAC T-64 in WebAssembly, for browsers and Node. The file trac.wasm lies beside this one.
+ *
+ * The module is made from a library that is proved; this file, binaryen, which lowers the module to
+ * memories of 32 bits, and the host that runs it are not.
+ * @module
+ */
+/** The version of this release. */
+export const VERSION: "@VERSION@";
+/** The most cells that a workspace may have. */
+export const MOST_CELLS: 16777216;
+/**
+ * What a turn came to.
+ * @typedef {object} TurnReport
+ * @property {'going' | 'wants input' | 'wants output' | 'halted' | 'input ended' | 'workspace' |
+ * 'steps'} fate `going` where all its steps were done and the run goes on; `wants input` where the
+ * next step reads more than there is, and nothing was done of it; `wants output` where there is no
+ * memory for what the next step prints, and nothing was done of it; else how the run ended, as in a
+ * `Report`
+ * @property {bigint} steps the steps of the whole run so far
+ * @property {number} peak the greatest need of a step of the whole run so far, in cells
+ * @property {Uint8Array} output what was printed in this turn; left out of JSON
+ * @property {string} text the same, read as UTF-8, behind the bytes of a character that the turns
+ * before cut; a character that this turn cuts is in the text of the next one
+ * @property {number} consumed how many bytes of this input were read: the others are given again at
+ * the next turn, with more behind them
+ */
+/**
+ * A form, as it stands.
+ * @typedef {object} StoredForm
+ * @property {Uint8Array} name
+ * @property {Uint8Array} text the body as `pf` shows it: `<N>` for a gap, and `<^>` at the pointer
+ * @property {Uint32Array} items the body item by item: 0 to 255 is a byte, 255 + N the gap with the
+ * ordinal N
+ * @property {number} pointer how many items stand in front of the form's pointer
+ */
+/**
+ * What a machine was at some time, for `restore`.
+ * @typedef {object} Saved
+ * @property {number} cells
+ * @property {Uint8Array} machine
+ * @property {Uint8Array | null} block null where there was no turn yet: what it holds is nothing then
+ * @property {bigint} steps
+ * @property {Uint8Array} cut the bytes of a character that the last turn cut
+ */
+/**
+ * One machine that is kept, in a memory of its own: scripts are run by turns, and the forms stay from
+ * one to the next. Made by `Session.open`.
+ */
+export class Session {
+    /**
+     * A machine with an empty store of forms.
+     * @param {object} [limits]
+     * @param {number} [limits.cells] cells of the workspace, from 1 to 16777216; 65536 if left out
+     * @param {number | bigint} [limits.steps] the steps allowed, from 1 to 2^64 - 1; 1000000 if left
+     * out
+     * @returns {Promise<Session>}
+     * @throws {TypeError} where a limit is no whole number, or an option unknown
+     * @throws {RangeError} where a limit is out of its range, or the memory can't be had
+     */
+    static open(limits?: {
+        cells?: number;
+        steps?: number | bigint;
+    }): Promise<Session>;
+    /**
+     * Use `Session.open`.
+     * @param {WebAssembly.Instance} instance
+     * @param {bigint} cells
+     * @param {bigint} steps
+     */
+    constructor(instance: WebAssembly.Instance, cells: bigint, steps: bigint);
+    /**
+     * Makes steps over a piece of input, at most so many.
+     * @param {string | Uint8Array | ArrayBuffer} [input] the bytes to read; of a string, its bytes in UTF-8
+     * @param {object} [how]
+     * @param {boolean} [how.ended] whether the input ends behind these bytes; false if left out
+     * @param {number | bigint} [how.most] the most steps of this turn; without a bound if left out
+     * @returns {TurnReport}
+     * @throws {TypeError} where the input is no text, `most` no whole number, or an option unknown
+     * @throws {RangeError} where `most` is out of its range, or the memory for the input or the
+     * output can't be had; nothing was read or printed then
+     */
+    turn(input?: string | Uint8Array | ArrayBuffer, how?: {
+        ended?: boolean;
+        most?: number | bigint;
+    }): TurnReport;
+    /**
+     * Begins a new run with this allowance: both strings are cleared, with the calls that are open,
+     * and the steps and the peak count from 0. The forms with their pointers and the meta character
+     * stay.
+     * @param {number | bigint} [steps] from 1 to 2^64 - 1; 1000000 if left out
+     * @throws {RangeError} where the number is out of its range
+     */
+    again(steps?: number | bigint): void;
+    /** How many forms there are. */
+    formCount(): number;
+    /**
+     * The forms, in the order in which they were defined.
+     * @param {number} [most] at most so many, the first ones; all if left out
+     * @returns {StoredForm[]}
+     */
+    forms(most?: number): StoredForm[];
+    /**
+     * The neutral string: the base text, and then for each open call its mark and its arguments.
+     * @returns {Uint32Array} 0 to 255 is a byte, 256 the mark of an active call, 257 that of a neutral
+     * call, 258 the mark between two arguments
+     */
+    neutral(): Uint32Array;
+    /**
+     * The active string.
+     * @param {number} [most] at most so many characters, the first ones; all if left out
+     * @returns {Uint32Array} a byte each, from 0 to 255
+     */
+    active(most?: number): Uint32Array;
+    /**
+     * The rule of scanning that the next step follows.
+     * @returns {string} by its name in the manual: idling, layout, protection, argument, active call,
+     * neutral call, number sign, end of call or character
+     */
+    rule(): string;
+    /**
+     * How many cells each part of the block holds.
+     * @returns {{store: number, neutral: number, free: number, active: number}}
+     */
+    parts(): {
+        store: number;
+        neutral: number;
+        free: number;
+        active: number;
+    };
+    /** The meta character, a byte. */
+    get meta(): any;
+    /**
+     * What the next step reads.
+     * @returns {'nothing' | 'text' | 'byte'} `text` where it performs `rs`, `byte` where it performs
+     * `rc`
+     */
+    awaits(): 'nothing' | 'text' | 'byte';
+    /**
+     * The whole machine, for `restore`.
+     * @returns {Saved}
+     */
+    save(): Saved;
+    /**
+     * Makes the machine what one was when it was saved: this one, or another that was opened with as
+     * many cells.
+     * @param {Saved} saved
+     * @throws {TypeError} where it isn't what `save` gives
+     * @throws {RangeError} where that one had another number of cells; this one is as before then
+     */
+    restore(saved: Saved): void;
+    #private;
+}
+/**
+ * What a run came to.
+ */
+export type Report = {
+    /**
+     * how it ended: the script called
+     * `hl`, or asked for input at its end; a step needs more cells than there are; the allowance is
+     * used up
+     */
+    fate: 'halted' | 'input ended' | 'workspace' | 'steps';
+    /**
+     * the steps done; in JSON a number, or a string where no number is exact
+     */
+    steps: bigint;
+    /**
+     * the greatest need of a step, in cells: the least room for the same run
+     */
+    peak: number;
+    /**
+     * what the script printed; left out of JSON
+     */
+    output: Uint8Array;
+    /**
+     * the same, read as UTF-8; a byte order mark stays
+     */
+    text: string;
+    /**
+     * how many bytes of the script were read
+     */
+    consumed: number;
+};
+/**
+ * What a turn came to.
+ */
+export type TurnReport = {
+    /**
+     * `going` where all its steps were done and the run goes on; `wants input` where the
+     * next step reads more than there is, and nothing was done of it; `wants output` where there is no
+     * memory for what the next step prints, and nothing was done of it; else how the run ended, as in a
+     * `Report`
+     */
+    fate: 'going' | 'wants input' | 'wants output' | 'halted' | 'input ended' | 'workspace' | 'steps';
+    /**
+     * the steps of the whole run so far
+     */
+    steps: bigint;
+    /**
+     * the greatest need of a step of the whole run so far, in cells
+     */
+    peak: number;
+    /**
+     * what was printed in this turn; left out of JSON
+     */
+    output: Uint8Array;
+    /**
+     * the same, read as UTF-8, behind the bytes of a character that the turns
+     * before cut; a character that this turn cuts is in the text of the next one
+     */
+    text: string;
+    /**
+     * how many bytes of this input were read: the others are given again at
+     * the next turn, with more behind them
+     */
+    consumed: number;
+};
+/**
+ * A form, as it stands.
+ */
+export type StoredForm = {
+    name: Uint8Array;
+    /**
+     * the body as `pf` shows it: `<N>` for a gap, and `<^>` at the pointer
+     */
+    text: Uint8Array;
+    /**
+     * the body item by item: 0 to 255 is a byte, 255 + N the gap with the
+     * ordinal N
+     */
+    items: Uint32Array;
+    /**
+     * how many items stand in front of the form's pointer
+     */
+    pointer: number;
+};
+/**
+ * What a machine was at some time, for `restore`.
+ */
+export type Saved = {
+    cells: number;
+    machine: Uint8Array;
+    /**
+     * null where there was no turn yet: what it holds is nothing then
+     */
+    block: Uint8Array | null;
+    steps: bigint;
+    /**
+     * the bytes of a character that the last turn cut
+     */
+    cut: Uint8Array;
+};
