@@ -114,7 +114,7 @@ fn run_typed(
     if report.fate == Fate::InputEnded && !prompt.is_empty() {
         let _ = rt.stderr().write_all(b"\n");
     }
-    status(report.fate)
+    status(&report)
 }
 
 // Whether standard input is a terminal: a character device that is none of the memory devices.
