@@ -29,8 +29,8 @@ mod words;
 use std::env;
 use std::io::{Read, Write};
 use std::process::ExitCode;
-use trac_core::{Fate, Input, RetryingReader, RetryingWriter, SliceSource};
-use trac_words::{refused, refused_words};
+use trac_core::{Fate, Input, Output, RetryingReader, RetryingWriter, SliceSource};
+use trac_lines::{refused, refused_words};
 use trace::{TraceError, trace, trace_last};
 use views::Options;
 use watched::watched;
@@ -53,7 +53,12 @@ fn main(rt: HostRuntime) -> ExitCode {
     };
     match options {
         Ok(options) => ExitCode::from(run(&rt, &options)),
-        Err(error) => ExitCode::from(refused(&rt, &error, NO_MEMORY_LINE)),
+        Err(error) => ExitCode::from(refused(
+            &rt,
+            &mut Output::new(rt.stdout()),
+            &error,
+            NO_MEMORY_LINE,
+        )),
     }
 }
 
