@@ -80,14 +80,18 @@ dist/trac: crates/trac_cli/out/trac_cli
 	cp -p crates/trac_cli/out/trac_cli $@
 	cp docs/*.1 dist
 
-dist/libtrac.a: $(SOURCES)
-	mkdir -p dist
+# The proved library: its exports are hidden behind the functions of trac.h.
+dist/libtrac.a: $(SOURCES) hosts/c/proved.c hosts/c/api.c hosts/c/trac.h
+	mkdir -p build dist
 	@$(RT) trac_c rt lib
-	cp crates/trac_c/out/libtrac_c.a $@
+	$(CC) -std=c11 $(CFLAGS) -fPIC -c -o build/proved.o hosts/c/proved.c
+	ld -r -o build/libtrac.o build/proved.o --whole-archive crates/trac_c/out/libtrac_c.a
+	objcopy -w --keep-global-symbol='trac_[!e]*' build/libtrac.o
+	rm -f $@ && ar rcs $@ build/libtrac.o
 
-dist/trac.h: hosts/c/trac.h VERSION
+dist/trac.h: hosts/c/trac.h
 	mkdir -p dist
-	{ echo '/* Version $(VERSION) */' && cat hosts/c/trac.h; } >$@
+	cp hosts/c/trac.h $@
 
 dist/trac.wasm: $(SOURCES)
 	mkdir -p build dist
