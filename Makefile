@@ -46,11 +46,19 @@ programs: prove crates/trac_trace/out/trac_trace crates/trac_terminal/out/trac_t
 
 ## make check      all that needs no kit, over the program in C
 check: build/trac check-tools
-	$(PYTEST) checks --ignore checks/proved
+	$(PYTEST) checks --ignore checks/proved --ignore checks/machines
+
+## make check-machines  the engine in C on a Cortex-M3, aarch64, arm and s390x, each emulated
+check-machines: check-tools
+	@checks/tools machines
+	$(PYTEST) checks/machines
+
+## make check-all  all of these checks
+check-all: check check-machines
 
 ## make test       the gate: make check, all proofs, tests and edits, and the checks of what is proved
 test:
-	@checks/gate check proofs check-proved
+	@checks/gate check check-machines proofs check-proved
 
 proofs:
 	@$(RT) . rt ci
@@ -147,5 +155,5 @@ clean:
 check-tools:
 	@checks/tools
 
-.PHONY: all help prove programs check test proofs check-proved edits generate types dist install uninstall package \
+.PHONY: all help prove programs check check-machines check-all test proofs check-proved edits generate types dist install uninstall package \
     clean check-tools
