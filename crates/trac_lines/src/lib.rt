@@ -145,7 +145,14 @@ pub fn memory_line(settings: &Settings) -> Line
 pub fn status(report: &Report) -> u8
     ensures { result ≡ status_of report.now.fate }
 {
-    match report.fate {
+    fate_status(report.fate)
+}
+
+/// The same, of how a run ended.
+pub fn fate_status(fate: Fate) -> u8
+    ensures { result ≡ status_of fate }
+{
+    match fate {
         Fate::Halted | Fate::InputEnded => 0,
         Fate::Workspace => 1,
         Fate::Steps => 3,
