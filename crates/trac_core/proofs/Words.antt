@@ -12,7 +12,7 @@ pub use Rattle.std.specs.List.{before_first, list_any, position_or_len, range_wi
 pub use Rattle.std.specs.Prelude.{Err, Ok, OnErr, Result, bytes_eq, codes, decimal, if◌then◌else◌, is_some, nat_le, nat_lt, unwrap_or, ℤ, ◌==◌}
 pub use Rattle.trac_core.specs.Attempts.{AnswersCall, ClosesCall, IsCall, IsValueFrom, Scans, Stands, TakesFrom, Tried, TriedCall, delivered, fate_after, function_at, scene, settled}
 pub use Rattle.trac_core.specs.Display.{display, shown}
-pub use Rattle.trac_core.specs.Machine.{Answers, BrokeOff, Course, EndsRun, GoesOn, IsReportOf, MachineState, Moment, RanThrough, RanToFailure, Reports, ReportsOf, Resumes, StopsAtAllowance, StopsAtInput, StopsAtOutput, StopsAtRoom, after_steps, counted, ending, failing, failing_state_of, first_runs, input_failures, later_runs, made, moment, output_failures, state_of, state_with}
+pub use Rattle.trac_core.specs.Machine.{Answers, BrokeOff, Course, EndsRun, GoesOn, IsReportOf, KeepsFormsAndMeta, LeavesMemory, MachineState, Moment, RanThrough, RanToFailure, Reports, ReportsOf, Resumes, StopsAtAllowance, StopsAtInput, StopsAtOutput, StopsAtRoom, after_steps, counted, ending, failing, failing_state_of, first_runs, input_failures, later_runs, made, memory_after, moment, output_failures, state_of, state_with}
 pub use Rattle.trac_core.specs.Matching.{IsAt, side_in, side_of}
 pub use Rattle.trac_core.specs.Performed.{is_plain, performed_by, performs, prints_output}
 pub use Rattle.trac_core.specs.Session.{printed_in}
@@ -45,6 +45,7 @@ pub use Rattle.trac_language.specs.declared.function.Function.TheVariants.{Arith
 pub use Rattle.trac_language.specs.declared.item.Item.{Item}
 pub use Rattle.trac_language.specs.declared.mode.Mode.{Mode}
 pub use Rattle.trac_language.specs.declared.mode.Mode.TheVariants.{Active}
+pub use Rattle.trac_laws.specs.StateAfter.{state_after}
 pub use Rattle.trac_laws.specs.LastRead.{is_read_string, reads_last, reads_last_by, reads_to_end}
 pub use Rattle.trac_space.specs.Calls.{IsLastCall}
 pub use Rattle.trac_space.specs.Cells.{IsNoCall, NoCall, NoComma, is_call, is_comma, seen}
