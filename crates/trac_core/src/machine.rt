@@ -22,6 +22,7 @@ use trac_forms::Work;
 use trac_language::{Fate, Report};
 use trac_space::Cell;
 
+pub(crate) mod advancing;
 pub(crate) mod closing;
 pub(crate) mod printing;
 pub(crate) mod session;
