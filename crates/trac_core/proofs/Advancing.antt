@@ -1,5 +1,5 @@
 -- Steps that touch no device, one after the other.
-use Rattle.trac_core.proofs.Words.{◌≡◌, ◌≢◌, ℕ, zero, suc, ◌+◌, ◌-◌, ◌<◌, ◌≤◌, max, false, true, Some, None, refl, sym, ap, ◌∙◌, subst, arith, ◌⊎◌, Fate, Halted, InputEnded, Workspace, Steps, InputFailed, OutputFailed, Text, Memory, size, Stream, Contents, used, IsSound, memory_of, scene, Tried, MachineState, moment, counted, Report, Passes, PassesTimes, peak_after, passed, running, performs, touches_device, KeepsFormsAndMeta, TouchesDevice, TriedAlone, StepsAlone, GoesAlone, EndsAlone, NeedsMore, StopsAlone, Advanced, Advances, advanced_to}
+use Rattle.trac_core.proofs.Words.{◌≡◌, ◌≢◌, ℕ, zero, suc, ◌+◌, ◌-◌, ◌<◌, ◌≤◌, max, false, true, Some, None, refl, sym, ap, ◌∙◌, subst, arith, ◌⊎◌, ⊎_elim, inl, inr, min, cases_lt, Fate, Halted, InputEnded, Workspace, Steps, InputFailed, OutputFailed, Text, Memory, size, Stream, Contents, used, IsSound, memory_of, scene, Tried, MachineState, moment, counted, Report, Passes, PassesTimes, peak_after, passed, running, performs, touches_device, KeepsFormsAndMeta, TouchesDevice, TriedAlone, StepsAlone, GoesAlone, EndsAlone, NeedsMore, StopsAlone, Advanced, Advances, advanced_to}
 use Rattle.trac_functions.proofs.FlatLemmas.{size-used}
 use Rattle.trac_core.specs.declared.machine.Counters.{Counters}
 use Rattle.trac_core.specs.declared.machine.advancing.Advance.{Advance}
@@ -103,3 +103,8 @@ module _ (start : MachineState) (w new : Contents) (meta : ℕ) (at : Counters) 
       let same : last ≡ advanced_to new after at told = counted-parts m (memory_of after new) need fate ∙ (λ i. record (advanced_to new after at told) { room = sym stays i }) in
       let whole : Advanced most told.done start (advanced_to new after at told) = (m, (goes, (few, subst (EndsAlone m fate) same ends))) in
       subst (λ (to : Advance). Advanced most to.done start (advanced_to new after at to)) (sym is) whole
+
+-- the less of two numbers is one of them
+pub least-of : (a b n : ℕ) → n ≡ min a b → (n ≡ a) ⊎ (n ≡ b)
+least-of a b n is =
+    ⊎_elim (λ less. inl (omega arith)) (λ more. inr (omega arith)) (cases_lt a b)
