@@ -72,7 +72,8 @@ fn turn_number(last: Turn) -> u32
     }
 }
 
-/// Makes steps, at most so many. Went: all of them were done.
+/// Makes steps, at most so many: those that touch no device as fast as a run does, and each other
+/// one by itself. Went: all of them were done.
 fn go_on(
     machine: &mut Machine,
     source: &mut SliceSource,
@@ -93,11 +94,14 @@ fn go_on(
 {
     let mut done = 0;
     while done < most {
-        let part = step_on(machine, source, sink, ended);
-        if part != Turn::Went {
-            return part;
+        done += machine.advance(most - done);
+        if done < most {
+            let part = step_on(machine, source, sink, ended);
+            if part != Turn::Went {
+                return part;
+            }
+            done += 1;
         }
-        done += 1;
     }
     Turn::Went
 }

@@ -99,7 +99,7 @@ module _ (start : MachineState) (w new : Contents) (meta : ℕ) (at : Counters) 
       let m = running w meta (counters_after at k peak) in
       let last = counted m (memory_of after new) need (Some fate) in
       let told : Advance = record { done = k; steps = last.steps; peak = last.peak; fate = Some fate } in
-      let ends : EndsAlone m fate last = record { alone = tried.alone; ends = λ source written. tried.tried source written m refl refl allowed; keeps = subst (KeepsFormsAndMeta (memory_of meta w)) (sym (counted-memory m (memory_of after new) need fate)) (tried.keeps (λ e. absurd cc)) } in
+      let ends : EndsAlone m fate last = record { alone = tried.alone; ends = λ source written. tried.tried source written m refl refl allowed; none_failed = tried.none_failed; keeps = subst (KeepsFormsAndMeta (memory_of meta w)) (sym (counted-memory m (memory_of after new) need fate)) (tried.keeps (λ e. absurd cc)) } in
       let same : last ≡ advanced_to new after at told = counted-parts m (memory_of after new) need fate ∙ (λ i. record (advanced_to new after at told) { room = sym stays i }) in
       let whole : Advanced most told.done start (advanced_to new after at told) = (m, (goes, (few, subst (EndsAlone m fate) same ends))) in
       subst (λ (to : Advance). Advanced most to.done start (advanced_to new after at to)) (sym is) whole

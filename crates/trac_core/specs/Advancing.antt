@@ -8,6 +8,7 @@ use Rattle.trac_functions.specs.Flat.{memory_of}
 use Rattle.trac_core.specs.declared.machine.Counters.{Counters}
 use Rattle.trac_core.specs.declared.machine.advancing.Advance.{Advance}
 use Rattle.trac_core.specs.Performed.{performs, touches_device}
+use Rattle.trac_core.specs.Attempts.{NoneFailed}
 use Rattle.trac_core.specs.Machine.{MachineState, moment, GoesOn, Answers, KeepsFormsAndMeta}
 
 -- a step that touches no device leads from one machine to another, whatever its devices hold, and
@@ -24,11 +25,12 @@ GoesAlone zero old new = new ≡ old
 GoesAlone (suc n) old new =
     (middle : MachineState) × (GoesAlone n old middle × StepsAlone middle new)
 
--- a step that touches no device ends the run so
+-- a step that touches no device ends the run so, by no failure of a device and with steps left
 pub record EndsAlone (old : MachineState) (fate : Fate) (new : MachineState) : Type 0 where
   pub alone : touches_device (performs old.memory) ≡ false
   pub ends : (source : Stream) (written : Text) →
       Answers (moment old source written) (Some fate) (moment new source written)
+  pub none_failed : NoneFailed (Some fate)
   pub keeps : KeepsFormsAndMeta old.memory new.memory
 
 -- no step is allowed, or the next one touches a device

@@ -11,7 +11,7 @@ use Rattle.trac_functions.specs.Calls.{AreArguments, texts}
 use Rattle.trac_core.specs.declared.call.NamedCall.{NamedCall}
 use Rattle.trac_core.specs.Performed.{performs, touches_device}
 use Rattle.trac_core.specs.Machine.{KeepsFormsAndMeta}
-use Rattle.trac_core.specs.Attempts.{scene, Tried, function_at}
+use Rattle.trac_core.specs.Attempts.{scene, Tried, function_at, NoneFailed}
 
 -- these are the parts of the innermost call
 pub record IsNamed (call : NamedCall) (w : Contents) : Type 0 where
@@ -28,11 +28,12 @@ abbrev pub TouchesDevice : Memory → Type 0
 TouchesDevice memory = touches_device (performs memory) ≡ true
 
 -- the next step neither reads nor prints, and for each machine that holds these contents and may
--- step, and whatever its devices hold, the answer is right; a step that ends the run, or isn't done,
--- leaves the forms and the meta character
+-- step, and whatever its devices hold, the answer is right; it tells no failure of a device, and a
+-- step that ends the run, or isn't done, leaves the forms and the meta character
 pub record TriedAlone (old : Contents) (meta : ℕ) (answer : Option Fate) (needed : ℕ)
     (new : Contents) (after : ℕ) : Type 0 where
   pub alone : touches_device (performs (memory_of meta old)) ≡ false
   pub tried : (source : Stream) (written : Text) →
       Tried (scene old meta source written) answer needed (scene new after source written)
+  pub none_failed : NoneFailed answer
   pub keeps : answer ≢ None → KeepsFormsAndMeta (memory_of meta old) (memory_of after new)

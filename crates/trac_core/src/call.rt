@@ -9,7 +9,7 @@ ghost use Rattle.trac_functions.specs.Calls.{AreArguments, Performs};
 ghost use Rattle.trac_core.specs.Performed.{is_plain, performs, touches_device};
 ghost use Rattle.trac_core.specs.Attempts.{scene, Tried, TriedCall, function_at, TakesFrom};
 ghost use Rattle.trac_core.specs.Attempts.{TakesAtMost, AnswersCall, Stands, fate_after};
-ghost use Rattle.trac_core.specs.Attempts.{LeavesSource, LeavesSink, EndsQuietly};
+ghost use Rattle.trac_core.specs.Attempts.{LeavesSource, LeavesSink, EndsQuietly, NoneFailed};
 ghost use Rattle.trac_core.specs.NamedCalls.{IsNamed, TriedAlone, TouchesDevice};
 ghost use Rattle.trac_devices.specs.Devices.{Stream};
 ghost use Rattle.trac_core.specs.StepsInRow.{AsksFor, IsPlainFrom};
@@ -134,6 +134,7 @@ fn perform_alone(work: &mut Work, call: NamedCall, meta: &mut u8) -> Attempt
     ensures tried { (source : Stream) (written : Text) →
         TriedCall call.place (scene work.old meta.old source written) result.fate result.need
         (scene work.new meta.new source written) }
+    ensures fate { NoneFailed result.fate }
     ensures stay { result.fate ≢ None →
         (work.new.forms ≡ work.old.forms) × (meta.new ≡ meta.old) }
     ensures fits { result.need ≤ work.old.room }

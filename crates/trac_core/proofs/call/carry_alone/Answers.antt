@@ -21,6 +21,7 @@ returns-in-Empty-clause-tried c =
     record {
       alone = ap touches_device (sym (performs-other w c.args.meta.now other));
       tried = λ source written. tried-scanned c.load_idling.result.fate w c.load_idling.new.work c.load_idling.result.need h.scanned h.fits c.args.meta.now source written;
+      none_failed = h.fate;
       keeps = λ some. (h.forms, refl);
     }
 
@@ -35,5 +36,6 @@ returns-else-touches_device-clause-tried c =
     record {
       alone = ap touches_device names ∙ sym c.touches_device.ensures ∙ c.if-touches_device.false;
       tried = λ source written. c.perform_alone.ensures.tried source written w p;
+      none_failed = c.perform_alone.ensures.fate;
       keeps = λ some. (let stays = c.perform_alone.ensures.stay some in (stays.0 ∙ ap (λ w. w.forms) c.drop_active.ensures.rest, stays.1));
     }
