@@ -1,5 +1,5 @@
 -- Steps that touch no device, one after the other.
-use Rattle.trac_core.proofs.Words.{◌≡◌, ◌≢◌, ℕ, zero, suc, ◌+◌, ◌-◌, ◌<◌, ◌≤◌, max, false, true, Some, None, refl, sym, ap, ◌∙◌, subst, arith, ◌⊎◌, ⊎_elim, inl, inr, min, cases_lt, Fate, Halted, InputEnded, Workspace, Steps, InputFailed, OutputFailed, Text, Memory, size, Stream, Contents, used, IsSound, memory_of, scene, Tried, MachineState, moment, counted, Report, Passes, PassesTimes, peak_after, passed, running, performs, touches_device, KeepsFormsAndMeta, TouchesDevice, TriedAlone, StepsAlone, GoesAlone, EndsAlone, NeedsMore, StopsAlone, Advanced, Advances, advanced_to}
+use Rattle.trac_core.proofs.Words.{◌≡◌, ℕ, zero, suc, ◌+◌, ◌<◌, ◌≤◌, max, Some, None, refl, sym, ap, ◌∙◌, subst, arith, ◌⊎◌, ⊎_elim, inl, inr, min, cases_lt, Fate, Halted, InputEnded, Workspace, Steps, InputFailed, OutputFailed, Memory, size, Contents, used, IsSound, memory_of, MachineState, counted, Passes, PassesTimes, peak_after, passed, running, touches_device, KeepsFormsAndMeta, TriedAlone, StepsAlone, GoesAlone, EndsAlone, NeedsMore, Advanced, Advances, advanced_to}
 use Rattle.trac_functions.proofs.FlatLemmas.{size-used}
 use Rattle.trac_core.specs.declared.machine.Counters.{Counters}
 use Rattle.trac_core.specs.declared.machine.advancing.Advance.{Advance}

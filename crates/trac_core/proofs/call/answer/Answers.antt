@@ -1,4 +1,4 @@
-use Rattle.trac_core.proofs.Words.{◌≡◌, drop, texts, arguments_at, IsLastCall, ap, sym, subst, ◌∙◌, Some, false, arith, true, touches_device, scene, fate_after, function_at, AnswersCall, LeavesSource, LeavesSink}
+use Rattle.trac_core.proofs.Words.{◌≡◌, drop, texts, arguments_at, IsLastCall, ap, sym, subst, ◌∙◌, Some, arith, scene, fate_after, function_at, AnswersCall, LeavesSource, LeavesSink}
 use Rattle.std.proofs.lemmas.Grind.{common_steps}
 use Rattle.trac_core.proofs.call.answer.Goals as goal
 

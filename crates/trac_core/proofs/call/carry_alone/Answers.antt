@@ -1,4 +1,4 @@
-use Rattle.trac_core.proofs.Words.{◌≢◌, refl, ap, sym, subst, ◌∙◌, [], Some, slice_get, text_of_cells, AsksFor, touches_device}
+use Rattle.trac_core.proofs.Words.{◌≢◌, refl, ap, sym, subst, ◌∙◌, Some, slice_get, text_of_cells, AsksFor, touches_device}
 use Rattle.trac_core.proofs.Performing.{performs-closed}
 use Rattle.trac_core.proofs.Performed.{performs-other, performs-innermost}
 use Rattle.trac_core.proofs.StepsInRow.{tried-scanned}

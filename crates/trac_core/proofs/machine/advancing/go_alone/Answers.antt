@@ -1,7 +1,6 @@
-use Rattle.trac_core.proofs.Words.{◌≡◌, ◌⊎◌, ◌+◌, ◌-◌, refl, sym, ap, ◌∙◌, subst, arith, inl, inr, Some, length-drop, Contents, memory_of, TriedAlone, NeedsMore, GoesAlone, running, Advanced, advanced_to}
+use Rattle.trac_core.proofs.Words.{◌≡◌, ◌⊎◌, ◌-◌, refl, sym, ap, ◌∙◌, subst, arith, inl, inr, Some, length-drop, Contents, memory_of, TriedAlone, NeedsMore, GoesAlone, running}
 use Rattle.trac_core.proofs.RunningOn.{need-fits, need-counted}
 use Rattle.trac_core.proofs.Advancing.{counters_after, alone-run, alone-step, alone-stays, alone-ends, least-of}
-use Rattle.trac_core.specs.declared.machine.advancing.Advance.{Advance}
 use Rattle.trac_core.proofs.machine.advancing.go_alone.Goals as goal
 
 pub loop-left-preserved-in-Ok : goal.loop-left-preserved-in-Ok
