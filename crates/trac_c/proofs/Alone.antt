@@ -1,5 +1,6 @@
 -- Steps of a turn that touch no device.
-use Rattle.trac_c.proofs.Words.{◌≡◌, ◌≢◌, ℕ, zero, suc, ◌+◌, ◌<◌, Bool, false, not, Option, Some, None, refl, sym, ap, ◌∙◌, subst, arith, Text, Fate, MachineState, Moment, moment, awaited, next_function, is_none, nat_lt, ◌&&◌, if◌then◌else◌, is_short, waits_for_input, Goes, SomeTurned, Turn, Went, Over}
+use Rattle.std.specs.Prelude.{true}
+use Rattle.trac_c.proofs.Words.{◌≡◌, ◌≢◌, ℕ, zero, suc, ◌+◌, ◌-◌, ◌<◌, ◌≤◌, Bool, false, not, Option, Some, None, refl, sym, ap, ◌∙◌, subst, arith, Text, Fate, MachineState, Moment, moment, awaited, next_function, is_none, nat_lt, ◌&&◌, if◌then◌else◌, is_short, waits_for_input, Goes, SomeTurned, Turn, Went, Over}
 use Rattle.std.proofs.lemmas.Bool.{and_right}
 use Rattle.trac_language.specs.declared.function.Function.{Function}
 use Rattle.trac_language.specs.declared.function.Function.TheVariants.{ReadString, ReadCharacter}
@@ -57,21 +58,48 @@ pub ends-on : (most n k : ℕ) (ended : Bool) (start new : Moment) (old middle :
 ends-on most n k ended start new old middle source written last few other turns over wanted to goes = go middle.fate refl
   where
     go : (fate : Option Fate) → middle.fate ≡ fate → SomeTurned ended most start last new
-    go None going =
-        (k + n, (moment middle source written, record {
+    go None going = (
+      k + n,
+      (
+        moment middle source written,
+        record {
           goes = goes-on wanted n k ended start old middle source written going to goes;
           ends = ends-turn ended most (k + n) (moment middle source written) last new other few (turns going);
-        }))
+        },
+      ),
+    )
     go (Some fate) is_over =
         let stops = subst (λ fate. StopsAlone wanted n to.0 fate middle) is_over to.1.1 in
         let at = over fate is_over in
         let before = moment to.0 source written in
         let answers : Answers before (Some fate) new = subst (λ new. Answers before (Some fate) new) (sym at.1) (stops.1.ends source written) in
-        let turned : TurnsTo ended before last new = subst (λ t. TurnsTo ended before t new) (sym at.0) (waits-none ended to.0 source.bytes stops.1.alone, answers) in
-        (k + n, (before, record {
-          goes = goes-alone n k ended start old to.0 source written to.1.0 goes;
-          ends = ends-turn ended most (k + n) before last new other few turned;
-        }))
+        let turned : TurnsTo ended before last new = subst (λ t. TurnsTo ended before t new) (sym at.0) (waits-none ended to.0 source.bytes stops.1.alone, answers) in (
+          k + n,
+          (
+            before,
+            record {
+              goes = goes-alone n k ended start old to.0 source written to.1.0 goes;
+              ends = ends-turn ended most (k + n) before last new other few turned;
+            },
+          ),
+        )
+
+-- as many steps as a turn may make are done
+pub ends-full : (most n k : ℕ) (ended : Bool) (start : Moment) (old new : MachineState) (source : Stream) (written : Text) → k + n ≡ most → (wanted : ℕ) → wanted ≤ most - k → Advanced wanted n old new → Goes ended k start (moment old source written) → SomeTurned ended most start Went (moment new source written)
+ends-full most n k ended start old new source written all wanted few to goes = go new.fate refl
+  where
+    go : (fate : Option Fate) → new.fate ≡ fate → SomeTurned ended most start Went (moment new source written)
+    go None going =
+        (k + n, (moment new source written, record { goes = goes-on wanted n k ended start old new source written going to goes; ends = (all, refl) }))
+    go (Some fate) is_over =
+        let stops = subst (λ fate. StopsAlone wanted n to.0 fate new) is_over to.1.1 in
+        absurd (omega (arith, stops.0, few, all))
+
+-- a step more is done
+pub goes-further : (ended : Bool) (k : ℕ) (start before new : Moment) → Goes ended k start before → TurnsTo ended before Went new → Goes ended (k + 1) start new
+goes-further ended k start before new goes turns =
+    let one : suc k ≡ k + 1 = omega arith in
+    subst (λ j. Goes ended j start new) one (before, (goes, turns))
 
 -- a run that isn't over with any fate goes on
 pub is-going : (fate : Option Fate) → ((f : Fate) → fate ≡ Some f → ⊥) → fate ≡ None
