@@ -1,4 +1,5 @@
 mod Again
+mod Alone
 mod Coding
 mod Blocks
 mod Further

@@ -72,7 +72,8 @@ fn turn_number(last: Turn) -> u32
     }
 }
 
-/// Makes steps, at most so many. Went: all of them were done.
+/// Makes steps, at most so many: those that touch no device as fast as a run does, and each other
+/// one by itself. Went: all of them were done.
 fn go_on(
     machine: &mut Machine,
     source: &mut SliceSource,
@@ -93,6 +94,10 @@ fn go_on(
 {
     let mut done = 0;
     while done < most {
+        done += machine.advance(most - done);
+        if done == most {
+            return Turn::Went;
+        }
         let part = step_on(machine, source, sink, ended);
         if part != Turn::Went {
             return part;
@@ -116,7 +121,7 @@ fn step_on(
         (stands machine.new source.new sink.new) }
     ensures over { (fate : Fate) → machine.old.fate ≡ Some fate →
         (result ≡ Turn.Over fate) × (machine.new ≡ machine.old)
-        × (source.new ≡ source.old) × (sink.new.len ≡ sink.old.len) }
+        × (source.new ≡ source.old) × (sink.new ≡ sink.old) }
     ensures same_room { sink.new.room.ghost_name ≡ sink.old.room.ghost_name }
     ensures full { result ≡ Turn.Full → LacksRoom machine.new sink.new }
     ensures went { result ≡ Turn.Went →

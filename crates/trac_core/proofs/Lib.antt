@@ -8,6 +8,7 @@ pub mod ReadCalls
 pub mod PrintCalls
 pub mod Outputs
 pub mod Moments
+pub mod Advancing
 pub mod Reported
 pub mod RunningOn
 pub mod FormDisplay

@@ -59,10 +59,10 @@ course-more start bytes before taken old new room_is took a goes_on =
     }
 
 -- the machine after one step that passes
-abbrev one_passed : Memory → MachineState → MachineState
+abbrev pub one_passed : Memory → MachineState → MachineState
 one_passed memory m = record m { memory = memory; steps = m.steps + 1; peak = max m.peak (size m.memory) }
 
-goes_on-passes : (m : MachineState) (middle : Memory) (source : Stream) (written : Text) → m.steps < m.allowance → size m.memory ≤ m.room → Passes m.memory middle → GoesOn (moment m source written) (moment (one_passed middle m) source written)
+pub goes_on-passes : (m : MachineState) (middle : Memory) (source : Stream) (written : Text) → m.steps < m.allowance → size m.memory ≤ m.room → Passes m.memory middle → GoesOn (moment m source written) (moment (one_passed middle m) source written)
 goes_on-passes m middle source written allowed fits pass =
     let needed = pass.needs (ending source.bytes) written in
     record {
@@ -73,7 +73,7 @@ goes_on-passes m middle source written allowed fits pass =
       read_all = λ reads. absurd (let none = pass.reads (ending source.bytes) written in cc);
     }
 
-peak_after-same : (n cells same peak : ℕ) → same ≤ cells → peak_after n same (max peak cells) ≡ peak_after (suc n) cells peak
+pub peak_after-same : (n cells same peak : ℕ) → same ≤ cells → peak_after n same (max peak cells) ≡ peak_after (suc n) cells peak
 peak_after-same zero cells same peak e = refl
 peak_after-same (suc n) cells same peak e = omega arith
 

@@ -31,7 +31,7 @@ module _ (before : Text) where
   follow-later (EndCall rest) s = end_call-later s.memory.calls (with_active rest s)
   follow-later _ s = refl
 
-  step-later : (s : State) → step (record s { output = before ++ s.output }) ≡ later_outcome (step s)
+  pub step-later : (s : State) → step (record s { output = before ++ s.output }) ≡ later_outcome (step s)
   unfolding step
   step-later s = follow-later (rule s.memory.active) s
 

@@ -1,5 +1,5 @@
 -- A call that is performed, over the contents of a workspace.
-use Rattle.trac_core.proofs.Words.{failing_state_of, StopsAtInput, StopsAtOutput, ◌≡◌, ◌≢◌, ℕ, ◌+◌, ◌-◌, ◌<◌, ◌≤◌, max, Bool, true, false, not, ◌&&◌, ◌||◌, List, [], ◌∷◌, ◌++◌, length, take, drop, All, Option, Some, None, refl, sym, ap, ◌∙◌, subst, arith, append-nil, length-append, ◌==◌, slice_get, unwrap_or, nat_le, unwrap_or-slice_get, list_any, length-map, length-drop, get_or_append_left, drop-append_seam, take-append_seam, take-length, Mode, Active, Function, ReadString, ReadCharacter, ChangeMeta, PrintString, PrintForm, Halt, Fate, Workspace, Steps, InputFailed, OutputFailed, Text, Form, function_named, Input, State, argument, size, Answer, Gives, Ends, meaning_of, meaning, built, deliver, perform, step, need, is_read_string, reads_last, reads_to_end, Cell, Byte, flat_text, text_of_cells, character_of, IsByte, IsLastCall, Contents, used, IsSound, Stream, Full, Value, Placed, Defined, Over, texts_of, no_neutral, neutral_of, memory_of, mode_of, mode_at, is_active_mode, arguments_at, texts_from, world, IsValue, IsPlaced, IsDefined, Makes, is_plain, performs, silent, MachineState, moment, ending, failing, state_with, state_of, failing_state_of, EndsRun, input_failures, output_failures, scene, TriedCall, ClosesCall, function_at, delivered, settled, AnswersCall, IsValueFrom, Stands, fate_after, or_right, true≢false}
+use Rattle.trac_core.proofs.Words.{failing_state_of, StopsAtInput, StopsAtOutput, ◌≡◌, ◌≢◌, ℕ, ◌+◌, ◌-◌, ◌<◌, ◌≤◌, max, Bool, true, false, not, ◌&&◌, ◌||◌, List, [], ◌∷◌, ◌++◌, length, take, drop, All, Option, Some, None, refl, sym, ap, ◌∙◌, subst, arith, append-nil, length-append, ◌==◌, slice_get, unwrap_or, nat_le, unwrap_or-slice_get, list_any, length-map, length-drop, get_or_append_left, drop-append_seam, take-append_seam, take-length, Mode, Active, Function, ReadString, ReadCharacter, ChangeMeta, PrintString, PrintForm, Halt, Fate, Workspace, Steps, InputFailed, OutputFailed, Text, Form, function_named, Input, State, argument, size, Answer, Gives, Ends, meaning_of, meaning, built, deliver, perform, step, need, is_read_string, reads_last, reads_to_end, Cell, Byte, flat_text, text_of_cells, character_of, IsByte, IsLastCall, Contents, used, IsSound, Stream, Full, Value, Placed, Defined, Over, texts_of, no_neutral, neutral_of, memory_of, mode_of, mode_at, is_active_mode, arguments_at, texts_from, world, IsValue, IsPlaced, IsDefined, Makes, is_plain, performs, touches_device, silent, MachineState, moment, ending, failing, state_with, state_of, failing_state_of, EndsRun, input_failures, output_failures, scene, TriedCall, ClosesCall, function_at, delivered, settled, AnswersCall, IsValueFrom, Stands, fate_after, or_right, true≢false}
 use Rattle.trac_language.specs.declared.mode.Mode.TheVariants.{Neutral as NeutralMode}
 use Rattle.trac_laws.proofs.Rules.{rule_end}
 use Rattle.trac_space.proofs.Texts.{text_of_cells-append}
@@ -329,6 +329,16 @@ texts-all neutral place end end_is within =
 pub named-at : (w : Contents) (place end : ℕ) (o : Option Function) {found : Option Function} → end ≡ length w.neutral → IsLastCall w.neutral place → found ≡ function_named (argument (texts_from w.neutral (place + 1) end) 0) → found ≡ o → function_at w.neutral place ≡ o
 named-at w place end o end_is innermost named is =
     ap (λ l. function_named (argument l 0)) (sym (texts-all w.neutral place end end_is innermost.mark.0)) ∙ sym named ∙ is
+
+-- a function that touches no device, and neither changes the meta character nor ends the run, is plain
+pub plain-alone : (f : Function) → touches_device (Some f) ≡ false → f ≢ ChangeMeta → f ≢ Halt → is_plain f ≡ true
+plain-alone ReadString alone c g = absurd cc
+plain-alone ReadCharacter alone c g = absurd cc
+plain-alone PrintString alone c g = absurd cc
+plain-alone PrintForm alone c g = absurd cc
+plain-alone ChangeMeta alone c g = absurd (c refl)
+plain-alone Halt alone c g = absurd (g refl)
+plain-alone _ alone c g = refl
 
 -- the functions that have no arm of their own are plain
 pub plain-rest : (f : Function) → f ≢ ReadString → f ≢ ReadCharacter → f ≢ ChangeMeta → f ≢ PrintString → f ≢ PrintForm → f ≢ Halt → is_plain f ≡ true

@@ -1,7 +1,7 @@
 -- What a run reports at its last step.
-use Rattle.trac_core.proofs.Words.{◌≡◌, ℕ, ◌+◌, ◌-◌, max, [], ◌++◌, Some, refl, sym, ap, ◌∙◌, subst, arith, append_assoc, append_cancel_left, Fate, Halted, InputEnded, Workspace, Steps, InputFailed, OutputFailed, Text, Input, State, first, need, Run, run, Report, MachineState, Moment, ending, failing, state_with, state_of, failing_state_of, StopsAtAllowance, StopsAtRoom, StopsAtInput, StopsAtOutput, EndsRun, Answers, Course, IsReportOf, RanThrough, RanToFailure, BrokeOff, ReportsOf, Reports, Resumes, after_steps, first_runs, later_runs, made}
+use Rattle.trac_core.proofs.Words.{◌≡◌, ℕ, ◌+◌, ◌-◌, max, false, true, [], ◌++◌, Some, refl, sym, ap, ◌∙◌, subst, arith, append_assoc, append_cancel_left, Fate, Halted, InputEnded, Workspace, Steps, InputFailed, OutputFailed, Text, Memory, Input, State, first, need, Run, run, Report, MachineState, Moment, ending, failing, state_with, state_of, failing_state_of, StopsAtAllowance, StopsAtRoom, StopsAtInput, StopsAtOutput, EndsRun, Answers, Course, IsReportOf, RanThrough, RanToFailure, BrokeOff, ReportsOf, Reports, Resumes, after_steps, first_runs, later_runs, made, KeepsFormsAndMeta, LeavesMemory, memory_after, state_after}
 use Rattle.trac_language.specs.Run.{counted}
-use Rattle.trac_laws.proofs.Reached.{reached_over, reached_full, reached_spent, reached_unwritten}
+use Rattle.trac_laws.proofs.Reached.{state_none, state_over, reached_over, reached_full, reached_spent, reached_unwritten}
 use Rattle.trac_laws.proofs.ReachedWhileReading.{anywhere_failed}
 use Rattle.trac_core.proofs.Outputs.{later_run, run-from}
 use Rattle.trac_core.proofs.Moments.{OnCourse}
@@ -101,6 +101,43 @@ module _ (start : MachineState) (bytes before : Text) (old new : Moment) (room_i
   reported Workspace stop = at-room stop
   reported InputFailed stop = at-input stop.0 stop.1
   reported OutputFailed stop = (stop.1.0, (stop.1.1.0, at-output stop.0 stop.1.0 stop.1.1.0 stop.1.1.1))
+
+-- the forms and the meta character stay, up to a last step that leaves the state as it is
+kept-before : (last old new : Memory) → last ≡ old → KeepsFormsAndMeta old new → KeepsFormsAndMeta last new
+kept-before last old new same keeps = subst (λ m. KeepsFormsAndMeta m new) (sym same) keeps
+
+module _ (start : MachineState) (bytes before : Text) (old new : Moment) (course : OnCourse start bytes before old) where
+  -- the definition's steps come to the machine's memory, and stay there with a step that ends the run
+  steps-lead : (k : ℕ) → state_after k (state_of old) ≡ state_of old → new.machine.steps ≡ old.machine.steps + k → memory_after (new.machine.steps - start.steps) start.memory (ending bytes) before ≡ old.machine.memory
+  steps-lead k stays steps_is =
+      let n : new.machine.steps - start.steps ≡ course.count + k = omega (arith, course.steps_is) in
+      ap (λ s. s.memory) (ap (λ n. state_after n (state_with start.memory (ending bytes) before)) n ∙ course.whole.state k ∙ stays)
+
+  steps-lead-failing : (given : Text) → old.source.ended ≡ false → new.machine.steps ≡ old.machine.steps → memory_after (new.machine.steps - start.steps) start.memory (failing (course.given ++ given)) before ≡ old.machine.memory
+  steps-lead-failing given open_still steps_is =
+      let n : new.machine.steps - start.steps ≡ course.count + 0 = omega (arith, course.steps_is) in
+      let reached = (course.cut open_still).is given true in
+      ap (λ s. s.memory) (ap (λ n. state_after n (state_with start.memory (failing (course.given ++ given)) before)) n ∙ reached.state 0 ∙ state_none (failing_state_of old given))
+
+  -- what the last answer of a run leaves
+  pub left-behind : (fate : Fate) → Answers old (Some fate) new → (after : Memory) → KeepsFormsAndMeta old.machine.memory after → (fate ≡ Steps → after ≡ old.machine.memory) → LeavesMemory fate (course_to start bytes before new) start.memory (new.machine.steps - start.steps) after
+  left-behind Halted stop after keeps all = kept-before _ _ after (steps-lead 1 (state_over 1 (state_of old) Halted stop.ends) stop.counts.steps) keeps
+  left-behind InputEnded stop after keeps all = kept-before _ _ after (steps-lead 1 (state_over 1 (state_of old) InputEnded stop.ends) stop.counts.steps) keeps
+  left-behind Steps stop after keeps all = all refl ∙ sym (steps-lead 0 (state_none (state_of old)) stop.counts.steps)
+  left-behind Workspace stop after keeps all = kept-before _ _ after (steps-lead 0 (state_none (state_of old)) stop.counts.steps) keeps
+  left-behind InputFailed stop after keeps all =
+      let given = stop.0 in
+      let fails = stop.1 in
+      let steps : new.machine.steps ≡ old.machine.steps = omega (arith, fails.counts.steps) in (
+        course.given ++ given,
+        (
+          course.consumed ∙ ap (λ t. course.given ++ t) fails.consumed ∙ sym (append_assoc course.given given new.source.bytes),
+          kept-before _ _ after (steps-lead-failing given fails.not_ended steps) keeps,
+        ),
+      )
+  left-behind OutputFailed stop after keeps all =
+      let breaks = stop.1.1.1 in
+      kept-before _ _ after (steps-lead 0 (state_none (state_of old)) breaks.counts.steps) keeps
 
 -- the runs from where a new machine stands are those from the first state
 first-run : (room allowance : ℕ) (input : Input) (k : ℕ) → later_runs (made room allowance) input k ≡ first_runs room input k

@@ -1,9 +1,9 @@
 -- A run of a machine whose parts stand apart, turn by turn beside the run of the definition.
-use Rattle.trac_core.proofs.Words.{◌≡◌, ℕ, ◌+◌, ◌-◌, ◌<◌, ◌≤◌, max, ◌⊎◌, inl, inr, ◌++◌, Some, None, refl, sym, ap, ◌∙◌, subst, arith, Fate, Steps, Text, size, Stream, Contents, used, IsSound, memory_of, Report, scene, Tried, MachineState, moment, counted, Resumes, Advances, peak_after, passed, running}
+use Rattle.trac_core.proofs.Words.{◌≡◌, ◌≢◌, ℕ, ◌+◌, ◌-◌, ◌<◌, ◌≤◌, max, ◌⊎◌, inl, inr, ◌++◌, Some, None, refl, sym, ap, ◌∙◌, subst, arith, Fate, Steps, Text, size, Stream, Contents, used, IsSound, memory_of, Report, scene, Tried, MachineState, moment, counted, Resumes, KeepsFormsAndMeta, LeavesMemory, Advances, peak_after, passed, running}
 use Rattle.trac_functions.proofs.FlatLemmas.{size-used}
 use Rattle.trac_core.specs.declared.machine.Counters.{Counters}
 use Rattle.trac_core.proofs.Moments.{OnCourse, course-more, course-passes}
-use Rattle.trac_core.proofs.Reported.{reported, report_of, course_to}
+use Rattle.trac_core.proofs.Reported.{reported, left-behind, report_of, course_to}
 use Rattle.trac_core.proofs.StepsInRow.{passes-smaller, peak-some}
 
 -- the counters where so many steps are left
@@ -59,6 +59,22 @@ module _ (start : MachineState) (bytes before : Text) (w new : Contents) (meta a
       let allowed : allowance - left < allowance = omega arith in
       let told = reported start bytes before (moment m old_source old_written) (moment (counted m (memory_of after new) need (Some fate)) new_source new_written) room_is allowance_is course fate (tried m refl refl allowed) in
       subst (λ (report : Report). Resumes start report.fate (course_to start bytes before (moment start new_source new_written)) report) (sym is) told
+
+  -- and the memory that it leaves then
+  pub leaves-step : (after need : ℕ) (old_source new_source : Stream) (old_written new_written : Text) (fate : Fate) (report : Report) → 0 < left → fate ≢ Steps → Tried (scene w meta old_source old_written) (Some fate) need (scene new after new_source new_written) → OnCourse start bytes before (moment (running w meta (with_left allowance left peak)) old_source old_written) → report ≡ report_of fate (counted (running w meta (with_left allowance left peak)) (memory_of after new) need (Some fate)) → KeepsFormsAndMeta (memory_of meta w) (memory_of after new) → LeavesMemory report.fate (course_to start bytes before (moment start new_source new_written)) start.memory (report.steps - start.steps) (memory_of after new)
+  leaves-step after need old_source new_source old_written new_written fate report some unspent tried course is keeps =
+      let m = running w meta (with_left allowance left peak) in
+      let allowed : allowance - left < allowance = omega arith in
+      let told = left-behind start bytes before (moment m old_source old_written) (moment (counted m (memory_of after new) need (Some fate)) new_source new_written) course fate (tried m refl refl allowed) (memory_of after new) keeps (λ e. absurd (unspent e)) in
+      subst (λ (report : Report). LeavesMemory report.fate (course_to start bytes before (moment start new_source new_written)) start.memory (report.steps - start.steps) (memory_of after new)) (sym is) told
+
+  pub leaves-allowance : (source : Stream) (written : Text) → left ≡ 0 → OnCourse start bytes before (moment (running w meta (with_left allowance left peak)) source written) → LeavesMemory Steps (course_to start bytes before (moment start source written)) start.memory (allowance - start.steps) (memory_of meta w)
+  leaves-allowance source written none course =
+      let m = running w meta (with_left allowance left peak) in
+      let all : allowance - left ≡ allowance = omega arith in
+      let told = left-behind start bytes before (moment m source written) (moment (counted m m.memory 0 (Some Steps)) source written) course Steps
+      (record { used_up = all; memory = refl; counts = record { steps = omega arith; peak = omega arith }; source = refl; written = refl }) m.memory (refl, refl) (λ _. refl) in
+      subst (λ n. LeavesMemory Steps (course_to start bytes before (moment start source written)) start.memory (n - start.steps) (memory_of meta w)) all told
 
   -- the allowance is used up
   pub ends-allowance : (source : Stream) (written : Text) → allowance ≡ start.allowance → left ≡ 0 → OnCourse start bytes before (moment (running w meta (with_left allowance left peak)) source written) → Resumes start Steps (course_to start bytes before (moment start source written)) (record { fate = Steps; steps = allowance; peak = peak })

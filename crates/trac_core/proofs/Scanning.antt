@@ -1,5 +1,5 @@
 -- The rules that perform no call, over the contents of a workspace.
-use Rattle.trac_core.proofs.Words.{length-map, get_or-map, get_or, seen, ◌≡◌, ◌≢◌, ℕ, ◌+◌, ◌-◌, ◌<◌, true, false, List, [], ◌∷◌, ◌++◌, length, take, drop, map, All, Option, Some, None, refl, sym, ap, ◌∙◌, subst, ⊎_elim, arith, slice_get, MatchOption, is_some, slice_range, cases_eq, drop-map, take-map, length-drop, drop-drop, All-take, All-drop, take-length, Mode, Active, Text, Form, cells, protected, Input, OpenCall, add, begin_argument, Rule, LoadIdling, DeleteLayout, AddProtected, ClearActive, BeginArgument, BeginCall, EndCall, AddCharacter, parenthesis_rule, is_layout, rule, Next, idling, follow, end_need, need_by, step, need, reads_last_by, Cell, Byte, Call, Comma, NoCall, IsLastCall, flat_text, text_of_cells, character_of, IsByte, Contents, used, IsSound, Neutral, with_cell, neutral_of, memory_with, memory_of, state_with, Scans, size, State}
+use Rattle.trac_core.proofs.Words.{length-map, get_or-map, get_or, seen, ◌≡◌, ◌≢◌, ℕ, ◌+◌, ◌-◌, ◌<◌, true, false, List, [], ◌∷◌, ◌++◌, length, take, drop, map, All, Option, Some, None, refl, sym, ap, ◌∙◌, subst, ⊎_elim, arith, slice_get, MatchOption, is_some, slice_range, cases_eq, drop-map, take-map, length-drop, drop-drop, All-take, All-drop, take-length, Mode, Active, Text, Form, cells, protected, Input, OpenCall, add, begin_argument, Rule, LoadIdling, DeleteLayout, AddProtected, ClearActive, BeginArgument, BeginCall, EndCall, AddCharacter, parenthesis_rule, is_layout, rule, Next, idling, follow, end_need, need_by, step, need, reads_last_by, Cell, Byte, Call, Comma, NoCall, IsLastCall, flat_text, text_of_cells, character_of, IsByte, Contents, used, IsSound, Neutral, with_cell, neutral_of, memory_with, memory_of, state_with, Scans, size, State, performed_by, ending}
 use Rattle.trac_language.specs.declared.mode.Mode.TheVariants.{Neutral as NeutralMode}
 use Rattle.trac_laws.proofs.Rules.{rule_comma, rule_end, rule_active, rule_neutral, rule_sign_last, rule_two_signs_last, rule_sign, rule_two_signs, rule_other}
 use Rattle.trac_functions.proofs.FlatLemmas.{with_cells-append, neutral_of-push, neutral_of-innermost, size-used, with_cells-text, calls-none}
@@ -36,18 +36,20 @@ module _ (old new : Contents) where
   text = text_of_cells old.active
 
   -- a step by this rule
-  pub scans-by : (r : Rule) (needed : ℕ) → rule (text_of_cells old.active) ≡ r → ((meta : ℕ) (input : Input) (output : Text) → follow r (state_with (memory_of meta old) input output) ≡ Next (state_with (memory_of meta new) input output)) → ((meta : ℕ) (input : Input) (output : Text) → need_by r (state_with (memory_of meta old) input output) ≡ needed) → ((meta : ℕ) (input : Input) (output : Text) → reads_last_by r (state_with (memory_of meta old) input output) ≡ false) → Scans old new needed
+  pub scans-by : (r : Rule) (needed : ℕ) → rule (text_of_cells old.active) ≡ r → ((meta : ℕ) (input : Input) (output : Text) → follow r (state_with (memory_of meta old) input output) ≡ Next (state_with (memory_of meta new) input output)) → ((meta : ℕ) (input : Input) (output : Text) → need_by r (state_with (memory_of meta old) input output) ≡ needed) → ((meta : ℕ) (input : Input) (output : Text) → reads_last_by r (state_with (memory_of meta old) input output) ≡ false) → ((meta : ℕ) → performed_by r (memory_of meta old).calls ≡ None) → Scans old new needed
   unfolding step need
-  scans-by r needed fits goes needs reads = record {
+  scans-by r needed fits goes needs reads no_call = record {
     goes = λ meta input output. ap (λ r. follow r (state_with (memory_of meta old) input output)) fits ∙ goes meta input output;
     needs = λ meta input output. ap (λ r. need_by r (state_with (memory_of meta old) input output)) fits ∙ needs meta input output;
     reads = λ meta input output. ap (λ r. reads_last_by r (state_with (memory_of meta old) input output)) fits ∙ reads meta input output;
+    no_call = λ meta. ap (λ r. performed_by r (memory_of meta old).calls) fits ∙ no_call meta;
   }
 
   -- one that needs no more cells than there are, and reads nothing
-  scans-quiet : (r : Rule) → rule (text_of_cells old.active) ≡ r → ((meta : ℕ) (input : Input) (output : Text) → follow r (state_with (memory_of meta old) input output) ≡ Next (state_with (memory_of meta new) input output)) → ((s : State) → (need_by r s ≡ size s.memory) × (reads_last_by r s ≡ false)) → Scans old new (used old)
+  scans-quiet : (r : Rule) → rule (text_of_cells old.active) ≡ r → ((meta : ℕ) (input : Input) (output : Text) → follow r (state_with (memory_of meta old) input output) ≡ Next (state_with (memory_of meta new) input output)) → ((s : State) → (need_by r s ≡ size s.memory) × ((reads_last_by r s ≡ false) × (performed_by r s.memory.calls ≡ None))) → Scans old new (used old)
   scans-quiet r fits goes quiet =
-      scans-by r (used old) fits goes (λ meta input output. (quiet (state_with (memory_of meta old) input output)).0 ∙ size-used meta old) (λ meta input output. (quiet (state_with (memory_of meta old) input output)).1)
+      scans-by r (used old) fits goes (λ meta input output. (quiet (state_with (memory_of meta old) input output)).0 ∙ size-used meta old) (λ meta input output. (quiet (state_with (memory_of meta old) input output)).1.0)
+      (λ meta. (quiet (state_with (memory_of meta old) (ending []) [])).1.1)
 
 pub rule-layout : (c : ℕ) (rest : Text) → is_layout c ≡ true → rule (c ∷ rest) ≡ DeleteLayout rest
 unfolding rule
@@ -64,17 +66,17 @@ rule-nothing = refl
 pub scans-layout : (old : Contents) (c : ℕ) → slice_get (text_of_cells old.active) 0 ≡ Some c → is_layout c ≡ true → Scans old (record old { active = drop 1 old.active }) (used old)
 scans-layout old c first layout =
     scans-quiet old _ (DeleteLayout (drop 1 (text_of_cells old.active))) (ap rule (first-rest _ c first) ∙ rule-layout c _ layout)
-    (λ meta input output. rw (drop-text 1 old.active) refl) (λ s. (refl, refl))
+    (λ meta input output. rw (drop-text 1 old.active) refl) (λ s. (refl, (refl, refl)))
 
 pub scans-parenthesis : (old : Contents) → slice_get (text_of_cells old.active) 0 ≡ Some 41 → NoCall old.neutral → Scans old (record old { active = drop 1 old.active }) (used old)
 scans-parenthesis old first none =
     let calls = calls-none old.neutral none in
     scans-by old _ (EndCall (drop 1 (text_of_cells old.active))) (used old) (ap rule (first-rest _ 41 first) ∙ rule_end _)
-    (λ meta input output. rw (drop-text 1 old.active, calls) refl) (λ meta input output. ap (λ calls. end_need calls (state_with (memory_of meta old) input output)) calls ∙ size-used meta old) (λ meta input output. rw calls refl)
+    (λ meta input output. rw (drop-text 1 old.active, calls) refl) (λ meta input output. ap (λ calls. end_need calls (state_with (memory_of meta old) input output)) calls ∙ size-used meta old) (λ meta input output. rw calls refl) (λ meta. rw calls refl)
 
 pub scans-unmatched : (old : Contents) → slice_get (text_of_cells old.active) 0 ≡ Some 40 → protected (drop 1 (text_of_cells old.active)) ≡ None → Scans old (record old { active = [] }) (used old)
 scans-unmatched old first none =
-    scans-quiet old _ ClearActive (ap rule (first-rest _ 40 first) ∙ rule-parenthesis _ None none) (λ meta input output. refl) (λ s. (refl, refl))
+    scans-quiet old _ ClearActive (ap rule (first-rest _ 40 first) ∙ rule-parenthesis _ None none) (λ meta input output. refl) (λ s. (refl, (refl, refl)))
 
 -- characters at the end of neutral are a text added
 added-bytes : (old : List Cell) (more : List Cell) (active : Text) (forms : List Form) (meta : ℕ) → All IsByte more → memory_with (neutral_of (old ++ more)) active forms meta ≡ add (text_of_cells more) (memory_with (neutral_of old) active forms meta)
@@ -94,7 +96,7 @@ scans-protected old len sound first found =
     let bytes : All IsByte cells = All-take IsByte len (drop 1 old.active) (All-drop IsByte 1 old.active sound.active) in
     scans-quiet old _ (AddProtected inside rest) (ap rule (first-rest t 40 first) ∙ rule-parenthesis (drop 1 t) (Some (inside, rest)) found)
     (λ meta input output. rw rest_is (sym (ap (λ m. Next (state_with m input output)) (added-bytes old.neutral cells rest old.forms meta bytes ∙ ap (λ t. add t (memory_with (neutral_of old.neutral) rest old.forms meta)) inside_is))))
-    (λ s. (refl, refl))
+    (λ s. (refl, (refl, refl)))
 
 -- with a comma mark an argument of the innermost call begins
 comma-memory : (n : Neutral) (call : OpenCall) (outer : List OpenCall) → n.calls ≡ call ∷ outer → with_cell n Comma ≡ record n { calls = begin_argument n.calls }
@@ -105,18 +107,18 @@ scans-comma old place first last =
     let n = neutral_of old.neutral in
     let calls = ap (λ (n : Neutral). n.calls) (neutral_of-innermost old.neutral place last) in
     scans-quiet old _ (BeginArgument (drop 1 (text_of_cells old.active))) (ap rule (first-rest _ 44 first) ∙ rule_comma _)
-    (λ meta input output. rw (drop-text 1 old.active, neutral_of-push old.neutral Comma, comma-memory n _ _ calls) refl) (λ s. (refl, refl))
+    (λ meta input output. rw (drop-text 1 old.active, neutral_of-push old.neutral Comma, comma-memory n _ _ calls) refl) (λ s. (refl, (refl, refl)))
 
 pub scans-comma-none : (old : Contents) → slice_get (text_of_cells old.active) 0 ≡ Some 44 → NoCall old.neutral → Scans old (record old { active = drop 1 old.active }) (used old)
 scans-comma-none old first none =
     scans-quiet old _ (BeginArgument (drop 1 (text_of_cells old.active))) (ap rule (first-rest _ 44 first) ∙ rule_comma _)
-    (λ meta input output. rw (drop-text 1 old.active, calls-none old.neutral none) refl) (λ s. (refl, refl))
+    (λ meta input output. rw (drop-text 1 old.active, calls-none old.neutral none) refl) (λ s. (refl, (refl, refl)))
 
 -- a mark opens a call
 scans-call : (old : Contents) (mode : Mode) (n : ℕ) → rule (text_of_cells old.active) ≡ BeginCall mode (drop n (text_of_cells old.active)) → Scans old (record old { active = drop n old.active; neutral = old.neutral ++ Call mode 0 ∷ [] }) (used old)
 scans-call old mode n fits =
     scans-quiet old _ (BeginCall mode (drop n (text_of_cells old.active))) fits
-    (λ meta input output. rw (drop-text n old.active, neutral_of-push old.neutral (Call mode 0)) refl) (λ s. (refl, refl))
+    (λ meta input output. rw (drop-text n old.active, neutral_of-push old.neutral (Call mode 0)) refl) (λ s. (refl, (refl, refl)))
 
 pub second-rest : (text : Text) (b c : ℕ) → slice_get text 0 ≡ Some b → slice_get text 1 ≡ Some c → text ≡ b ∷ c ∷ drop 2 text
 second-rest [] b c e f = absurd cc
@@ -140,7 +142,7 @@ scans-first : (old : Contents) (c : ℕ) → rule (text_of_cells old.active) ≡
 scans-first old c fits =
     scans-quiet old _ (AddCharacter c (drop 1 (text_of_cells old.active))) fits
     (λ meta input output. rw (drop-text 1 old.active, neutral_of-push old.neutral (Byte c)) (sym (ap (λ m. Next (state_with m input output)) (with_cells-text (c ∷ []) (neutral_of old.neutral) (drop 1 (text_of_cells old.active)) old.forms meta))))
-    (λ s. (refl, refl))
+    (λ s. (refl, (refl, refl)))
 
 -- a number sign that opens no call
 pub sign-rule : (text : Text) → slice_get text 0 ≡ Some 35 → slice_get text 1 ≢ Some 40 → (slice_get text 1 ≡ Some 35 → slice_get text 2 ≢ Some 40) → rule text ≡ AddCharacter 35 (drop 1 text)
@@ -183,7 +185,7 @@ scans-other old c first layout opens closes comma sign =
 -- the idling procedure is loaded
 pub scans-idling : (old : Contents) → old.active ≡ [] → Scans old (record old { neutral = []; active = map Byte idling }) (cells old.forms + 11)
 scans-idling old none =
-    scans-by old _ LoadIdling (cells old.forms + 11) (ap (λ a. rule (text_of_cells a)) none ∙ rule-nothing) (λ meta input output. refl) (λ meta input output. refl) (λ meta input output. refl)
+    scans-by old _ LoadIdling (cells old.forms + 11) (ap (λ a. rule (text_of_cells a)) none ∙ rule-nothing) (λ meta input output. refl) (λ meta input output. refl) (λ meta input output. refl) (λ meta. refl)
 
 pub idling-need : (old : Contents) → old.active ≡ [] → (meta : ℕ) (input : Input) (output : Text) → need (state_with (memory_of meta old) input output) ≡ cells old.forms + 11
 idling-need old none = (scans-idling old none).needs

@@ -1,6 +1,6 @@
 -- Steps in a row: ordinary characters are added one by one, layout characters deleted, and the steps of any rule that
 -- performs no call follow one another.
-use Rattle.trac_core.proofs.Words.{◌≡◌, ◌≢◌, ℕ, zero, suc, ◌<◌, ◌≤◌, ◌+◌, ◌-◌, max, ◌⊎◌, inl, inr, Bool, true, false, ◌||◌, List, [], ◌∷◌, ◌++◌, length, take, drop, All, Some, None, slice_get, refl, sym, ap, ◌∙◌, subst, arith, append_assoc, append-nil, length-append, ◌==◌, take-take, All-head, All-tail, All-cons, Text, Memory, size, is_layout, need, Cell, Byte, text_of_cells, IsByte, Contents, used, IsSound, Stream, memory_of, moment, ending, state_of, Scans, scene, Tried, is_special, IsOrdinary, IsLayout, Passes, PassesTimes, Advances, SomeSteps, peak_after}
+use Rattle.trac_core.proofs.Words.{◌≡◌, ◌≢◌, ℕ, zero, suc, ◌<◌, ◌≤◌, ◌+◌, ◌-◌, max, ◌⊎◌, inl, inr, Bool, true, false, ◌||◌, List, [], ◌∷◌, ◌++◌, length, take, drop, All, Option, Some, None, slice_get, refl, sym, ap, ◌∙◌, subst, arith, append_assoc, append-nil, length-append, ◌==◌, take-take, Fate, Workspace, All-head, All-tail, All-cons, Text, Memory, size, is_layout, need, Cell, Byte, text_of_cells, IsByte, Contents, used, IsSound, Stream, memory_of, moment, ending, state_of, Scans, scene, Scanned, Tried, is_special, IsOrdinary, IsLayout, Passes, PassesTimes, Advances, SomeSteps, peak_after}
 use Rattle.trac_functions.proofs.FlatLemmas.{size-used}
 use Rattle.trac_core.proofs.Scanning.{scans-other, scans-layout, first-rest}
 
@@ -23,6 +23,7 @@ passes-scans meta old new scans same =
       needs = λ input output. scans.needs meta input output ∙ sym (size-used meta old);
       reads = scans.reads meta;
       no_larger = omega (arith, same, size-used meta new, size-used meta old);
+      no_call = scans.no_call meta;
     }
 
 -- the contents with the first n cells of active at the end of neutral
@@ -102,6 +103,21 @@ tried-passed old new n needed passes one sound needs meta source written = λ m 
       stays_ended = λ e. e;
       read_all = λ reads. absurd (let none = pass.reads (ending source.bytes) written in let some = rw memory_is at reads in cc);
     }
+
+-- a step that performs no call was done, or needs more than the room, as a try of a step
+pub tried-scanned : (fate : Option Fate) (old new : Contents) (needed : ℕ) → Scanned fate needed old new → needed ≤ old.room → (meta : ℕ) (source : Stream) (written : Text) → Tried (scene old meta source written) fate needed (scene new meta source written)
+tried-scanned None old new needed scans fits meta source written = λ m room_is memory_is allowed.
+    let need_is : need (state_of (moment m source written)) ≡ needed = rw memory_is (scans.needs meta (ending source.bytes) written) in
+    record {
+      may = record { allowed = allowed; fits = omega arith };
+      goes = rw memory_is (scans.goes meta (ending source.bytes) written);
+      counts = record { steps = refl; peak = ap (max m.peak) (sym need_is) };
+      stays_ended = λ e. e;
+      read_all = λ reads. absurd (let none = scans.reads meta (ending source.bytes) written in let some = rw memory_is at reads in cc);
+    }
+tried-scanned (Some Workspace) old new needed full fits meta source written = λ m room_is memory_is allowed.
+    record { allowed = allowed; full = rw memory_is (let more = full meta (ending source.bytes) written in omega arith); counts = record { steps = omega arith; peak = omega arith }; written = refl }
+tried-scanned (Some _) old new needed full fits meta source written = absurd full
 
 -- some steps that take a character each
 pub some-run : (old new : Contents) (n most : ℕ) → Advances n old new → n ≤ most → 0 < n → length new.active + n ≡ length old.active → SomeSteps n most old new

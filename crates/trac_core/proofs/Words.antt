@@ -1,5 +1,5 @@
 -- The words that the proofs of this crate cite.
-pub use Rattle.std.proofs.Common.{rules, All, Bool, List, MatchOption, None, Option, Some, [], ap, append-nil, append_assoc, arith, cond, drop, eq-eqb, eqb, false, get_or, inl, inr, length, length-append, map, max, not, refl, slice_get, slice_range, subst, suc, sum_by, sym, take, true, zero, ℕ, ⊎_elim, ◌%◌, ◌&&◌, ◌*◌, ◌++◌, ◌+◌, ◌-◌, ◌/◌, ◌<◌, ◌||◌, ◌∙◌, ◌∷◌, ◌≡◌, ◌≢◌, ◌≤◌, ◌⊎◌}
+pub use Rattle.std.proofs.Common.{rules, All, Bool, List, MatchOption, None, Option, Some, [], ap, append-nil, append_assoc, arith, cond, drop, eq-eqb, eqb, false, get_or, inl, inr, length, length-append, map, max, min, not, refl, slice_get, slice_range, subst, suc, sum_by, sym, take, true, zero, ℕ, ⊎_elim, ◌%◌, ◌&&◌, ◌*◌, ◌++◌, ◌+◌, ◌-◌, ◌/◌, ◌<◌, ◌||◌, ◌∙◌, ◌∷◌, ◌≡◌, ◌≢◌, ◌≤◌, ◌⊎◌}
 pub use Rattle.std.proofs.Math.Seq.{drop-append-add, drop-append_seam, drop-cons, drop-length, take-add, take-append_seam, take-length}
 pub use Rattle.std.proofs.lemmas.Bool.{or_parts, or_right, true≢false, cases_Bool, cases_eq, cases_lt, eqb-true, false_from_ne_true, ne_eqb}
 pub use Rattle.std.proofs.lemmas.Bool.Decides.{nat_tests}
@@ -10,11 +10,13 @@ pub use Rattle.std.proofs.lemmas.List.Sums.{sum_by-cons}
 pub use Rattle.std.proofs.lemmas.Option.{slice_get-get_or, unwrap_or-slice_get}
 pub use Rattle.std.specs.List.{before_first, list_any, position_or_len, range_with_len}
 pub use Rattle.std.specs.Prelude.{Err, Ok, OnErr, Result, bytes_eq, codes, decimal, if◌then◌else◌, is_some, nat_le, nat_lt, unwrap_or, ℤ, ◌==◌}
-pub use Rattle.trac_core.specs.Attempts.{AnswersCall, ClosesCall, IsCall, IsValueFrom, Scans, Stands, TakesFrom, Tried, TriedCall, delivered, fate_after, function_at, scene, settled}
+pub use Rattle.trac_core.specs.Attempts.{AnswersCall, ClosesCall, EndsQuietly, IsCall, IsValueFrom, LeavesSink, LeavesSource, Scanned, Scans, Stands, TakesFrom, Tried, TriedCall, delivered, fate_after, function_at, scene, settled}
 pub use Rattle.trac_core.specs.Display.{display, shown}
-pub use Rattle.trac_core.specs.Machine.{Answers, BrokeOff, Course, EndsRun, GoesOn, IsReportOf, MachineState, Moment, RanThrough, RanToFailure, Reports, ReportsOf, Resumes, StopsAtAllowance, StopsAtInput, StopsAtOutput, StopsAtRoom, after_steps, counted, ending, failing, failing_state_of, first_runs, input_failures, later_runs, made, moment, output_failures, state_of, state_with}
+pub use Rattle.trac_core.specs.Machine.{Answers, BrokeOff, Course, EndsRun, GoesOn, IsReportOf, KeepsFormsAndMeta, LeavesMemory, MachineState, Moment, RanThrough, RanToFailure, Reports, ReportsOf, Resumes, StopsAtAllowance, StopsAtInput, StopsAtOutput, StopsAtRoom, after_steps, counted, ending, failing, failing_state_of, first_runs, input_failures, later_runs, made, memory_after, moment, output_failures, state_of, state_with}
 pub use Rattle.trac_core.specs.Matching.{IsAt, side_in, side_of}
-pub use Rattle.trac_core.specs.Performed.{is_plain, performed_by, performs, prints_output}
+pub use Rattle.trac_core.specs.Performed.{is_plain, performed_by, performs, prints_output, reads_input, touches_device}
+pub use Rattle.trac_core.specs.NamedCalls.{IsNamed, TouchesDevice, TriedAlone}
+pub use Rattle.trac_core.specs.Advancing.{Advanced, EndsAlone, GoesAlone, NeedsMore, StepsAlone, StopsAlone, advanced_to}
 pub use Rattle.trac_core.specs.Session.{printed_in}
 pub use Rattle.trac_core.specs.StepsInRow.{Advances, AsksFor, IsLayout, IsOrdinary, IsPlainFrom, Passes, PassesTimes, SomeSteps, is_special, kind_in, kind_of, passed, peak_after, running}
 pub use Rattle.trac_language.specs.declared.report.Report.{Report}
@@ -45,6 +47,7 @@ pub use Rattle.trac_language.specs.declared.function.Function.TheVariants.{Arith
 pub use Rattle.trac_language.specs.declared.item.Item.{Item}
 pub use Rattle.trac_language.specs.declared.mode.Mode.{Mode}
 pub use Rattle.trac_language.specs.declared.mode.Mode.TheVariants.{Active}
+pub use Rattle.trac_laws.specs.StateAfter.{state_after}
 pub use Rattle.trac_laws.specs.LastRead.{is_read_string, reads_last, reads_last_by, reads_to_end}
 pub use Rattle.trac_space.specs.Calls.{IsLastCall}
 pub use Rattle.trac_space.specs.Cells.{IsNoCall, NoCall, NoComma, is_call, is_comma, seen}

@@ -25,7 +25,7 @@ use Rattle.trac_functions.specs.declared.arguments.Made.TheVariants.{Full, Value
 use Rattle.trac_functions.specs.declared.arguments.Made.TheVariants.{Over}
 use Rattle.trac_functions.specs.Flat.{memory_of, mode_at, arguments_at}
 use Rattle.trac_functions.specs.Calls.{texts}
-use Rattle.trac_core.specs.Performed.{reads_input, prints_output}
+use Rattle.trac_core.specs.Performed.{performs, reads_input, prints_output}
 use Rattle.trac_core.specs.Machine.{MachineState, moment, state_with, Answers, counted}
 use Rattle.trac_core.specs.Machine.{input_failures, output_failures}
 
@@ -53,7 +53,8 @@ Tried old answer needed new =
 abbrev pub state_over : Contents → ℕ → Input → Text → State
 state_over w meta input output = state_with (memory_of meta w) input output
 
--- a step that reads and prints nothing leads from contents to contents, and needs so many cells
+-- a step that performs no call, and so reads and prints nothing, leads from contents to contents,
+-- and needs so many cells
 pub record Scans (old new : Contents) (needed : ℕ) : Type 0 where
   pub goes : (meta : ℕ) (input : Input) (output : Text) →
       step (state_over old meta input output) ≡ Next (state_over new meta input output)
@@ -61,6 +62,7 @@ pub record Scans (old new : Contents) (needed : ℕ) : Type 0 where
       need (state_over old meta input output) ≡ needed
   pub reads : (meta : ℕ) (input : Input) (output : Text) →
       reads_to_end (state_over old meta input output) ≡ false
+  pub no_call : (meta : ℕ) → performs (memory_of meta old) ≡ None
 
 -- such a step was done, or needs more than the room
 abbrev pub Scanned : Option Fate → ℕ → Contents → Contents → Type 0
@@ -128,6 +130,12 @@ fate_after Value = None
 fate_after (Placed cells) = None
 fate_after (Defined cells) = None
 fate_after (Over fate) = Some fate
+
+-- no device failed, and the allowance was not used up
+abbrev pub EndsQuietly : Made → Type 0
+EndsQuietly made =
+    (input_failures None (fate_after made) ≡ 0) × ((output_failures None (fate_after made) ≡ 0)
+    × (made ≢ Over Steps))
 
 -- the cells that it needed, where so many were used before and the value stands from a place on
 abbrev pub need_after : Made → (before from : ℕ) → Contents → ℕ

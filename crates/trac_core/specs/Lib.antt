@@ -6,4 +6,6 @@ pub mod View
 pub mod Session
 pub mod Attempts
 pub mod StepsInRow
+pub mod NamedCalls
+pub mod Advancing
 pub mod Display

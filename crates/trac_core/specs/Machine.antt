@@ -9,6 +9,7 @@ use Rattle.trac_language.specs.State.{Memory, Input, State, empty, first, size}
 use Rattle.trac_language.specs.Step.{Next, Over, step, need}
 use Rattle.trac_language.specs.Run.{Run, run}
 use Rattle.trac_laws.specs.LastRead.{reads_to_end}
+use Rattle.trac_laws.specs.StateAfter.{state_after}
 use Rattle.trac_devices.specs.Devices.{Stream}
 use Rattle.trac_language.specs.declared.report.Report.{Report}
 
@@ -253,6 +254,30 @@ course m old_source old_written new_source new_written =
       before = old_written;
       after = new_written;
     }
+
+-- the forms and the meta character are as they were
+abbrev pub KeepsFormsAndMeta : Memory → Memory → Type 0
+KeepsFormsAndMeta old new = (new.forms ≡ old.forms) × (new.meta ≡ old.meta)
+
+-- the memory to which so many steps of the definition lead, or that before the step that ends them
+abbrev pub memory_after : ℕ → Memory → Input → Text → Memory
+memory_after n memory input output = (state_after n (state_with memory input output)).memory
+
+-- what a run that ended so leaves of a memory, after so many steps: all that the definition's steps
+-- come to, where the allowance was used up; else their forms and their meta character
+abbrev pub LeavesMemory : Fate → Course → (old : Memory) → (done : ℕ) → (new : Memory) → Type 0
+LeavesMemory Halted c old n new =
+    KeepsFormsAndMeta (memory_after n old (ending c.bytes) c.before) new
+LeavesMemory InputEnded c old n new =
+    KeepsFormsAndMeta (memory_after n old (ending c.bytes) c.before) new
+LeavesMemory Workspace c old n new =
+    KeepsFormsAndMeta (memory_after n old (ending c.bytes) c.before) new
+LeavesMemory Steps c old n new = new ≡ memory_after n old (ending c.bytes) c.before
+LeavesMemory OutputFailed c old n new =
+    KeepsFormsAndMeta (memory_after n old (ending c.bytes) c.before) new
+LeavesMemory InputFailed c old n new =
+    (given : Text) × ((c.bytes ≡ given ++ c.bytes_left)
+    × KeepsFormsAndMeta (memory_after n old (failing given) c.before) new)
 
 -- the machine after a step that was done: one step more, and what it needed
 abbrev pub one_step_on : Option Fate → Memory → ℕ → MachineState → MachineState

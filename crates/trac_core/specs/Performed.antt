@@ -1,5 +1,5 @@
 -- The function that the next step performs.
-use Rattle.std.specs.Prelude.{Bool, true, false, List, [], ◌∷◌, Option, Some, None}
+use Rattle.std.specs.Prelude.{Bool, true, false, ◌||◌, List, [], ◌∷◌, Option, Some, None}
 use Rattle.trac_language.specs.declared.function.Function.{Function}
 use Rattle.trac_language.specs.declared.function.Function.TheVariants.{ReadString, ReadCharacter}
 use Rattle.trac_language.specs.declared.function.Function.TheVariants.{ChangeMeta, Halt}
@@ -38,6 +38,10 @@ prints_output None = false
 prints_output (Some PrintString) = true
 prints_output (Some PrintForm) = true
 prints_output (Some _) = false
+
+-- whether a call of the function touches a device
+abbrev pub touches_device : Option Function → Bool
+touches_device function = reads_input function || prints_output function
 
 -- a function that neither reads nor prints, nor changes the meta character, nor ends the run
 abbrev pub is_plain : Function → Bool

@@ -15,6 +15,7 @@ use Rattle.trac_functions.specs.Flat.{memory_of}
 use Rattle.trac_core.specs.declared.scan.Front.{Front}
 use Rattle.trac_core.specs.declared.scan.Front.TheVariants.{Empty, Closes}
 use Rattle.trac_core.specs.declared.machine.Counters.{Counters}
+use Rattle.trac_core.specs.Performed.{performs}
 use Rattle.trac_core.specs.Machine.{MachineState, state_with}
 
 -- a character that has a rule of its own
@@ -37,14 +38,15 @@ kind_in cell = kind_of (character_of cell)
 abbrev pub IsLayout : ℕ → Type 0
 IsLayout c = is_layout c ≡ true
 
--- a step that reads and prints nothing leads from one memory to another that isn't larger, and
--- needs the cells of the first
+-- a step that performs no call leads from one memory to another that isn't larger, and needs the
+-- cells of the first
 pub record Passes (old new : Memory) : Type 0 where
   pub goes : (input : Input) (output : Text) →
       step (state_with old input output) ≡ Next (state_with new input output)
   pub needs : (input : Input) (output : Text) → need (state_with old input output) ≡ size old
   pub reads : (input : Input) (output : Text) → reads_to_end (state_with old input output) ≡ false
   pub no_larger : size new ≤ size old
+  pub no_call : performs old ≡ None
 
 -- so many of them, one after the other
 abbrev pub PassesTimes : ℕ → Memory → Memory → Type 0

@@ -1,15 +1,17 @@
 //! Calls: one is performed when its right parenthesis is scanned.
 ghost use Rattle.std.specs.Prelude.{◌≡◌, ◌≢◌, ◌-◌, ◌<◌, ◌≤◌, ◌^◌};
-ghost use Rattle.std.specs.Prelude.{length, None, Some, true};
+ghost use Rattle.std.specs.Prelude.{length, None, Some, true, false, MatchOption, ⊤};
 ghost use Rattle.trac_language.specs.Text.{Text};
 ghost use Rattle.trac_space.specs.Calls.{IsLastCall};
 ghost use Rattle.trac_forms.specs.Contents.{IsSound, used};
 ghost use Rattle.trac_functions.specs.Flat.{memory_of};
 ghost use Rattle.trac_functions.specs.Calls.{AreArguments, Performs};
-ghost use Rattle.trac_core.specs.Performed.{is_plain, performs};
+ghost use Rattle.trac_core.specs.Performed.{is_plain, performs, touches_device};
 ghost use Rattle.trac_core.specs.Attempts.{scene, Tried, TriedCall, function_at, TakesFrom};
 ghost use Rattle.trac_core.specs.Attempts.{TakesAtMost, AnswersCall, Stands, fate_after};
-ghost use Rattle.trac_core.specs.Attempts.{LeavesSource, LeavesSink};
+ghost use Rattle.trac_core.specs.Attempts.{LeavesSource, LeavesSink, EndsQuietly, NoneFailed};
+ghost use Rattle.trac_core.specs.NamedCalls.{IsNamed, TriedAlone, TouchesDevice};
+ghost use Rattle.trac_devices.specs.Devices.{Stream};
 ghost use Rattle.trac_core.specs.StepsInRow.{AsksFor, IsPlainFrom};
 ghost use Rattle.trac_functions.specs.Calls.{KeepsRoom};
 
@@ -63,6 +65,31 @@ pub(crate) fn carry_out<I: Source, O: Sink>(
     }
 }
 
+/// The step that `carry_out` makes, where it touches no device. None where it reads or prints: then
+/// nothing is done.
+#[inline(always)]
+pub(crate) fn carry_alone(work: &mut Work, front: Front, meta: &mut u8) -> Option<Attempt>
+    requires sound { IsSound work.old }
+    requires asks { AsksFor front work.old }
+    ensures tried { MatchOption result
+        (TouchesDevice (memory_of meta.old work.old) × (work.new ≡ work.old) × (meta.new ≡ meta.old))
+        (λ attempt. TriedAlone work.old meta.old attempt.fate attempt.need work.new meta.new) }
+    ensures fits { MatchOption result ⊤ (λ attempt. attempt.need ≤ work.old.room) }
+    ensures keeps { KeepsRoom work.old work.new }
+{
+    match front {
+        Front::Empty => Some(load_idling(work)),
+        Front::Closes(call) => {
+            let call = named(work, call);
+            if touches_device(call.function) {
+                return None;
+            }
+            work.drop_active(1);
+            Some(perform_alone(work, call, meta))
+        }
+    }
+}
+
 /// The innermost call, whose right parenthesis was deleted, is performed.
 #[inline(always)]
 fn perform<I: Source, O: Sink>(
@@ -99,8 +126,76 @@ fn perform<I: Source, O: Sink>(
     settle(work, (call.place, end), before, made)
 }
 
-/// What the function of the innermost call answers. A call of a name that is no function has a null
-/// value (this processor's own choice).
+/// The same of a call that touches no device.
+#[inline(always)]
+fn perform_alone(work: &mut Work, call: NamedCall, meta: &mut u8) -> Attempt
+    requires named { IsNamed call work.old }
+    requires alone { touches_device call.function ≡ false }
+    ensures tried { (source : Stream) (written : Text) →
+        TriedCall call.place (scene work.old meta.old source written) result.fate result.need
+        (scene work.new meta.new source written) }
+    ensures fate { NoneFailed result.fate }
+    ensures stay { result.fate ≢ None →
+        (work.new.forms ≡ work.old.forms) × (meta.new ≡ meta.old) }
+    ensures fits { result.need ≤ work.old.room }
+    ensures keeps { KeepsRoom work.old work.new }
+{
+    let before = work.used();
+    let end = work.neutral_len();
+    let made = answer_alone(work, call, meta);
+    settle(work, (call.place, end), before, made)
+}
+
+/// The innermost call by its parts.
+#[derive(Clone, Copy)]
+pub(crate) struct NamedCall {
+    /// Where its mark stands in the neutral string.
+    place: u32,
+    /// The function that it names, if it names one.
+    function: Option<Function>,
+    /// The arguments behind that name.
+    arguments: Arguments,
+}
+
+/// The parts of the innermost call.
+#[inline(always)]
+fn named(work: &Work, call: InnermostCall) -> NamedCall
+    requires innermost { IsLastCall work.now.neutral call.place }
+    requires plain { IsPlainFrom call.plain work.now.neutral }
+    requires sound { IsSound work.now }
+    ensures named { IsNamed result work.now }
+    ensures place { result.place ≡ call.place }
+{
+    let mut arguments = Arguments {
+        from: call.place + 1,
+        end: work.neutral_len(),
+        plain: call.plain,
+        scanned: is_active_call(work, call.place),
+    };
+    NamedCall {
+        place: call.place,
+        function: arguments.function(work),
+        arguments,
+    }
+}
+
+/// Whether a call of the function reads or prints.
+#[inline(always)]
+fn touches_device(function: Option<Function>) -> bool
+    ensures { result ≡ touches_device function }
+{
+    match function {
+        Some(
+            Function::ReadString
+            | Function::ReadCharacter
+            | Function::PrintString
+            | Function::PrintForm,
+        ) => true,
+        _ => false,
+    }
+}
+
+/// What the function of the innermost call answers.
 #[inline(always)]
 fn answer<I: Source, O: Sink>(
     work: &mut Work,
@@ -129,23 +224,41 @@ fn answer<I: Source, O: Sink>(
         TakesFrom work.old (I.stream source.old) (I.stream source.new) taken }
     ensures keeps { KeepsRoom work.old work.new }
 {
-    let mut arguments = Arguments {
-        from: call.place + 1,
-        end: work.neutral_len(),
-        plain: call.plain,
-        scanned: is_active_call(work, call.place),
-    };
-    let Some(function) = arguments.function(work) else {
-        return Made::Defined(0);
+    let call = named(work, call);
+    let Some(function) = call.function else {
+        return answer_alone(work, call, meta);
     };
     match function {
         Function::ReadString => read_string(work, *meta, source),
         Function::ReadCharacter => read_character(work, source),
-        Function::PrintString => print_string(work, arguments, sink),
-        Function::PrintForm => print_form(work, arguments, sink),
-        Function::ChangeMeta => change_meta(work, arguments, meta),
+        Function::PrintString => print_string(work, call.arguments, sink),
+        Function::PrintForm => print_form(work, call.arguments, sink),
+        _ => answer_alone(work, call, meta),
+    }
+}
+
+/// What a function answers that touches no device. A call of a name that is no function has a null
+/// value (this processor's own choice).
+#[inline(always)]
+fn answer_alone(work: &mut Work, call: NamedCall, meta: &mut u8) -> Made
+    requires named { IsNamed call work.old }
+    requires alone { touches_device call.function ≡ false }
+    ensures answers { (source : Stream) (written : Text) →
+        AnswersCall call.place (scene work.old meta.old source written) result
+        (scene work.new meta.new source written) }
+    ensures stands { Stands result (used work.old) (length work.old.neutral) work.new }
+    ensures quiet { EndsQuietly result }
+    ensures stay { fate_after result ≢ None →
+        (work.new.forms ≡ work.old.forms) × (meta.new ≡ meta.old) }
+    ensures keeps { KeepsRoom work.old work.new }
+{
+    let Some(function) = call.function else {
+        return Made::Defined(0);
+    };
+    match function {
+        Function::ChangeMeta => change_meta(work, call.arguments, meta),
         Function::Halt => Made::Over(Fate::Halted),
-        _ => value_of(work, function, arguments),
+        _ => value_of(work, function, call.arguments),
     }
 }
 

@@ -8,10 +8,11 @@ ghost use Rattle.trac_core.specs.Performed.{performs, reads_input, prints_output
 ghost use Rattle.trac_core.specs.Machine.{made, KeepsLimits, moment, Answers, Takes, StaysOver};
 ghost use Rattle.trac_core.specs.Machine.{input_failures, output_failures, reported_input_failures};
 ghost use Rattle.trac_core.specs.Machine.{reported_output_failures, Reports, course, counted};
-ghost use Rattle.trac_core.specs.Machine.{MachineState, Resumes, counts_as_step};
+ghost use Rattle.trac_core.specs.Machine.{MachineState, Resumes, LeavesMemory, counts_as_step};
 ghost use Rattle.trac_core.specs.StepsInRow.{running};
 ghost use Rattle.trac_forms.specs.Contents.{IsSound};
 ghost use Rattle.trac_functions.specs.Calls.{KeepsRoom};
+ghost use Rattle.trac_functions.specs.Flat.{memory_of};
 
 use crate::call::carry_out;
 use crate::scan::{Attempt, pass, scan_once};
@@ -21,6 +22,7 @@ use trac_forms::Work;
 use trac_language::{Fate, Report};
 use trac_space::Cell;
 
+pub(crate) mod advancing;
 pub(crate) mod closing;
 pub(crate) mod printing;
 pub(crate) mod session;
@@ -241,6 +243,12 @@ fn run_to_end<I: Source, O: Sink>(
         let course = course m (I.stream source.old) (O.written sink.old)
         (I.stream source.new) (O.written sink.new) in
         Resumes m result.fate course result }
+    ensures leaves { I.tells source.old → O.tells sink.old →
+        let m = running work.old meta.old at in
+        let course = course m (I.stream source.old) (O.written sink.old)
+        (I.stream source.new) (O.written sink.new) in
+        LeavesMemory result.fate course m.memory (result.steps - at.steps)
+        (memory_of meta.new work.new) }
     ensures input_failed { I.failure_count source.new ≡
         I.failure_count source.old + input_failures None (Some result.fate) }
     ensures output_failed { O.failure_count sink.new ≡

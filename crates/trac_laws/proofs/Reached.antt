@@ -1,6 +1,8 @@
 -- What a loop over steps keeps: the run from the start is the run from here, after the steps done.
-use Rattle.trac_laws.proofs.Words.{◌≡◌, ℕ, suc, ◌+◌, ◌-◌, ◌<◌, ◌≤◌, max, ap, ◌∙◌, arith, Fate, Workspace, Steps, State, Next, Over, step, need, Run, counted, stopped, run}
+use Rattle.trac_laws.proofs.Words.{◌≡◌, ℕ, zero, suc, refl, ◌+◌, ◌-◌, ◌<◌, ◌≤◌, max, ap, ◌∙◌, arith, Fate, Workspace, Steps, State, Next, Over, step, need, Run, counted, stopped, run}
 use Rattle.trac_laws.proofs.Runs.{run_none, run_full, run_over, run_next}
+unfoldable use Rattle.trac_laws.specs.StateAfter.{state_after}
+use Rattle.trac_laws.specs.StateAfter.{state_on}
 
 -- a run that goes on after n steps with this peak
 abbrev pub later : ℕ → ℕ → Run → Run
@@ -9,6 +11,21 @@ later n peak rest = record { output = rest.output; left = rest.left; fate = rest
 -- from the start a run comes to s, in n steps with this peak, whatever its allowance
 pub record Reached (room : ℕ) (start : State) (n peak : ℕ) (s : State) : Type 0 where
   pub is : (m : ℕ) → run room (n + m) start ≡ later n peak (run room m s)
+  pub state : (m : ℕ) → state_after (n + m) start ≡ state_after m s
+
+-- no step, one that goes on, and one that ends the run
+pub state_none : (s : State) → state_after zero s ≡ s
+unfolding state_after
+state_none s = refl
+
+pub state_next : (n : ℕ) (s t : State) → step s ≡ Next t → state_after (suc n) s ≡ state_after n t
+unfolding state_after
+state_next n s t e = ap (λ o. state_on o s (state_after n)) e
+
+pub state_over : (n : ℕ) (s : State) (f : Fate) → step s ≡ Over f → state_after n s ≡ s
+unfolding state_after
+state_over zero s f e = refl
+state_over (suc n) s f e = ap (λ o. state_on o s (state_after n)) e
 
 -- a run with these numbers
 abbrev with_numbers : Run → ℕ → ℕ → Run
@@ -24,6 +41,9 @@ reached_start room s =
           let r = run room m s in
           let e : 0 + m ≡ m = omega arith in
           ap (λ n. run room n s) e ∙ later_is r.steps (0 + r.steps) r.peak (max 0 r.peak) r (omega arith) (omega arith);
+      state = λ m.
+          let e : 0 + m ≡ m = omega arith in
+          ap (λ n. state_after n s) e;
     }
 
 module _ (room : ℕ) (start : State) (n peak : ℕ) (s : State) (before : Reached room start n peak s) where
@@ -33,6 +53,9 @@ module _ (room : ℕ) (start : State) (n peak : ℕ) (s : State) (before : Reach
         let r = run room m t in
         let one : n + 1 + m ≡ n + suc m = omega arith in
         ap (λ k. run room k start) one ∙ before.is (suc m) ∙ ap (later n peak) (run_next room m s t fits e) ∙ later_is (n + suc r.steps) (n + 1 + r.steps) (max peak (max (need s) r.peak)) (max (max peak (need s)) r.peak) r (omega arith) (omega arith);
+    state = λ m.
+        let one : n + 1 + m ≡ n + suc m = omega arith in
+        ap (λ k. state_after k start) one ∙ before.state (suc m) ∙ state_next m s t e;
   }
 
   module _ (allowance : ℕ) where

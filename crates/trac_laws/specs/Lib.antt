@@ -2,4 +2,5 @@ pub mod Balance
 pub mod Fitting
 pub mod LastRead
 pub mod Laws
+pub mod StateAfter
 pub mod Stepping

@@ -5,7 +5,7 @@ ghost use Rattle.trac_devices.specs.Devices.{Sent};
 ghost use Rattle.trac_functions.specs.Flat.{memory_of};
 ghost use Rattle.trac_core.specs.Performed.{performs};
 ghost use Rattle.trac_core.specs.Machine.{KeepsLimits, Resumes, course, input_failures};
-ghost use Rattle.trac_core.specs.Machine.{output_failures};
+ghost use Rattle.trac_core.specs.Machine.{output_failures, LeavesMemory};
 ghost use Rattle.trac_core.specs.Session.{awaited, next_function};
 
 use super::closing::{closed_call, named_at};
@@ -59,6 +59,14 @@ impl<'a> Machine<'a> {
             let course = course self.old (I.stream source.old) (O.written sink.old)
             (I.stream source.new) (O.written sink.new) in
             Resumes self.old result.fate course result }
+        // with the allowance used up the memory is that of the definition after these steps; else
+        // the forms and the meta character are, those before the step that wasn't done or that
+        // ended the run
+        ensures leaves { self.old.fate ≡ None → I.tells source.old → O.tells sink.old →
+            let course = course self.old (I.stream source.old) (O.written sink.old)
+            (I.stream source.new) (O.written sink.new) in
+            LeavesMemory result.fate course self.old.memory (result.steps - self.old.steps)
+            self.new.memory }
         // a run that is over stays so, and its devices are not called
         ensures over { IsSome self.old.fate →
             (self.new ≡ self.old) × (source.new ≡ source.old) × (sink.new ≡ sink.old) }

@@ -1,18 +1,50 @@
-use Rattle.trac_c.proofs.Words.{rules, ◌∙◌, ap}
-use Rattle.trac_c.proofs.Again.{over-some, over-none}
+use Rattle.trac_c.proofs.Words.{◌≡◌, ◌+◌, ◌-◌, None, Some, refl, ◌∙◌, ap, sym, subst, arith, take, stands, stream_in, moment, Went, Over}
+use Rattle.std.proofs.lemmas.Grind.{common_steps}
+use Rattle.trac_c.specs.Turned.{TurnsTo}
+use Rattle.trac_c.proofs.Alone.{goes-on, goes-further, ends-on, ends-full, is-going}
 use Rattle.trac_c.proofs.turn.go_on.Goals as goal
 
-pub returns-then-ne-clause-over : goal.returns-then-ne-clause-over
-returns-then-ne-clause-over c = λ fate over.
-    let before = c.loop-done.invariant.over fate over in
-    let here = c.step_on-part.ensures.over fate (ap (λ m. m.fate) before.1 ∙ over) in (
-      here.0 ∙ over-some c.args.most fate (search rules),
-      here.1 ∙ before.1,
-      here.2 ∙ before.2,
-      here.3 ∙ before.3,
-    )
+pub returns-then-done-most-clause-turned : goal.returns-then-done-most-clause-turned
+returns-then-done-most-clause-turned c = λ going.
+    let i = c.loop-done.invariant.going going in
+    let sink = c.loop-done.sink in
+    ends-full c.args.most c.advance-done.result c.loop-done.done c.args.ended (stands c.args.machine.now c.args.source.now c.args.sink.now) c.loop-done.machine c.advance-done.new.self (stream_in c.loop-done.source) (take sink.len sink.room.now)
+    (omega (arith, c.if-done-most.true)) (c.args.most - c.loop-done.done) (omega arith) (c.advance-done.ensures.advanced i.1) i.0
 
-pub returns-clause-over : goal.returns-clause-over
-returns-clause-over c = λ fate over.
-    let before = c.loop-done.invariant.over fate over in
-    (over-none c.args.most fate (search rules), before.1, before.2, before.3)
+pub returns-then-ne-clause-turned : goal.returns-then-ne-clause-turned
+returns-then-ne-clause-turned c = λ going.
+    let i = c.loop-done.invariant.going going in
+    let sink = c.loop-done.sink in
+    let source = stream_in c.loop-done.source in
+    let written = take sink.len sink.room.now in
+    let h = c.step_on-part.ensures in
+    ends-on c.args.most c.advance-done.result c.loop-done.done c.args.ended (stands c.args.machine.now c.args.source.now c.args.sink.now) (stands c.step_on-part.new.machine c.step_on-part.new.source c.step_on-part.new.sink) c.loop-done.machine c.advance-done.new.self source written c.step_on-part.result
+    (omega (arith, c.if-done-most.false, c.advance-done.ensures.few, c.loop-done-test.true)) (grind (arith, common_steps)) h.turns
+    (λ fate over. (let here = h.over fate over in (here.0, (λ i. stands (here.1 i) (here.2 i) (here.3 i)))))
+    (c.args.most - c.loop-done.done) (c.advance-done.ensures.advanced i.1) i.0
+
+pub loop-done-preserved : goal.loop-done-preserved
+loop-done-preserved c =
+    let h = c.step_on-part.ensures in
+    let went : c.step_on-part.result ≡ Went = grind (arith, common_steps) in
+    let others = h.went went in
+    let sink = c.loop-done.sink in
+    let source = stream_in c.loop-done.source in
+    let written = take sink.len sink.room.now in
+    record {
+      going = λ going.
+          let i = c.loop-done.invariant.going going in
+          let start = stands c.args.machine.now c.args.source.now c.args.sink.now in
+          let stays = is-going c.advance-done.new.self.fate (λ f over. (let here = h.over f over in cc)) in
+          let goes = goes-on (c.args.most - c.loop-done.done) c.advance-done.result c.loop-done.done c.args.ended start c.loop-done.machine c.advance-done.new.self source written stays (c.advance-done.ensures.advanced i.1) i.0 in
+          (goes-further c.args.ended (c.loop-done.done + c.advance-done.result) start (moment c.advance-done.new.self source written) _ goes (subst (λ part. TurnsTo c.args.ended (moment c.advance-done.new.self source written) part (stands c.step_on-part.new.machine c.step_on-part.new.source c.step_on-part.new.sink)) went (h.turns stays)), others.0);
+      over = λ fate over.
+          let before = c.loop-done.invariant.over fate over in
+          let still = c.advance-done.ensures.over (grind (arith, common_steps)) in
+          let here = h.over fate (ap (λ m. m.fate) (still.1 ∙ before.1) ∙ over) in
+          absurd (let went = went in cc);
+      same_room = h.same_room ∙ c.loop-done.invariant.same_room;
+      bound = omega (arith, c.if-done-most.false, c.advance-done.ensures.few, c.loop-done-test.true);
+      source = others.1;
+      sink = others.2;
+    }

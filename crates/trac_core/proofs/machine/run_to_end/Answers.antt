@@ -1,6 +1,6 @@
 use Rattle.trac_core.proofs.Words.{◌≡◌, ◌-◌, Some, None, refl, sym, ap, ◌∙◌, subst, arith, inl, length-drop, Contents, memory_of, scene, Tried, moment, input_failures, output_failures, running}
 use Rattle.trac_core.proofs.Moments.{OnCourse, course-none}
-use Rattle.trac_core.proofs.RunningOn.{with_left, need-fits, need-counted, course-run, course-step, ends-step, ends-allowance}
+use Rattle.trac_core.proofs.RunningOn.{with_left, need-fits, need-counted, course-run, course-step, ends-step, leaves-step, ends-allowance, leaves-allowance}
 use Rattle.trac_core.proofs.Sending.{sent-more}
 use Rattle.trac_core.proofs.machine.run_to_end.Goals as goal
 
@@ -79,6 +79,20 @@ returns-in-Some g c =
           ends-step start bytes before c.pass.new.work c.carry_out-last.new.work c.loop-left.meta c.args.at.allowance c.loop-left.left c.loop-left.peak room (omega arith)
           c.carry_out-last.new.meta c.carry_out-last.result.need source _ written _ c.in-Some.fate c.ended.result refl c.loop-left-test.true tried course
           (ended.counts (running c.pass.new.work c.loop-left.meta last) (memory_of c.carry_out-last.new.meta c.carry_out-last.new.work) refl refl);
+      leaves = λ told_source told_sink.
+          let start = running c.args.work.now c.args.meta.now c.args.at in
+          let bytes = (g.I.Source.stream c.args.source.now).bytes in
+          let before = g.O.Sink.written c.args.sink.now in
+          let source = g.I.Source.stream c.loop-left.source in
+          let written = g.O.Sink.written c.loop-left.sink in
+          let last = with_left c.args.at.allowance c.loop-left.left c.loop-left.peak in
+          let course = subst (λ (w : Contents). OnCourse start bytes before (moment (running w c.loop-left.meta last) source written)) (sym c.in-Err.ensures.comes.0) (i.course told_source told_sink) in
+          let tried = subst (λ fate. Tried (scene c.pass.new.work c.loop-left.meta source written) fate c.carry_out-last.result.need (scene c.carry_out-last.new.work c.carry_out-last.new.meta (g.I.Source.stream c.carry_out-last.new.source) (g.O.Sink.written c.carry_out-last.new.sink))) c.in-Some.is
+          (h.tried (i.told_source told_source) (i.told_sink told_sink)) in
+          leaves-step start bytes before c.pass.new.work c.carry_out-last.new.work c.loop-left.meta c.args.at.allowance c.loop-left.left c.loop-left.peak room (omega arith)
+          c.carry_out-last.new.meta c.carry_out-last.result.need source _ written _ c.in-Some.fate c.ended.result c.loop-left-test.true (λ e. h.unspent (c.in-Some.is ∙ ap Some e)) tried course
+          (ended.counts (running c.pass.new.work c.loop-left.meta last) (memory_of c.carry_out-last.new.meta c.carry_out-last.new.work) refl refl)
+          (h.stay (λ e. (let some = c.in-Some.is in cc)));
       input_failed = let fate = ap (input_failures None) fate in omega (arith, i.source_failures, h.source.1, fate);
       output_failed = let fate = ap (output_failures None) fate in omega (arith, i.sink_failures, h.sink.1, fate);
       sent = λ other. let same = ended.fate in sent-more g.O.Sink.tells g.O.Sink.flushed g.O.Sink.written c.args.sink.now c.loop-left.sink c.carry_out-last.new.sink i.told_sink i.sent (h.sink.4 (λ e. other cc));
@@ -135,3 +149,9 @@ returns-clause-reports g c = λ told_source told_sink.
     let i = c.loop-left.invariant in
     ends-allowance (running c.args.work.now c.args.meta.now c.args.at) (g.I.Source.stream c.args.source.now).bytes (g.O.Sink.written c.args.sink.now) c.loop-left.work c.loop-left.work c.loop-left.meta c.args.at.allowance c.loop-left.left c.loop-left.peak i.room (omega arith)
     (g.I.Source.stream c.loop-left.source) (g.O.Sink.written c.loop-left.sink) refl (omega arith) (i.course told_source told_sink)
+
+pub returns-clause-leaves : goal.returns-clause-leaves
+returns-clause-leaves g c = λ told_source told_sink.
+    let i = c.loop-left.invariant in
+    leaves-allowance (running c.args.work.now c.args.meta.now c.args.at) (g.I.Source.stream c.args.source.now).bytes (g.O.Sink.written c.args.sink.now) c.loop-left.work c.loop-left.work c.loop-left.meta c.args.at.allowance c.loop-left.left c.loop-left.peak i.room (omega arith)
+    (g.I.Source.stream c.loop-left.source) (g.O.Sink.written c.loop-left.sink) (omega arith) (i.course told_source told_sink)

@@ -1,0 +1,107 @@
+-- Steps of a turn that touch no device.
+use Rattle.std.specs.Prelude.{true}
+use Rattle.trac_c.proofs.Words.{◌≡◌, ◌≢◌, ℕ, zero, suc, ◌+◌, ◌-◌, ◌<◌, ◌≤◌, Bool, false, not, Option, Some, None, refl, sym, ap, ◌∙◌, subst, arith, Text, Fate, MachineState, Moment, moment, awaited, next_function, is_none, nat_lt, ◌&&◌, if◌then◌else◌, is_short, waits_for_input, Goes, SomeTurned, Turn, Went, Over}
+use Rattle.std.proofs.lemmas.Bool.{and_right}
+use Rattle.trac_language.specs.declared.function.Function.{Function}
+use Rattle.trac_language.specs.declared.function.Function.TheVariants.{ReadString, ReadCharacter}
+use Rattle.trac_devices.specs.Devices.{Stream}
+use Rattle.trac_core.specs.declared.machine.session.Awaits.TheVariants.{Nothing}
+use Rattle.trac_core.specs.Performed.{performs, touches_device}
+use Rattle.trac_core.specs.Machine.{Answers}
+use Rattle.trac_core.specs.Advancing.{StepsAlone, GoesAlone, EndsAlone, StopsAlone, Advanced}
+use Rattle.trac_c.specs.declared.turn.Turn.TheVariants.{Waits, Full}
+use Rattle.trac_c.specs.Turned.{TurnsTo, EndsTurn}
+
+-- it waits for nothing
+awaits-none : (f : Option Function) → touches_device f ≡ false → awaited f ≡ Nothing
+awaits-none None alone = refl
+awaits-none (Some ReadString) alone = absurd cc
+awaits-none (Some ReadCharacter) alone = absurd cc
+awaits-none (Some _) alone = refl
+
+next-alone : (going : Bool) (f : Option Function) → touches_device f ≡ false → touches_device (if going then f else None) ≡ false
+next-alone true f alone = alone
+next-alone false f alone = refl
+
+waits-none : (ended : Bool) (m : MachineState) (bytes : Text) → touches_device (performs m.memory) ≡ false → waits_for_input ended m bytes ≡ false
+waits-none ended m bytes alone =
+    let none = awaits-none (next_function m) (next-alone (is_none m.fate && nat_lt m.steps m.allowance) (performs m.memory) alone) in
+    and_right (not ended) (is_short (awaited (next_function m)) m bytes) (ap (λ a. is_short a m bytes) none)
+
+-- so many steps of a turn follow those that were done
+goes-alone : (n k : ℕ) (ended : Bool) (start : Moment) (old new : MachineState) (source : Stream) (written : Text) → GoesAlone n old new → Goes ended k start (moment old source written) → Goes ended (k + n) start (moment new source written)
+goes-alone zero k ended start old new source written same goes =
+    let none : k ≡ k + 0 = omega arith in
+    subst (λ j. Goes ended j start (moment new source written)) none (subst (λ m. Goes ended k start (moment m source written)) (sym same) goes)
+goes-alone (suc n) k ended start old new source written alone goes =
+    let middle = alone.0 in
+    let step = alone.1.1 in
+    let before = goes-alone n k ended start old middle source written alone.1.0 goes in
+    let one : suc (k + n) ≡ k + suc n = omega arith in
+    subst (λ j. Goes ended j start (moment new source written)) one
+    (moment middle source written, (before, (waits-none ended middle source.bytes step.alone, (step.goes source written, step.going))))
+
+-- where the run goes on, the turn stands behind them
+pub goes-on : (most n k : ℕ) (ended : Bool) (start : Moment) (old new : MachineState) (source : Stream) (written : Text) → new.fate ≡ None → Advanced most n old new → Goes ended k start (moment old source written) → Goes ended (k + n) start (moment new source written)
+goes-on most n k ended start old new source written going to goes =
+    let stops = subst (λ fate. StopsAlone most n to.0 fate new) going to.1.1 in
+    subst (λ m. Goes ended (k + n) start (moment m source written)) (sym stops.0) (goes-alone n k ended start old to.0 source written to.1.0 goes)
+
+ends-turn : (ended : Bool) (most done : ℕ) (before : Moment) (last : Turn) (new : Moment) → last ≢ Went → done < most → TurnsTo ended before last new → EndsTurn ended most done before last new
+ends-turn ended most done before Went new other few turns = absurd (other refl)
+ends-turn ended most done before Waits new other few turns = (few, turns)
+ends-turn ended most done before Full new other few turns = (few, turns)
+ends-turn ended most done before (Over fate) new other few turns = (few, turns)
+
+-- and then comes what the turn ends with: what follows; or that the run is over already
+pub ends-on : (most n k : ℕ) (ended : Bool) (start new : Moment) (old middle : MachineState) (source : Stream) (written : Text) (last : Turn) → k + n < most → last ≢ Went → (middle.fate ≡ None → TurnsTo ended (moment middle source written) last new) → ((fate : Fate) → middle.fate ≡ Some fate → (last ≡ Over fate) × (new ≡ moment middle source written)) → (wanted : ℕ) → Advanced wanted n old middle → Goes ended k start (moment old source written) → SomeTurned ended most start last new
+ends-on most n k ended start new old middle source written last few other turns over wanted to goes = go middle.fate refl
+  where
+    go : (fate : Option Fate) → middle.fate ≡ fate → SomeTurned ended most start last new
+    go None going = (
+      k + n,
+      (
+        moment middle source written,
+        record {
+          goes = goes-on wanted n k ended start old middle source written going to goes;
+          ends = ends-turn ended most (k + n) (moment middle source written) last new other few (turns going);
+        },
+      ),
+    )
+    go (Some fate) is_over =
+        let stops = subst (λ fate. StopsAlone wanted n to.0 fate middle) is_over to.1.1 in
+        let at = over fate is_over in
+        let before = moment to.0 source written in
+        let answers : Answers before (Some fate) new = subst (λ new. Answers before (Some fate) new) (sym at.1) (stops.1.ends source written) in
+        let turned : TurnsTo ended before last new = subst (λ t. TurnsTo ended before t new) (sym at.0) (waits-none ended to.0 source.bytes stops.1.alone, answers) in (
+          k + n,
+          (
+            before,
+            record {
+              goes = goes-alone n k ended start old to.0 source written to.1.0 goes;
+              ends = ends-turn ended most (k + n) before last new other few turned;
+            },
+          ),
+        )
+
+-- as many steps as a turn may make are done
+pub ends-full : (most n k : ℕ) (ended : Bool) (start : Moment) (old new : MachineState) (source : Stream) (written : Text) → k + n ≡ most → (wanted : ℕ) → wanted ≤ most - k → Advanced wanted n old new → Goes ended k start (moment old source written) → SomeTurned ended most start Went (moment new source written)
+ends-full most n k ended start old new source written all wanted few to goes = go new.fate refl
+  where
+    go : (fate : Option Fate) → new.fate ≡ fate → SomeTurned ended most start Went (moment new source written)
+    go None going =
+        (k + n, (moment new source written, record { goes = goes-on wanted n k ended start old new source written going to goes; ends = (all, refl) }))
+    go (Some fate) is_over =
+        let stops = subst (λ fate. StopsAlone wanted n to.0 fate new) is_over to.1.1 in
+        absurd (omega (arith, stops.0, few, all))
+
+-- a step more is done
+pub goes-further : (ended : Bool) (k : ℕ) (start before new : Moment) → Goes ended k start before → TurnsTo ended before Went new → Goes ended (k + 1) start new
+goes-further ended k start before new goes turns =
+    let one : suc k ≡ k + 1 = omega arith in
+    subst (λ j. Goes ended j start new) one (before, (goes, turns))
+
+-- a run that isn't over with any fate goes on
+pub is-going : (fate : Option Fate) → ((f : Fate) → fate ≡ Some f → ⊥) → fate ≡ None
+is-going None h = refl
+is-going (Some f) h = absurd (h f refl)

@@ -1,0 +1,110 @@
+-- Steps that touch no device, one after the other.
+use Rattle.trac_core.proofs.Words.{◌≡◌, ℕ, zero, suc, ◌+◌, ◌<◌, ◌≤◌, max, Some, None, refl, sym, ap, ◌∙◌, subst, arith, ◌⊎◌, ⊎_elim, inl, inr, min, cases_lt, Fate, Halted, InputEnded, Workspace, Steps, InputFailed, OutputFailed, Memory, size, Contents, used, IsSound, memory_of, MachineState, counted, Passes, PassesTimes, peak_after, passed, running, touches_device, KeepsFormsAndMeta, TriedAlone, StepsAlone, GoesAlone, EndsAlone, NeedsMore, Advanced, Advances, advanced_to}
+use Rattle.trac_functions.proofs.FlatLemmas.{size-used}
+use Rattle.trac_core.specs.declared.machine.Counters.{Counters}
+use Rattle.trac_core.specs.declared.machine.advancing.Advance.{Advance}
+use Rattle.trac_core.proofs.Moments.{one_passed, goes_on-passes, peak_after-same}
+use Rattle.trac_core.proofs.StepsInRow.{peak-some}
+use Rattle.trac_core.proofs.RunningOn.{IsNeed}
+
+-- the counters after so many steps, with this peak
+abbrev pub counters_after : Counters → (done peak : ℕ) → Counters
+counters_after at done peak = record { allowance = at.allowance; steps = at.steps + done; peak = peak }
+
+-- a step that performs no call touches no device
+passes-alone : (m : MachineState) (middle : Memory) → m.fate ≡ None → m.steps < m.allowance → size m.memory ≤ m.room → Passes m.memory middle → StepsAlone m (one_passed middle m)
+passes-alone m middle going allowed fits pass =
+    record {
+      alone = ap touches_device pass.no_call;
+      goes = λ source written. goes_on-passes m middle source written allowed fits pass;
+      going = going;
+    }
+
+-- such steps follow others
+pub goes-passing : (n k : ℕ) (start m : MachineState) (target : Memory) → m.fate ≡ None → size m.memory ≤ m.room → m.steps + n ≤ m.allowance → PassesTimes n m.memory target → GoesAlone k start m → GoesAlone (k + n) start (passed n target m)
+goes-passing zero k start m target going fits allowed same goes =
+    let none : k + 0 ≡ k = omega arith in
+    let steps : m.steps ≡ m.steps + 0 = omega arith in
+    subst (λ j. GoesAlone j start (passed zero target m)) (sym none)
+    (subst (λ n. GoesAlone k start (record m { memory = target; steps = n })) steps
+    (subst (λ memory. GoesAlone k start (record m { memory = memory })) same goes))
+goes-passing (suc n) k start m target going fits allowed passes goes =
+    let middle = passes.0 in
+    let pass = passes.1.0 in
+    let next = one_passed middle m in
+    let smaller = pass.no_larger in
+    let here : GoesAlone (suc k) start next = (m, (goes, passes-alone m middle going (omega arith) fits pass)) in
+    let later = goes-passing n (suc k) start next target going (omega arith) (omega arith) passes.1.1 here in
+    let all : suc k + n ≡ k + suc n = omega arith in
+    let steps : m.steps + 1 + n ≡ m.steps + suc n = omega arith in
+    let peak = peak_after-same n (size m.memory) (size middle) m.peak smaller in
+    subst (λ j. GoesAlone j start (passed (suc n) target m)) all
+    (subst (λ p. GoesAlone (suc k + n) start (record m { memory = target; steps = m.steps + suc n; peak = p })) peak
+    (subst (λ k'. GoesAlone (suc k + n) start (record m { memory = target; steps = k'; peak = peak_after n (size middle) (max m.peak (size m.memory)) })) steps later))
+
+-- what a last step leaves of a machine, part by part
+counted-memory : (m : MachineState) (after : Memory) (need : ℕ) (fate : Fate) → (counted m after need (Some fate)).memory ≡ after
+counted-memory m after need Halted = refl
+counted-memory m after need InputEnded = refl
+counted-memory m after need Workspace = refl
+counted-memory m after need Steps = refl
+counted-memory m after need InputFailed = refl
+counted-memory m after need OutputFailed = refl
+
+counted-parts : (m : MachineState) (after : Memory) (need : ℕ) (fate : Fate) → counted m after need (Some fate) ≡ record { memory = after; room = m.room; allowance = m.allowance; steps = (counted m after need (Some fate)).steps; peak = (counted m after need (Some fate)).peak; fate = Some fate }
+counted-parts m after need Halted = refl
+counted-parts m after need InputEnded = refl
+counted-parts m after need Workspace = refl
+counted-parts m after need Steps = refl
+counted-parts m after need InputFailed = refl
+counted-parts m after need OutputFailed = refl
+
+module _ (start : MachineState) (w new : Contents) (meta : ℕ) (at : Counters) (k peak : ℕ) where
+  -- steps that perform no call
+  pub alone-run : (done need top all : ℕ) → new.room ≡ w.room → IsSound w → at.steps + (k + done) ≤ at.allowance → 0 < done → Advances done w new → IsNeed need (used w) peak → top ≡ max peak need → all ≡ k + done → GoesAlone k start (running w meta (counters_after at k peak)) → GoesAlone all start (running new meta (counters_after at all top))
+  alone-run done need top all stays sound within some passes known is all_is goes =
+      let m = running w meta (counters_after at k peak) in
+      let target = memory_of meta new in
+      let later = goes-passing done k start m target refl (omega (arith, size-used meta w, sound.fits)) (omega arith) (passes meta) goes in
+      let steps : at.steps + k + done ≡ at.steps + (k + done) = omega arith in
+      let peaks : peak_after done (size (memory_of meta w)) peak ≡ top = ap (λ n. peak_after done n peak) (size-used meta w) ∙ peak-some done (used w) need peak some known ∙ sym is in
+      let same : passed done target m ≡ running new meta (counters_after at (k + done) top) = λ i. record { memory = target; room = sym stays i; allowance = at.allowance; steps = steps i; peak = peaks i; fate = None } in
+      subst (λ j. GoesAlone j start (running new meta (counters_after at j top))) (sym all_is) (subst (GoesAlone (k + done) start) same later)
+
+  -- a step that performs a call, or loads the idling procedure
+  pub alone-step : (after need top all : ℕ) → new.room ≡ w.room → at.steps + k < at.allowance → TriedAlone w meta None need new after → top ≡ max peak need → all ≡ suc k → GoesAlone k start (running w meta (counters_after at k peak)) → GoesAlone all start (running new after (counters_after at all top))
+  alone-step after need top all stays allowed tried is all_is goes =
+      let m = running w meta (counters_after at k peak) in
+      let target = memory_of after new in
+      let next = counted m target need None in
+      let step : StepsAlone m next = record { alone = tried.alone; goes = λ source written. tried.tried source written m refl refl allowed; going = refl } in
+      let steps : at.steps + k + 1 ≡ at.steps + suc k = omega arith in
+      let same : next ≡ running new after (counters_after at (suc k) top) = λ i. record { memory = target; room = sym stays i; allowance = at.allowance; steps = steps i; peak = sym is i; fate = None } in
+      let later : GoesAlone (suc k) start next = (m, (goes, step)) in
+      subst (λ j. GoesAlone j start (running new after (counters_after at j top))) (sym all_is) (subst (GoesAlone (suc k) start) same later)
+
+  -- no step more is done, since as many as were wanted are done or the next one can't be done alone
+  pub alone-stays : (most all : ℕ) (to : Advance) → new ≡ w → to ≡ record { done = all; steps = at.steps + all; peak = peak; fate = None } → all ≡ k → (k ≡ most) ⊎ NeedsMore (running w meta (counters_after at k peak)) → GoesAlone k start (running w meta (counters_after at k peak)) → Advanced most to.done start (advanced_to new meta at to)
+  alone-stays most all to same is all_is why goes =
+      let m = running w meta (counters_after at k peak) in
+      let told : Advance = record { done = k; steps = at.steps + k; peak = peak; fate = None } in
+      let to_is : to ≡ told = is ∙ ap (λ n. record { done = n; steps = at.steps + n; peak = peak; fate = None }) all_is in
+      let whole : Advanced most told.done start (advanced_to w meta at told) = (m, (goes, (refl, why))) in
+      subst (λ (to : Advance). Advanced most to.done start (advanced_to new meta at to)) (sym to_is)
+      (subst (λ (w : Contents). Advanced most told.done start (advanced_to w meta at told)) (sym same) whole)
+
+  -- a step ends the run
+  pub alone-ends : (most after need : ℕ) (fate : Fate) (to : Advance) → new.room ≡ w.room → at.steps + k < at.allowance → k < most → TriedAlone w meta (Some fate) need new after → to ≡ record { done = k; steps = (counted (running w meta (counters_after at k peak)) (memory_of after new) need (Some fate)).steps; peak = (counted (running w meta (counters_after at k peak)) (memory_of after new) need (Some fate)).peak; fate = Some fate } → GoesAlone k start (running w meta (counters_after at k peak)) → Advanced most to.done start (advanced_to new after at to)
+  alone-ends most after need fate to stays allowed few tried is goes =
+      let m = running w meta (counters_after at k peak) in
+      let last = counted m (memory_of after new) need (Some fate) in
+      let told : Advance = record { done = k; steps = last.steps; peak = last.peak; fate = Some fate } in
+      let ends : EndsAlone m fate last = record { alone = tried.alone; ends = λ source written. tried.tried source written m refl refl allowed; none_failed = tried.none_failed; keeps = subst (KeepsFormsAndMeta (memory_of meta w)) (sym (counted-memory m (memory_of after new) need fate)) (tried.keeps (λ e. absurd cc)) } in
+      let same : last ≡ advanced_to new after at told = counted-parts m (memory_of after new) need fate ∙ (λ i. record (advanced_to new after at told) { room = sym stays i }) in
+      let whole : Advanced most told.done start (advanced_to new after at told) = (m, (goes, (few, subst (EndsAlone m fate) same ends))) in
+      subst (λ (to : Advance). Advanced most to.done start (advanced_to new after at to)) (sym is) whole
+
+-- the less of two numbers is one of them
+pub least-of : (a b n : ℕ) → n ≡ min a b → (n ≡ a) ⊎ (n ≡ b)
+least-of a b n is =
+    ⊎_elim (λ less. inl (omega arith)) (λ more. inr (omega arith)) (cases_lt a b)

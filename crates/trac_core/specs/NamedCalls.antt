@@ -1,0 +1,39 @@
+-- The innermost call by its parts, and a try of a step that touches no device.
+use Rattle.std.specs.Prelude.{◌≡◌, ◌≢◌, ℕ, drop, true, false, Option, None, IsSome}
+use Rattle.trac_language.specs.declared.fate.Fate.{Fate}
+use Rattle.trac_language.specs.Text.{Text}
+use Rattle.trac_language.specs.State.{Memory}
+use Rattle.trac_space.specs.Calls.{IsLastCall}
+use Rattle.trac_forms.specs.Contents.{Contents, IsSound}
+use Rattle.trac_devices.specs.Devices.{Stream}
+use Rattle.trac_functions.specs.Flat.{memory_of, mode_at, is_active_mode, arguments_at}
+use Rattle.trac_functions.specs.Calls.{AreArguments, texts}
+use Rattle.trac_core.specs.declared.call.NamedCall.{NamedCall}
+use Rattle.trac_core.specs.Performed.{performs, touches_device}
+use Rattle.trac_core.specs.Machine.{KeepsFormsAndMeta}
+use Rattle.trac_core.specs.Attempts.{scene, Tried, function_at, NoneFailed}
+
+-- these are the parts of the innermost call
+pub record IsNamed (call : NamedCall) (w : Contents) : Type 0 where
+  pub sound : IsSound w
+  pub innermost : IsLastCall w.neutral call.place
+  pub names : call.function ≡ function_at w.neutral call.place
+  pub arguments : AreArguments w call.arguments
+  pub rest : IsSome call.function →
+      texts w call.arguments ≡ drop 1 (arguments_at w.neutral call.place)
+  pub scanned : call.arguments.scanned ≡ is_active_mode (mode_at w.neutral call.place)
+
+-- the next step reads or prints
+abbrev pub TouchesDevice : Memory → Type 0
+TouchesDevice memory = touches_device (performs memory) ≡ true
+
+-- the next step neither reads nor prints, and for each machine that holds these contents and may
+-- step, and whatever its devices hold, the answer is right; it tells no failure of a device, and a
+-- step that ends the run, or isn't done, leaves the forms and the meta character
+pub record TriedAlone (old : Contents) (meta : ℕ) (answer : Option Fate) (needed : ℕ)
+    (new : Contents) (after : ℕ) : Type 0 where
+  pub alone : touches_device (performs (memory_of meta old)) ≡ false
+  pub tried : (source : Stream) (written : Text) →
+      Tried (scene old meta source written) answer needed (scene new after source written)
+  pub none_failed : NoneFailed answer
+  pub keeps : answer ≢ None → KeepsFormsAndMeta (memory_of meta old) (memory_of after new)

@@ -1,0 +1,126 @@
+//! Steps that touch no device, as many as follow one another.
+ghost use Rattle.std.specs.Prelude.{◌≡◌, ◌+◌, ◌<◌, ◌≤◌, ◌^◌, None, IsSome};
+ghost use Rattle.trac_forms.specs.Contents.{IsSound};
+ghost use Rattle.trac_functions.specs.Calls.{KeepsRoom};
+ghost use Rattle.trac_core.specs.Machine.{KeepsLimits};
+ghost use Rattle.trac_core.specs.StepsInRow.{running};
+ghost use Rattle.trac_core.specs.Advancing.{Advanced, advanced_to};
+
+use super::{Counters, Machine, ended};
+use crate::call::carry_alone;
+use crate::scan::pass;
+use trac_forms::Work;
+use trac_language::Fate;
+
+/// How far a machine went.
+#[derive(Clone, Copy, Debug, PartialEq, Eq)]
+pub(super) struct Advance {
+    /// The steps that were done and after which the run went on.
+    done: u64,
+    /// The steps and the peak that are counted then, and how the run ended, if it did.
+    steps: u64,
+    peak: u32,
+    fate: Option<Fate>,
+}
+
+impl<'a> Machine<'a> {
+    /// Makes steps, at most so many, as `step` does, but none that reads or prints, so that it
+    /// needs no device: it stops before a call of `rs`, `rc`, `ps` or `pf`. Gives how many steps
+    /// were done after which the run went on. They are fewer than so many only if it stopped there,
+    /// the allowance is used up, or the next step ended the run, by `hl` or since it needs more than
+    /// the room; with the allowance used up the run isn't over before the next call of `step`. Where
+    /// the run is over before, nothing is done. This processor's own choice.
+    pub fn advance(&mut self, most: u64) -> u64
+        // so many steps of the definition, whatever the devices hold, and why they are no more
+        ensures advanced { self.old.fate ≡ None → Advanced most result self.old self.new }
+        ensures few { result ≤ most }
+        // a run that is over stays so
+        ensures over { IsSome self.old.fate → (result ≡ 0) × (self.new ≡ self.old) }
+        // the limits stay, and are kept
+        ensures room { self.new.room ≡ self.old.room }
+        ensures allowance { self.new.allowance ≡ self.old.allowance }
+        ensures limits { KeepsLimits self.new }
+    {
+        if self.fate.is_some() {
+            return 0;
+        }
+        let at = Counters {
+            allowance: self.allowance,
+            steps: self.steps,
+            peak: self.peak,
+        };
+        let to = go_alone(&mut self.work, &mut self.meta, at, most);
+        self.steps = to.steps;
+        self.peak = to.peak;
+        self.fate = to.fate;
+        to.done
+    }
+}
+
+/// Makes steps that touch no device, at most so many, of a run that isn't over and has these
+/// counters, which are single values here, as in `run_to_end`.
+#[inline(never)]
+fn go_alone(work: &mut Work, meta: &mut u8, at: Counters, most: u64) -> Advance
+    requires sound { IsSound work.old }
+    requires steps { at.steps ≤ at.allowance }
+    requires peak { at.peak ≤ work.old.room }
+    ensures advanced { let old = running work.old meta.old at in
+        Advanced most result.done old (advanced_to work.new meta.new at result) }
+    ensures few { result.done ≤ most }
+    ensures steps { result.steps ≤ at.allowance }
+    ensures peak { result.peak ≤ work.old.room }
+    ensures keeps { KeepsRoom work.old work.new }
+{
+    let reach = most.min(at.allowance - at.steps);
+    let mut left = reach;
+    let mut peak = at.peak;
+    let mut need = work.used();
+    let mut plain = work.neutral_len();
+    let mut long = 0;
+    while left > 0 {
+        match pass(work, left, &mut plain, &mut long) {
+            Ok(done) => {
+                left -= done;
+                peak = peak.max(need);
+            }
+            Err(front) => {
+                let Some(last) = carry_alone(work, front, meta) else {
+                    return going(reach - left, at.steps, peak);
+                };
+                if let Some(fate) = last.fate {
+                    let report = ended(fate, last.need, at.steps + (reach - left), peak);
+                    return Advance {
+                        done: reach - left,
+                        steps: report.steps,
+                        peak: report.peak,
+                        fate: Some(report.fate),
+                    };
+                }
+                left -= 1;
+                peak = peak.max(last.need);
+                need = work.used();
+                plain = work.neutral_len();
+                long = 0;
+            }
+        }
+    }
+    going(reach, at.steps, peak)
+}
+
+/// So many steps after others, with this peak; the run goes on.
+fn going(done: u64, steps: u64, peak: u32) -> Advance
+    requires { steps + done < 2 ^ 64 }
+    ensures { result ≡ record {
+      done = done;
+      steps = steps + done;
+      peak = peak;
+      fate = None;
+    } }
+{
+    Advance {
+        done,
+        steps: steps + done,
+        peak,
+        fate: None,
+    }
+}
