@@ -309,8 +309,8 @@ int main(int count, char **words) {
     with.cells = with.cells ? with.cells : 65536;
     with.steps = with.steps ? with.steps : 1000000;
     const size_t cells = (size_t)with.cells, longest = cells + 1;
-    uint8_t *const block = (uint8_t *)malloc(cells * TRAC_CELL_SIZE + longest + CHUNK);
     sink to = {(uint8_t *)malloc(CHUNK), CHUNK};
+    uint8_t *const block = (uint8_t *)malloc(cells * TRAC_CELL_SIZE + longest + CHUNK);
     if (block && to.bytes && trac_open(machine, block, cells, with.steps) == 0) {
         source from = {block + cells * TRAC_CELL_SIZE, 0, 0, 0};
         report = run(machine, cells, &from, &to);
