@@ -46,11 +46,19 @@ programs: prove crates/trac_trace/out/trac_trace crates/trac_terminal/out/trac_t
 
 ## make check      all that needs no kit, over the program in C
 check: build/trac check-tools
-	$(PYTEST) checks --ignore checks/proved
+	$(PYTEST) checks --ignore checks/proved --ignore checks/machines
+
+## make check-machines  the engine in C on a Cortex-M3, aarch64, arm and s390x, each emulated
+check-machines: check-tools
+	@checks/tools machines
+	$(PYTEST) checks/machines
+
+## make check-all  all of these checks
+check-all: check check-machines
 
 ## make test       the gate: make check, all proofs, tests and edits, and the checks of what is proved
 test:
-	@checks/gate check proofs check-proved
+	@checks/gate check check-machines proofs check-proved
 
 proofs:
 	@$(RT) . rt ci
@@ -80,14 +88,18 @@ dist/trac: crates/trac_cli/out/trac_cli
 	cp -p crates/trac_cli/out/trac_cli $@
 	cp docs/*.1 dist
 
-dist/libtrac.a: $(SOURCES)
-	mkdir -p dist
+# The proved library: its exports are hidden behind the functions of trac.h.
+dist/libtrac.a: $(SOURCES) hosts/c/proved.c hosts/c/api.c hosts/c/trac.h
+	mkdir -p build dist
 	@$(RT) trac_c rt lib
-	cp crates/trac_c/out/libtrac_c.a $@
+	$(CC) -std=c11 $(CFLAGS) -fPIC -c -o build/proved.o hosts/c/proved.c
+	ld -r -o build/libtrac.o build/proved.o --whole-archive crates/trac_c/out/libtrac_c.a
+	objcopy -w --keep-global-symbol='trac_[!e]*' build/libtrac.o
+	rm -f $@ && ar rcs $@ build/libtrac.o
 
-dist/trac.h: hosts/c/trac.h VERSION
+dist/trac.h: hosts/c/trac.h
 	mkdir -p dist
-	{ echo '/* Version $(VERSION) */' && cat hosts/c/trac.h; } >$@
+	cp hosts/c/trac.h $@
 
 dist/trac.wasm: $(SOURCES)
 	mkdir -p build dist
@@ -143,5 +155,5 @@ clean:
 check-tools:
 	@checks/tools
 
-.PHONY: all help prove programs check test proofs check-proved edits generate types dist install uninstall package \
+.PHONY: all help prove programs check check-machines check-all test proofs check-proved edits generate types dist install uninstall package \
     clean check-tools

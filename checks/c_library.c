@@ -38,7 +38,7 @@ static void tell(trac_report report) {
 }
 
 static struct {
-    void *block;
+    trac_cell *block;
     uint8_t *script, *output;
     size_t cells, script_len, room;
     uint64_t steps;
@@ -65,39 +65,70 @@ static void run_on_stack(size_t bytes) {
     swapcontext(&here, &there);
 }
 
+/* Whether a machine that can't be used is refused by every function. */
+static int is_refused(trac_machine *machine) {
+    trac_form form = TRAC_NO_FORM;
+    uint32_t code;
+    return trac_turn(machine, "", 0, 1, NULL, 0, 9).fate == TRAC_REFUSED && trac_again(machine, 9) == TRAC_REFUSED &&
+           !trac_form_count(machine) && !trac_next_form(machine, &form) && !trac_neutral(machine, &code, 1) &&
+           !trac_active(machine, &code, 1) && trac_rule(machine) == TRAC_REFUSED &&
+           !trac_part(machine, TRAC_PART_FREE) && trac_meta(machine) == 256 && trac_awaits(machine) == TRAC_REFUSED;
+}
+
 static int pointers(void) {
-    uint64_t cells[64];
+    trac_cell cells[64];
     uint8_t byte[4] = {'a', 'b', 'c', '\''};
     char *at = (char *)cells;
+    trac_cell *const one = (trac_cell *)(void *)(at + 1), *const two = (trac_cell *)(void *)(at + 2);
+    trac_cell *const four = (trac_cell *)(void *)(at + 4);
     if (trac_run(NULL, 1, 9, byte, 4, byte, 0).fate != TRAC_REFUSED ||
-        trac_run(at + 1, 8, 9, byte, 4, byte, 0).fate != TRAC_REFUSED ||
-        trac_run(at + 2, 8, 9, byte, 4, byte, 0).fate != TRAC_REFUSED ||
+        trac_run(one, 8, 9, byte, 4, byte, 0).fate != TRAC_REFUSED ||
+        trac_run(two, 8, 9, byte, 4, byte, 0).fate != TRAC_REFUSED ||
         trac_run(cells, 8, 9, NULL, 4, NULL, 0).fate != TRAC_REFUSED ||
         trac_run(cells, 8, 9, NULL, 0, NULL, 1).fate != TRAC_REFUSED)
         return 1;
     if (trac_run(NULL, 0, 9, NULL, 0, NULL, 0).fate != TRAC_WORKSPACE ||
-        trac_run(at + TRAC_CELL_ALIGN, 60, 99, NULL, 0, NULL, 0).fate != TRAC_INPUT_ENDED ||
+        trac_run(four, 60, 99, NULL, 0, NULL, 0).fate != TRAC_INPUT_ENDED ||
         trac_run(cells, 64, 99, byte, 4, NULL, 0).fate != TRAC_OUTPUT_FAILED)
         return 2;
     uint32_t *const crooked = (uint32_t *)(void *)(at + 1);
-    if (trac_form_count(NULL) || trac_form_name(NULL, 0, byte, 4) || trac_rule(at + 4) ||
-        trac_part(NULL, TRAC_PART_FREE) || trac_meta(NULL) || trac_awaits(NULL))
+    trac_machine machine = {{0}}, other;
+    trac_form form = TRAC_NO_FORM;
+    if (!is_refused(NULL) || !is_refused(&machine) || !is_refused((trac_machine *)(void *)(at + 4)) ||
+        trac_form_name(NULL, byte, 4) || trac_form_name(&form, byte, 4) || trac_next_form(&machine, NULL))
         return 4;
-    uint64_t machine[(TRAC_MACHINE_SIZE + 7) / 8];
-    if (trac_open(machine, cells, 64, 9) || trac_part(machine, TRAC_PART_FREE) != 64 ||
-        trac_turn(machine, byte, 4, 1, NULL, 0, 1).fate != TRAC_GOING ||
-        trac_active(machine, NULL, 0) != 11 || trac_active(machine, NULL, 1) ||
-        trac_active(machine, crooked, 1) || trac_neutral(machine, crooked, 1) ||
-        trac_form_codes(machine, 0, crooked, 1) || trac_form_text(machine, 0, NULL, 1))
+    if (trac_open(&machine, NULL, 1, 9) != TRAC_REFUSED || !is_refused(&machine) ||
+        trac_open(&machine, cells, TRAC_MOST_CELLS + 1, 9) != TRAC_REFUSED || !is_refused(&machine) ||
+        trac_open(NULL, cells, 64, 9) != TRAC_REFUSED)
+        return 6;
+    if (trac_open(&machine, cells, 64, 99) || trac_part(&machine, TRAC_PART_FREE) != 64 ||
+        trac_turn(&machine, byte, 4, 1, NULL, 0, 1).fate != TRAC_GOING ||
+        trac_active(&machine, NULL, 0) != 11 || trac_active(&machine, NULL, 1) ||
+        trac_active(&machine, crooked, 1) || trac_neutral(&machine, crooked, 1))
         return 5;
-    return sizeof cells < 64 * TRAC_CELL_SIZE ? 3 : 0;
+    if (trac_again(&machine, 99) || trac_turn(&machine, "#(ds,a,b)'", 10, 1, NULL, 0, 99).fate != TRAC_INPUT_ENDED ||
+        !trac_next_form(&machine, &form) || trac_form_name(&form, byte, 4) != 1 || byte[0] != 'a' ||
+        trac_form_codes(&form, crooked, 1) || trac_form_text(&form, NULL, 1) || trac_form_text(&form, NULL, 0) != 4)
+        return 7;
+    /* A place in the list is no other machine's, and none after a turn. */
+    memcpy(&other, &machine, sizeof other);
+    if (trac_next_form(&other, &form) || trac_again(&machine, 99) || trac_form_name(&form, byte, 4) ||
+        trac_next_form(&machine, &form))
+        return 8;
+    return sizeof cells != 512 || !trac_abi(TRAC_VERSION_NUMBER, sizeof machine, sizeof(trac_report)) ||
+           trac_abi(TRAC_VERSION_NUMBER + 1000, sizeof machine, sizeof(trac_report)) ||
+           trac_abi(TRAC_VERSION_NUMBER, sizeof form - 1, sizeof(trac_report)) ||
+           strcmp(trac_version(), TRAC_VERSION) || strcmp(trac_fate_name(TRAC_REFUSED), "refused") ||
+           strcmp(trac_fate_name(10), "?") || strcmp(trac_rule_name(TRAC_RULE_CHARACTER), "character")
+               ? 3
+               : 0;
 }
 
 /* Turns to the end of the run: bytes that weren't consumed are given again with a piece more. */
 static void run_in_turns(size_t piece, uint64_t most) {
-    void *machine = buffer(TRAC_MACHINE_SIZE);
+    trac_machine *machine = (trac_machine *)buffer(sizeof(trac_machine));
     size_t start = 0, end = 0, written = 0;
-    if (trac_machine_size() != TRAC_MACHINE_SIZE || trac_open(machine, run.block, run.cells, run.steps))
+    if (trac_open(machine, run.block, run.cells, run.steps))
         exit(71);
     do {
         uint8_t *given = (uint8_t *)buffer(end - start);
@@ -134,19 +165,20 @@ static void run_in_turns(size_t piece, uint64_t most) {
 
 /* ---- What a machine shows of itself. */
 
-static void *seen;
-static size_t seen_form, compared;
+static trac_machine *seen;
+static trac_form seen_form;
+static size_t compared;
 
 static size_t name_of(void *to, size_t room) {
-    return trac_form_name(seen, seen_form, (uint8_t *)to, room);
+    return trac_form_name(&seen_form, to, room);
 }
 
 static size_t text_of(void *to, size_t room) {
-    return trac_form_text(seen, seen_form, (uint8_t *)to, room);
+    return trac_form_text(&seen_form, to, room);
 }
 
 static size_t codes_of(void *to, size_t room) {
-    return trac_form_codes(seen, seen_form, (uint32_t *)to, room);
+    return trac_form_codes(&seen_form, (uint32_t *)to, room);
 }
 
 static size_t neutral_of(void *to, size_t room) { return trac_neutral(seen, (uint32_t *)to, room); }
@@ -224,10 +256,20 @@ static void compare_display(void) {
     free(text);
 }
 
+/* Goes to the form at a place, from 0. The calls that compare displays are turns, after which a place is old. */
+static int go_to_form(size_t at) {
+    const trac_form before = TRAC_NO_FORM;
+    int is_there = 1;
+    seen_form = before;
+    for (size_t passed = 0; is_there && passed <= at; passed++)
+        is_there = trac_next_form(seen, &seen_form);
+    return is_there;
+}
+
 static void view(uint64_t most) {
     uint8_t *output = (uint8_t *)buffer(run.room);
     size_t start = 0;
-    seen = buffer(TRAC_MACHINE_SIZE);
+    seen = (trac_machine *)buffer(sizeof(trac_machine));
     if (trac_open(seen, run.block, run.cells, run.steps))
         exit(71);
     do {
@@ -239,14 +281,15 @@ static void view(uint64_t most) {
     } while (run.report.fate == TRAC_GOING);
     if (trac_awaits(seen) != TRAC_AWAITS_NOTHING)
         exit(83);
-    const size_t forms = trac_form_count(seen);
-    for (seen_form = 0; seen_form <= forms; seen_form++) {
-        printf("form %zu", trac_form_pointer(seen, seen_form));
+    for (size_t at = 0, count = trac_form_count(seen); at <= count; at++) {
+        if (go_to_form(at) != (at < count))
+            exit(84);
+        printf("form %zu", trac_form_pointer(&seen_form));
         tell_items(name_of, 1);
         tell_items(text_of, 1);
         tell_items(codes_of, sizeof(uint32_t));
         putchar('\n');
-        if (seen_form < forms && run.cells == 65536)
+        if (at < count && run.cells == 65536)
             compare_display();
     }
     printf("compared %zu\n", compared);
@@ -257,7 +300,7 @@ static void view(uint64_t most) {
 /* The buffers of a run with an output of so many bytes. */
 static void begin(const uint8_t *script, size_t room) {
     run.room = room;
-    run.block = buffer(run.cells > TRAC_MOST_CELLS ? 0 : run.cells * TRAC_CELL_SIZE);
+    run.block = (trac_cell *)buffer(run.cells > TRAC_MOST_CELLS ? 0 : run.cells * sizeof(trac_cell));
     run.script = (uint8_t *)buffer(run.script_len);
     run.output = (uint8_t *)buffer(run.room);
     memcpy(run.script, script, run.script_len);

@@ -5,6 +5,7 @@ import os
 import re
 import unittest
 
+from free_text import FREE_TEXT, OTHERS
 from trac import TOP, run
 
 FOLDER = os.path.join(TOP, 'examples')
@@ -57,3 +58,18 @@ class Exercises(unittest.TestCase):
                     self.assertEqual(run(blocks['trac']), (b'', '', 0))
                 solved.append(name)
         self.assertEqual(solved, sorted(glob.glob('exercises/*.trac', root_dir=FOLDER)))
+
+
+class FreeText(unittest.TestCase):
+    def test_it_comes_out_as_it_went_in(self):
+        for name, given, wanted in FREE_TEXT:
+            with self.subTest(script=name):
+                script, apostrophe, _ = read(f'{name}.trac').partition(b"'")
+                whole = script + apostrophe + given.encode()
+                self.assertEqual(run(whole), (wanted.encode(), '', 0))
+
+    def test_each_script_that_reads_is_tried(self):
+        scripts = glob.glob('**/*.trac', root_dir=FOLDER, recursive=True)
+        reading = [name[:-5] for name in scripts if re.search(rb'#\(r[sc]\)', read(name))]
+        tried = [name for name, _, _ in FREE_TEXT]
+        self.assertEqual(sorted(reading), sorted([*tried, *OTHERS]))

@@ -215,7 +215,7 @@ static int read_more(source *from) {
 
 /* Reads until the next step can be done: it reads a byte, or a string that ends or that the cells can't hold.
  * Gives 0 where a read failed. */
-static int feed(void *machine, source *from) {
+static int feed(const trac_machine *machine, source *from) {
     const int meta = (int)trac_meta(machine);
     const size_t most = trac_awaits(machine) == TRAC_AWAITS_BYTE ? 0 : trac_part(machine, TRAC_PART_FREE) + 1;
     size_t seen;
@@ -246,7 +246,7 @@ static int reserve(sink *to, size_t wanted) {
 }
 
 /* Makes a turn, with room for one print that the step asked for, or for none. Writes what was printed. */
-static trac_report turn(void *machine, source *from, const sink *to, size_t room) {
+static trac_report turn(trac_machine *machine, source *from, const sink *to, size_t room) {
     trac_report report = trac_turn(machine, from->bytes + from->start, from->length, from->ended, to->bytes, room,
                                    room ? 1 : UINT64_MAX);
     from->start += report.consumed;
@@ -259,7 +259,7 @@ static trac_report turn(void *machine, source *from, const sink *to, size_t room
 }
 
 /* Runs the script, and tells how it ended. TRAC_REFUSED: there is no memory for a print. */
-static trac_report run(void *machine, size_t cells, source *from, sink *to) {
+static trac_report run(trac_machine *machine, size_t cells, source *from, sink *to) {
     trac_report report = turn(machine, from, to, 0);
     while (report.fate == TRAC_GOING || report.fate == TRAC_WANTS_INPUT || report.fate == TRAC_WANTS_OUTPUT) {
         if (report.fate == TRAC_WANTS_OUTPUT && !reserve(to, report.wanted)) {
@@ -299,7 +299,7 @@ static int ended(const settings *with, const trac_report *report) {
 }
 
 int main(int count, char **words) {
-    static uint64_t machine[TRAC_MACHINE_SIZE / sizeof(uint64_t)];
+    static trac_machine machine;
     settings with = {0, 0, 0, NULL, NULL};
     trac_report report = {TRAC_REFUSED, 0, 0, 0, 0, 0};
     (void)signal(SIGPIPE, SIG_IGN);
@@ -310,10 +310,10 @@ int main(int count, char **words) {
     with.steps = with.steps ? with.steps : 1000000;
     const size_t cells = (size_t)with.cells, longest = cells + 1;
     sink to = {(uint8_t *)malloc(CHUNK), CHUNK};
-    uint8_t *const block = (uint8_t *)malloc(cells * TRAC_CELL_SIZE + longest + CHUNK);
-    if (block && to.bytes && trac_open(machine, block, cells, with.steps) == 0) {
-        source from = {block + cells * TRAC_CELL_SIZE, 0, 0, 0};
-        report = run(machine, cells, &from, &to);
+    trac_cell *const block = (trac_cell *)malloc(cells * sizeof(trac_cell) + longest + CHUNK);
+    if (block && to.bytes && trac_open(&machine, block, cells, with.steps) == 0) {
+        source from = {(uint8_t *)(block + cells), 0, 0, 0};
+        report = run(&machine, cells, &from, &to);
     }
     return ended(&with, &report);
 }

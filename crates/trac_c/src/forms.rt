@@ -14,16 +14,20 @@ use trac_space::character_of;
 fn form_at<'m>(machine: &'m Machine<'static>, k: usize) -> Option<StoredForm<'m>>
     ensures { result ≡ slice_get machine.now.memory.forms k }
 {
-    let mut forms = machine.forms();
-    if k >= forms.len() as usize {
+    if k >= machine.forms().len() as usize {
         return None;
     }
-    let mut passed = 0;
-    while passed < k {
-        let _ = forms.next();
-        passed += 1;
+    machine.form(k as u32)
+}
+
+/// Has the form at place `k` found without a walk over those before it: forms that are shown in turn
+/// cost one walk in all.
+fn turn_to(machine: &mut Machine<'static>, k: usize)
+    ensures { machine.new ≡ machine.old }
+{
+    if let Ok(k) = u32::try_from(k) {
+        machine.turn_to_form(k);
     }
-    forms.next()
 }
 
 /// The length of a form's name, which goes to the front of a buffer.
@@ -31,6 +35,7 @@ pub(crate) fn lay_name(machine: &mut Machine<'static>, k: usize, room: &mut [u8]
     ensures { Lays (name_of (slice_get machine.old.memory.forms k)) result room.old room.new ×
         (machine.new ≡ machine.old) }
 {
+    turn_to(machine, k);
     match form_at(machine, k) {
         Some(form) => lay_characters(form.name(), room),
         None => 0,
@@ -42,6 +47,7 @@ pub(crate) fn lay_display(machine: &mut Machine<'static>, k: usize, room: &mut [
     ensures { Lays (display_of (slice_get machine.old.memory.forms k)) result room.old room.new ×
         (machine.new ≡ machine.old) }
 {
+    turn_to(machine, k);
     match form_at(machine, k) {
         Some(form) => lay_shown(&form, room),
         None => 0,
@@ -53,6 +59,7 @@ pub(crate) fn lay_codes(machine: &mut Machine<'static>, k: usize, room: &mut [u3
     ensures { Lays (codes_of (slice_get machine.old.memory.forms k)) result room.old room.new ×
         (machine.new ≡ machine.old) }
 {
+    turn_to(machine, k);
     match form_at(machine, k) {
         Some(form) => lay_items(&form, room),
         None => 0,
@@ -64,6 +71,7 @@ pub(crate) fn pointer(machine: &mut Machine<'static>, k: usize) -> usize
     ensures { (result ≡ pointer_of (slice_get machine.old.memory.forms k)) ×
         (machine.new ≡ machine.old) }
 {
+    turn_to(machine, k);
     match form_at(machine, k) {
         Some(form) => form.pointer() as usize,
         None => 0,

@@ -6,6 +6,8 @@ ghost use Rattle.std.specs.Prelude.{◌≡◌};
 ghost use Rattle.trac_lines.specs.Lines.{status_of};
 
 mod serve;
+#[cfg(test)]
+mod tests;
 mod words;
 
 use serve::{NoMemory, serve};
@@ -13,8 +15,10 @@ use std::process::ExitCode;
 use std::rt::Env;
 use std::{env, io};
 use trac_core::{Input, Output, Report};
-use trac_lines::{fault_line, memory_line, report_line, status, write_line};
-use trac_words::{Settings, refused, refused_words};
+use trac_lines::{
+    fault_line, memory_line, refused, refused_words, report_line, status, write_line,
+};
+use trac_words::Settings;
 use words::settings_from;
 
 // The status where there is no memory for the block.
@@ -32,7 +36,12 @@ fn main(rt: HostRuntime) -> ExitCode {
     };
     match settings {
         Ok(settings) => ExitCode::from(run(&rt, &settings)),
-        Err(error) => ExitCode::from(refused(&rt, &error, NO_MEMORY_LINE)),
+        Err(error) => ExitCode::from(refused(
+            &rt,
+            &mut Output::new(rt.stdout()),
+            &error,
+            NO_MEMORY_LINE,
+        )),
     }
 }
 
@@ -43,7 +52,7 @@ fn run(rt: &HostRuntime, settings: &Settings) -> u8 {
     match serve(rt.alloc(), settings, &mut source, &mut sink) {
         Ok(report) => ended(rt, settings, &report),
         Err(NoMemory) => {
-            write_line(&mut rt.stderr(), &memory_line(settings));
+            let _ = write_line(&mut rt.stderr(), &memory_line(settings));
             NO_MEMORY
         }
     }
@@ -54,10 +63,10 @@ fn ended(rt: &HostRuntime, settings: &Settings, report: &Report) -> u8
     ensures { result ≡ status_of report.now.fate }
 {
     if settings.report {
-        write_line(&mut rt.stderr(), &report_line(report));
+        let _ = write_line(&mut rt.stderr(), &report_line(report));
     }
     if let Some(line) = fault_line(report, settings) {
-        write_line(&mut rt.stderr(), &line);
+        let _ = write_line(&mut rt.stderr(), &line);
     }
     status(report)
 }

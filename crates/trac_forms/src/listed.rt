@@ -138,6 +138,18 @@ impl<'a> Work<'a> {
         }
     }
 
+    /// The form at place `k` of the list, from 0, to be looked at; `None` past the last. It costs a walk
+    /// from the form that `form` told last, where that stands before it.
+    pub fn listed_at(&self, k: u32) -> Option<StoredForm<'_>>
+        ensures { result ≡ slice_get self.now.forms k }
+    {
+        if k < self.count {
+            Some(self.stored(FormId(k)))
+        } else {
+            None
+        }
+    }
+
     /// A form, to be looked at.
     pub fn stored(&self, form: FormId) -> StoredForm<'_>
         requires { form_place form < length self.now.forms }

@@ -1,13 +1,18 @@
-//! The lines on standard error of the programs that run scripts, and their exit status. Both are
-//! this processor's own choice.
+//! What the programs that run scripts say beside their output, where the words give no settings and
+//! after a run, and their exit status. All of it is this processor's own choice.
 #![tactic(auto)]
 
-ghost use Rattle.std.specs.Prelude.{◌≡◌, ◌+◌, ◌≤◌, ◌++◌, [], List, ℕ, length, take, true};
-ghost use Rattle.std.specs.Prelude.{decimal};
+ghost use Rattle.std.specs.Prelude.{◌≡◌, ◌+◌, ◌≤◌, ◌++◌, ◌∷◌, [], List, ℕ, length, take, true};
+ghost use Rattle.std.specs.Prelude.{decimal, OnOk};
+ghost use Rattle.std.specs.Io.KnownBytes.{Appends};
 ghost use Rattle.trac_lines.specs.Lines.{fault_text, is_one_line, memory_text, report_text};
 ghost use Rattle.trac_lines.specs.Lines.{status_of};
 
+mod refusals;
+
 use itoa::Buffer;
+pub use refusals::{error_status, refused, refused_words};
+use std::io;
 use std::io::Write;
 use std::marker::Model;
 use trac_language::{Fate, Report};
@@ -28,11 +33,14 @@ impl Model for Line {
     ghost invariant = { λ line. (line.len ≤ 80) × (is_one_line (take line.len line.bytes) ≡ true) };
 }
 
-/// Writes a line and its line feed to standard error, or wherever the program tells its faults. A
-/// failure is ignored.
-pub fn write_line<W: Write>(errors: &mut W, line: &Line) {
-    let _ = errors.write_all(line.as_bytes());
-    let _ = errors.write_all(b"\n");
+/// Writes a line and its line feed to standard error, or wherever the program tells its faults. An
+/// error is the writer's; who tells a fault ignores it.
+pub fn write_line<W: Write>(errors: &mut W, line: &Line) -> io::Result<()>
+    ensures { OnOk result (Appends (W.contents errors.old) (W.contents errors.new)
+        (line.now ++ 10 ∷ [])) }
+{
+    errors.write_all(line.as_bytes())?;
+    errors.write_all(b"\n")
 }
 
 impl Line {
@@ -137,7 +145,14 @@ pub fn memory_line(settings: &Settings) -> Line
 pub fn status(report: &Report) -> u8
     ensures { result ≡ status_of report.now.fate }
 {
-    match report.fate {
+    fate_status(report.fate)
+}
+
+/// The same, of how a run ended.
+pub fn fate_status(fate: Fate) -> u8
+    ensures { result ≡ status_of fate }
+{
+    match fate {
         Fate::Halted | Fate::InputEnded => 0,
         Fate::Workspace => 1,
         Fate::Steps => 3,

@@ -20,9 +20,9 @@ use std::os::unix::fs::{FileTypeExt, MetadataExt};
 use std::process::ExitCode;
 use std::{env, fs, io};
 use trac_core::{Fate, Input, Machine, Output};
-use trac_lines::{memory_line, status, write_line};
+use trac_lines::{memory_line, refused, refused_words, status, write_line};
 use trac_space::make_block;
-use trac_words::{Settings, refused, refused_words};
+use trac_words::Settings;
 use words::{Words, words_from};
 
 // The status where a file can't be read, as for a run whose input failed.
@@ -46,7 +46,12 @@ fn main(rt: HostRuntime) -> ExitCode {
     };
     match words {
         Ok(words) => ExitCode::from(run(&rt, &words)),
-        Err(error) => ExitCode::from(refused(&rt, &error, NO_MEMORY_LINE)),
+        Err(error) => ExitCode::from(refused(
+            &rt,
+            &mut Output::new(rt.stdout()),
+            &error,
+            NO_MEMORY_LINE,
+        )),
     }
 }
 
@@ -54,7 +59,7 @@ fn main(rt: HostRuntime) -> ExitCode {
 fn run(rt: &HostRuntime, words: &Words) -> u8 {
     let settings = &words.settings;
     let Ok(mut block) = make_block(rt.alloc(), settings.cells) else {
-        write_line(&mut rt.stderr(), &memory_line(settings));
+        let _ = write_line(&mut rt.stderr(), &memory_line(settings));
         return NO_MEMORY;
     };
     let mut machine = Machine::over(&mut block, settings.steps);
@@ -114,7 +119,7 @@ fn run_typed(
     if report.fate == Fate::InputEnded && !prompt.is_empty() {
         let _ = rt.stderr().write_all(b"\n");
     }
-    status(report.fate)
+    status(&report)
 }
 
 // Whether standard input is a terminal: a character device that is none of the memory devices.

@@ -40,7 +40,7 @@ pub fn run_strings<I: Source, O: Sink, E: Write>(
         if let Some(fate) = fate {
             let report = report_of(machine, fate);
             if let Some(line) = fault_line(&report, settings) {
-                write_line(errors, &line);
+                let _ = write_line(errors, &line);
             }
             if ends_session(fate) || !reading.has_read() {
                 return report;

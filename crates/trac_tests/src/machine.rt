@@ -3,6 +3,7 @@
 ghost use Rattle.std.specs.Prelude.{◌≤◌, length};
 
 mod devices;
+mod lines;
 mod rows;
 mod session;
 mod view;

@@ -22,9 +22,9 @@ pub(crate) fn are_bytes(cells: &[Cell], text: &[u8]) -> bool {
     true
 }
 
-fn is_call(cell: Option<Cell>, number: u32) -> bool {
+fn is_call(cell: Option<Cell>, mode: Mode, number: u32) -> bool {
     match cell {
-        Some(Cell::Call(_, n)) => n == number,
+        Some(Cell::Call(m, n)) => m == mode && n == number,
         _ => false,
     }
 }
@@ -64,11 +64,11 @@ fn numbers_of_call_marks(rt: HostRuntime) {
     assert!(rt; space.push_neutral(Cell::Comma));
     assert!(rt; space.push_neutral(Cell::Call(Mode::Neutral, 9)));
     assert!(rt; space.push_neutral(Cell::Byte(98)));
-    assert!(rt; is_call(space.neutral_at(0), 0));
-    assert!(rt; is_call(space.neutral_at(3), 3));
+    assert!(rt; is_call(space.neutral_at(0), Mode::Active, 0));
+    assert!(rt; is_call(space.neutral_at(3), Mode::Neutral, 3));
     assert!(rt; space.last_call() == Some(3));
     space.drop_neutral(2, 4);
-    assert!(rt; is_call(space.neutral_at(0), 0));
+    assert!(rt; is_call(space.neutral_at(0), Mode::Active, 0));
     assert!(rt; is_byte(space.neutral_at(1), 97));
     assert!(rt; is_byte(space.neutral_at(2), 98));
     assert!(rt; space.last_call() == Some(0));

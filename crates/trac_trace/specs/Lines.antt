@@ -10,6 +10,7 @@ use Rattle.trac_space.specs.declared.cell.Cell.{Cell}
 use Rattle.trac_space.specs.declared.cell.Cell.TheVariants.{Byte, Call, Comma, Gap, Head}
 use Rattle.trac_core.specs.declared.machine.view.ScanningRule.{ScanningRule}
 use Rattle.trac_core.specs.declared.machine.view.ScanningRule.TheVariants as row
+use Rattle.trac_lines.specs.Lines.{status_of}
 
 -- a digit to the base 16
 abbrev pub digit_16 : ℕ → ℕ
@@ -102,11 +103,7 @@ end_text fate steps peak =
     fate_text fate ++ codes ": " ++ decimal steps
     ++ codes " steps, peak " ++ decimal peak ++ codes " cells\n"
 
--- the exit status after a run with this fate
-abbrev pub status_of : Fate → ℕ
-status_of Halted = 0
-status_of InputEnded = 0
-status_of Workspace = 1
-status_of Steps = 3
-status_of InputFailed = 4
-status_of OutputFailed = 6
+-- the exit status after a run with this fate, as that of `trac`; what was printed is kept in memory
+abbrev pub traced_status : Fate → ℕ
+traced_status OutputFailed = 6
+traced_status fate = status_of fate

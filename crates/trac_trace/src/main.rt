@@ -6,7 +6,7 @@
 #![tactic(auto)]
 
 ghost use Rattle.std.specs.Prelude.{◌≡◌};
-ghost use Rattle.trac_trace.specs.Lines.{status_of};
+ghost use Rattle.trac_trace.specs.Lines.{traced_status};
 
 mod calls;
 mod deleted;
@@ -29,8 +29,8 @@ mod words;
 use std::env;
 use std::io::{Read, Write};
 use std::process::ExitCode;
-use trac_core::{Fate, Input, RetryingReader, RetryingWriter, SliceSource};
-use trac_words::{refused, refused_words};
+use trac_core::{Fate, Input, Output, RetryingReader, RetryingWriter, SliceSource};
+use trac_lines::{fate_status, refused, refused_words};
 use trace::{TraceError, trace, trace_last};
 use views::Options;
 use watched::watched;
@@ -53,7 +53,12 @@ fn main(rt: HostRuntime) -> ExitCode {
     };
     match options {
         Ok(options) => ExitCode::from(run(&rt, &options)),
-        Err(error) => ExitCode::from(refused(&rt, &error, NO_MEMORY_LINE)),
+        Err(error) => ExitCode::from(refused(
+            &rt,
+            &mut Output::new(rt.stdout()),
+            &error,
+            NO_MEMORY_LINE,
+        )),
     }
 }
 
@@ -109,13 +114,10 @@ fn read_all<R: Read>(reader: &mut R, input: &mut Vec<u8>) -> Option<u64> {
 // The status after a run, as that of `trac`; a run that
 // could not keep what it printed had no memory for it.
 fn status(fate: Fate) -> u8
-    ensures { result ≡ status_of fate }
+    ensures { result ≡ traced_status fate }
 {
-    match fate {
-        Fate::Halted | Fate::InputEnded => 0,
-        Fate::Workspace => 1,
-        Fate::Steps => 3,
-        Fate::InputFailed => 4,
-        Fate::OutputFailed => NO_MEMORY,
+    if fate == Fate::OutputFailed {
+        return NO_MEMORY;
     }
+    fate_status(fate)
 }

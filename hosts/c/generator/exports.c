@@ -1,5 +1,5 @@
 
-/* ---- The exports of trac.h, each with a stack for the engine, which is gone when it returns. */
+/* ---- The exports, each with a stack for the engine, which is gone when it returns. */
 
 /* The bytes of that stack, beside what the functions above take of C's. The engine traps before it needs more. */
 #ifndef TRAC_STACK
@@ -44,7 +44,7 @@ static size_t in_order(u32 *codes, size_t room, u64 count) {
     return (size_t)count;
 }
 
-trac_report trac_engine_run(void *block, size_t cells, uint64_t steps, const uint8_t *script, size_t script_len,
+static trac_report trac_engine_run(void *block, size_t cells, uint64_t steps, const uint8_t *script, size_t script_len,
                             uint8_t *output, size_t output_len) {
     struct lent lent;
     struct engine_report report;
@@ -53,17 +53,17 @@ trac_report trac_engine_run(void *block, size_t cells, uint64_t steps, const uin
     return told(&report);
 }
 
-size_t trac_engine_machine_size(void) {
+static size_t trac_engine_machine_size(void) {
     struct lent lent;
     return (size_t)engine_machine_size(lend(&lent));
 }
 
-uint32_t trac_engine_open(void *machine, void *block, size_t cells, uint64_t steps) {
+static uint32_t trac_engine_open(void *machine, void *block, size_t cells, uint64_t steps) {
     struct lent lent;
     return engine_open(lend(&lent), address_of(machine), address_of(block), cells, steps);
 }
 
-trac_report trac_engine_turn(void *machine, const uint8_t *input, size_t input_len, uint8_t *output,
+static trac_report trac_engine_turn(void *machine, const uint8_t *input, size_t input_len, uint8_t *output,
                              size_t output_len, uint32_t ended, uint64_t most) {
     struct lent lent;
     struct engine_report report;
@@ -72,62 +72,62 @@ trac_report trac_engine_turn(void *machine, const uint8_t *input, size_t input_l
     return told(&report);
 }
 
-void trac_engine_again(void *machine, uint64_t steps) {
+static void trac_engine_again(void *machine, uint64_t steps) {
     struct lent lent;
     engine_again(lend(&lent), address_of(machine), steps);
 }
 
-size_t trac_engine_form_count(void *machine) {
+static size_t trac_engine_form_count(void *machine) {
     struct lent lent;
     return (size_t)engine_form_count(lend(&lent), address_of(machine));
 }
 
-size_t trac_engine_form_name(void *machine, size_t k, uint8_t *to, size_t room) {
+static size_t trac_engine_form_name(void *machine, size_t k, uint8_t *to, size_t room) {
     struct lent lent;
     return (size_t)engine_form_name(lend(&lent), address_of(machine), k, address_of(to), room);
 }
 
-size_t trac_engine_form_text(void *machine, size_t k, uint8_t *to, size_t room) {
+static size_t trac_engine_form_text(void *machine, size_t k, uint8_t *to, size_t room) {
     struct lent lent;
     return (size_t)engine_form_text(lend(&lent), address_of(machine), k, address_of(to), room);
 }
 
-size_t trac_engine_form_codes(void *machine, size_t k, uint32_t *to, size_t room) {
+static size_t trac_engine_form_codes(void *machine, size_t k, uint32_t *to, size_t room) {
     struct lent lent;
     return in_order(to, room, engine_form_codes(lend(&lent), address_of(machine), k, address_of(to), room));
 }
 
-size_t trac_engine_form_pointer(void *machine, size_t k) {
+static size_t trac_engine_form_pointer(void *machine, size_t k) {
     struct lent lent;
     return (size_t)engine_form_pointer(lend(&lent), address_of(machine), k);
 }
 
-size_t trac_engine_neutral(void *machine, uint32_t *to, size_t room) {
+static size_t trac_engine_neutral(void *machine, uint32_t *to, size_t room) {
     struct lent lent;
     return in_order(to, room, engine_neutral(lend(&lent), address_of(machine), address_of(to), room));
 }
 
-size_t trac_engine_active(void *machine, uint32_t *to, size_t room) {
+static size_t trac_engine_active(void *machine, uint32_t *to, size_t room) {
     struct lent lent;
     return in_order(to, room, engine_active(lend(&lent), address_of(machine), address_of(to), room));
 }
 
-uint32_t trac_engine_rule(void *machine) {
+static uint32_t trac_engine_rule(void *machine) {
     struct lent lent;
     return engine_rule(lend(&lent), address_of(machine));
 }
 
-size_t trac_engine_part(void *machine, uint32_t which) {
+static size_t trac_engine_part(void *machine, uint32_t which) {
     struct lent lent;
     return (size_t)engine_part(lend(&lent), address_of(machine), which);
 }
 
-uint32_t trac_engine_meta(void *machine) {
+static uint32_t trac_engine_meta(void *machine) {
     struct lent lent;
     return engine_meta(lend(&lent), address_of(machine));
 }
 
-uint32_t trac_engine_awaits(void *machine) {
+static uint32_t trac_engine_awaits(void *machine) {
     struct lent lent;
     return engine_awaits(lend(&lent), address_of(machine));
 }

@@ -1,6 +1,6 @@
 //! Sessions: a machine that is looked at, fed in pieces and used again.
 ghost use Rattle.std.specs.Prelude.{◌≡◌, ◌≢◌, ◌+◌, ◌-◌, ◌^◌, ◌<◌, ◌≤◌, ℕ, [], None};
-ghost use Rattle.std.specs.Prelude.{Some, IsSome};
+ghost use Rattle.std.specs.Prelude.{Some, IsSome, slice_get};
 ghost use Rattle.trac_devices.specs.Devices.{Sent};
 ghost use Rattle.trac_functions.specs.Flat.{memory_of};
 ghost use Rattle.trac_core.specs.Performed.{performs};
@@ -11,7 +11,7 @@ ghost use Rattle.trac_core.specs.Session.{awaited, next_function};
 use super::closing::{closed_call, named_at};
 use super::{Counters, Machine, run_to_end};
 use trac_devices::{Sink, Source};
-use trac_forms::{Forms, Work};
+use trac_forms::{Forms, StoredForm, Work};
 use trac_language::{Fate, Function, Report};
 
 /// What the next step of a machine reads.
@@ -125,6 +125,22 @@ impl<'a> Machine<'a> {
         ensures { result ≡ self.now.memory.forms }
     {
         self.work.listed()
+    }
+
+    /// The form at place `k`, from 0, in the order in which the forms were defined, to be looked at.
+    /// `None` past the last.
+    pub fn form(&self, k: u32) -> Option<StoredForm<'_>>
+        ensures { result ≡ slice_get self.now.memory.forms k }
+    {
+        self.work.listed_at(k)
+    }
+
+    /// Keeps in mind where the form at place `k` begins, so that `form` needs no walk over those before
+    /// it: forms that are looked at in turn then cost one walk in all. Nothing that can be seen changes.
+    pub fn turn_to_form(&mut self, k: u32)
+        ensures { self.new ≡ self.old }
+    {
+        let _ = self.work.form(k);
     }
 
     /// What the next step reads. Where it is `Text` a host may wait for the meta character, and

@@ -312,6 +312,24 @@ fn sinks_that_fail(rt: HostRuntime) {
 }
 
 #[test]
+fn sinks_that_are_never_asked_to_fail(rt: HostRuntime) {
+    let faults = [
+        Faults {
+            taken: 5,
+            ..NO_FAULTS
+        },
+        Faults {
+            flush: Some(2),
+            ..NO_FAULTS
+        },
+    ];
+    for faults in faults {
+        let got = faulty(HELLO.as_bytes(), faults, AMPLE);
+        came_to(&rt, &got, "hello", Fate::InputEnded, 29, 19);
+    }
+}
+
+#[test]
 fn flushes_that_fail(rt: HostRuntime) {
     let rows = &[
         (HELLO, 5, None, "hello", Fate::InputEnded),

@@ -1,0 +1,64 @@
+"""The example for a Cortex-M3, in QEMU: a script and a session over the serial line in 16 KB of RAM, and once more in 8
+KB with 64 cells; and the table of sizes in the page on embedding."""
+import os
+import re
+import shutil
+import subprocess
+import tempfile
+import unittest
+
+from trac import TOP
+
+EXAMPLE = os.path.join(TOP, 'examples', 'cortex_m')
+QEMU = ['qemu-system-arm', '-M', 'mps2-an385', '-nographic', '-monitor', 'none', '-serial', 'stdio', '-semihosting',
+        '-kernel']
+SESSION = ("#(ds,F,(#(eq,N,1,1,(#(ml,N,#(cl,F,#(su,N,1)))))))#(ss,F,N)'#(ps,(5! = )#(cl,F,5)(\n))'"
+           "#(cl,F,-1)'#(pf,F)'#(hl)'")
+SHORT = "#(ds,F,a-b)#(ss,F,-)'##(cl,F,+)'#(hl)'"
+
+
+class CortexM(unittest.TestCase):
+    def setUp(self):
+        room = tempfile.TemporaryDirectory()
+        self.addCleanup(room.cleanup)
+        self.place = os.path.join(room.name, 'cortex_m')
+        shutil.copytree(EXAMPLE, self.place)
+
+    def run_there(self, ram, cells, typed):
+        """The sizes of the program, and what it says where this is typed."""
+        made = subprocess.run(['make', '-s', 'session.elf', f'RAM={ram}', f'CELLS={cells}',
+                               f'ENGINE={TOP}/hosts/c'], cwd=self.place, capture_output=True, text=True, check=True)
+        text, data, bss = map(int, made.stdout.splitlines()[1].split()[:3])
+        with subprocess.Popen([*QEMU, 'session.elf'], cwd=self.place, stdin=subprocess.PIPE, stdout=subprocess.PIPE,
+                              text=True) as running:
+            try:
+                said, _ = running.communicate(typed, timeout=60)
+            finally:
+                running.kill()
+        self.assertEqual(running.returncode, 0, said)
+        stack = int(re.search(r'stack (\d+) bytes', said)[1])
+        self.assertLessEqual(data + bss + stack, ram)
+        return (text + data, data + bss, stack), said
+
+    def test_in_16_kilobytes(self):
+        sizes, said = self.run_there(16384, 256, SESSION)
+        self.assertTrue(said.startswith('hello\n5! = 120\n'), said)
+        self.assertIn('[workspace]\n', said)
+        self.assertIn('#(eq,<1>,1,1,(#(ml,<1>,#(cl,F,#(su,<1>,1)))))', said)
+        self.is_told(16, 256, sizes)
+
+    def test_in_8_kilobytes(self):
+        sizes, said = self.run_there(8192, 64, SHORT)
+        self.assertTrue(said.startswith('hello\na+b\n'), said)
+        self.is_told(8, 64, sizes)
+
+    def is_told(self, ram, cells, sizes):
+        """The sizes are those of the table, as far as a compiler of another version goes."""
+        with open(os.path.join(TOP, 'docs', 'EMBEDDING.md'), encoding='utf-8') as page:
+            row = re.search(rf'^\| {ram} KB \| {cells} \| ([\d,]+) \| ([\d,]+) \| ([\d,]+) \|$', page.read(), re.MULTILINE)
+        for told, size in zip(row.groups(), sizes):
+            self.assertLess(abs(int(told.replace(',', '')) - size), 0.15 * size + 64, (row[0], sizes))
+
+
+if __name__ == '__main__':
+    unittest.main()

@@ -1,0 +1,79 @@
+"""The programs in C of the page on embedding, as they stand there: built over the engine in C by two compilers and as
+C++, each prints what is shown behind it. The same header serves Python's ctypes."""
+import ctypes
+import os
+import re
+import subprocess
+import tempfile
+import unittest
+
+from trac import TOP
+
+HEADERS = os.path.join(TOP, 'hosts', 'c')
+ENGINE = os.path.join(HEADERS, 'trac_engine.c')
+PROGRAM = re.compile(r'^```c\n(#include .*?)^```\n(?:\n```sh\n.*?^```\n)?\n```output\n(.*?)^```', re.MULTILINE | re.DOTALL)
+STRICT = ['-Wall', '-Wextra', '-Wpedantic', '-Wconversion', '-Werror', '-O1']
+KINDS = (['gcc', '-std=c11'], ['clang', '-std=c11'], ['g++', '-std=c++17', '-x', 'c++'])
+
+
+def programs():
+    with open(os.path.join(TOP, 'docs', 'EMBEDDING.md'), encoding='utf-8') as page:
+        return PROGRAM.findall(page.read())
+
+
+class Embedding(unittest.TestCase):
+    @classmethod
+    def setUpClass(cls):
+        room = tempfile.TemporaryDirectory()
+        cls.addClassCleanup(room.cleanup)
+        cls.room = room.name
+        cls.library = os.path.join(cls.room, 'libtrac.so')
+        subprocess.run(['gcc', '-std=c11', '-O1', '-fPIC', '-shared', '-o', cls.library, ENGINE], check=True)
+
+    def test_each_program_of_the_page(self):
+        found = programs()
+        self.assertGreaterEqual(len(found), 3)
+        for number, (text, wanted) in enumerate(found):
+            for kind in KINDS:
+                with self.subTest(program=number, compiler=kind[0]):
+                    source, program = (os.path.join(self.room, f'{number}.{end}') for end in ('c', 'out'))
+                    with open(source, 'w', encoding='utf-8') as file:
+                        file.write(text)
+                    subprocess.run([*kind, *STRICT, '-I', HEADERS, '-o', program, source, '-x', 'none', self.library,
+                                    f'-Wl,-rpath,{self.room}'], check=True)
+                    done = subprocess.run([program], capture_output=True, text=True, check=True)
+                    self.assertEqual(done.stdout, wanted)
+
+    def test_a_machine_for_a_block_is_refused(self):
+        text = '#include "trac.h"\nint main(void) {{ static trac_cell b[9]; static trac_machine m; {} return 0; }}\n'
+        for call, is_good in (('trac_open(&m, b, 9, 9);', True), ('trac_open(b, &m, 9, 9);', False),
+                              ('trac_open(&m, &m, 9, 9);', False), ('trac_rule(b);', False)):
+            for kind in KINDS:
+                source = os.path.join(self.room, 'swapped.c')
+                with open(source, 'w', encoding='utf-8') as file:
+                    file.write(text.format(call))
+                done = subprocess.run([*kind, '-Werror', '-fsyntax-only', '-I', HEADERS, source], capture_output=True)
+                self.assertEqual(done.returncode == 0, is_good, (call, kind, done.stderr))
+
+    def test_by_ctypes(self):
+        class Report(ctypes.Structure):
+            _fields_ = [('fate', ctypes.c_uint32), ('peak', ctypes.c_uint32), ('steps', ctypes.c_uint64),
+                        ('written', ctypes.c_size_t), ('consumed', ctypes.c_size_t), ('wanted', ctypes.c_size_t)]
+
+        library = ctypes.CDLL(self.library)
+        library.trac_run.restype = Report
+        library.trac_version.restype = library.trac_fate_name.restype = ctypes.c_char_p
+        block, output = (ctypes.c_uint64 * 19)(), ctypes.create_string_buffer(16)
+        report = library.trac_run(block, ctypes.c_size_t(19), ctypes.c_uint64(29), b"#(ps,hello)'", ctypes.c_size_t(12),
+                                  output, ctypes.c_size_t(16))
+        self.assertEqual((report.fate, report.steps, report.peak, output.raw[:report.written]), (2, 29, 19, b'hello'))
+        self.assertEqual(library.trac_abi(10000, ctypes.c_size_t(112), ctypes.c_size_t(ctypes.sizeof(Report))), 1)
+        with open(os.path.join(TOP, 'VERSION'), encoding='utf-8') as file:
+            self.assertEqual(library.trac_version().decode(), file.read().strip())
+        self.assertEqual(library.trac_fate_name(9), b'refused')
+        unopened = (ctypes.c_uint64 * 14)()
+        self.assertEqual(library.trac_rule(unopened), 9)
+
+
+if __name__ == '__main__':
+    unittest.main()

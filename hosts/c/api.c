@@ -1,0 +1,194 @@
+/* The functions of trac.h, around the exports of the engine. They test what can be tested of pointers and machines, and
+ * hand the exports pointers that are never null. Written by hand, and tested. TRAC_KIND is "proved" or "generated". */
+
+/* The words of a machine: the engine's, a mark of one that was opened, and how often it was changed. */
+enum { ENGINE_WORDS = 11, MARK = 11, CHANGES = 12 };
+static const uint64_t OPENED = UINT64_C(0x74726163743634A7);
+
+/* The words of a place in the list of forms: a copy of the engine's, which keeps in mind where the form begins; the
+ * machine's address; how often that was changed then; and the number of the form, from 1, 0 before the first. */
+enum { OF_MACHINE = 11, OF_CHANGES = 12, NUMBER = 13 };
+
+struct aligned_machine {
+    char before;
+    trac_machine machine;
+};
+
+static uint64_t number_of(const void *place) { return (uint64_t)(uintptr_t)place; }
+
+static int is_aligned(const void *place, size_t bytes) { return (uintptr_t)place % bytes == 0; }
+
+static int is_block(const trac_cell *block, size_t cells) {
+    return block ? is_aligned(block, sizeof(uint32_t)) : cells == 0;
+}
+
+static int are_bytes(const void *bytes, size_t length) { return bytes || !length; }
+
+static int are_codes(const uint32_t *codes, size_t room) {
+    return codes ? is_aligned(codes, sizeof(uint32_t)) : room == 0;
+}
+
+static int is_place(const void *machine) {
+    return machine && is_aligned(machine, offsetof(struct aligned_machine, machine));
+}
+
+static int is_opened(const trac_machine *machine) { return is_place(machine) && machine->words[MARK] == OPENED; }
+
+/* The machine, for an export that leaves it as it is. */
+static void *seen(const trac_machine *machine) { return (void *)(uintptr_t)machine; }
+
+/* A form's place that is still one: the machine's copy in it. Null where it is none. */
+static void *found(const trac_form *form) {
+    const trac_machine *machine;
+    if (!is_place(form) || !form->words[NUMBER])
+        return NULL;
+    machine = (const trac_machine *)(uintptr_t)form->words[OF_MACHINE];
+    return is_opened(machine) && machine->words[CHANGES] == form->words[OF_CHANGES] ? (void *)(uintptr_t)form : NULL;
+}
+
+static const trac_report refused = {TRAC_REFUSED, 0, 0, 0, 0, 0};
+
+/* What stands in the place of a null pointer of length 0, and is never written. */
+static const uint32_t NOTHING = 0;
+
+static const uint8_t *read_from(const void *bytes) { return (const uint8_t *)(bytes ? bytes : &NOTHING); }
+
+static uint8_t *written_to(void *bytes) { return bytes ? (uint8_t *)bytes : (uint8_t *)(uintptr_t)&NOTHING; }
+
+static uint32_t *laid_to(uint32_t *codes) { return codes ? codes : (uint32_t *)(uintptr_t)&NOTHING; }
+
+const char *trac_version(void) { return TRAC_VERSION; }
+
+int trac_abi(uint32_t version, size_t machine_size, size_t report_size) {
+    return version / 1000 == TRAC_VERSION_NUMBER / 1000 && machine_size == sizeof(trac_machine) &&
+           report_size == sizeof(trac_report);
+}
+
+const char *trac_kind(void) { return TRAC_KIND; }
+
+const char *trac_fate_name(uint32_t fate) {
+    static const char names[][16] = {"going",        "halted",        "input ended", "workspace",    "steps",
+                                        "input failed", "output failed", "wants input", "wants output", "refused"};
+    return fate < sizeof names / sizeof *names ? names[fate] : "?";
+}
+
+const char *trac_rule_name(uint32_t rule) {
+    static const char names[][16] = {"idling",       "layout",      "protection",  "argument", "active call",
+                                        "neutral call", "number sign", "end of call", "character"};
+    return rule < sizeof names / sizeof *names ? names[rule] : "?";
+}
+
+trac_report trac_run(trac_cell *block, size_t cells, uint64_t steps, const void *script, size_t script_length,
+                     void *output, size_t output_length) {
+    trac_cell no_cell;
+    if (!is_block(block, cells) || !are_bytes(script, script_length) || !are_bytes(output, output_length))
+        return refused;
+    return trac_engine_run(block ? block : &no_cell, cells, steps, read_from(script), script_length,
+                           written_to(output), output_length);
+}
+
+uint32_t trac_open(trac_machine *machine, trac_cell *block, size_t cells, uint64_t steps) {
+    if (!is_place(machine))
+        return TRAC_REFUSED;
+    machine->words[MARK] = 0;
+    if (!is_block(block, cells) || trac_engine_machine_size() > ENGINE_WORDS * sizeof(uint64_t) ||
+        trac_engine_open(machine, block ? (void *)block : (void *)machine, cells, steps))
+        return TRAC_REFUSED;
+    machine->words[MARK] = OPENED;
+    machine->words[CHANGES] = 0;
+    return 0;
+}
+
+trac_report trac_turn(trac_machine *machine, const void *input, size_t input_length, int ended, void *output,
+                      size_t output_length, uint64_t most) {
+    if (!is_opened(machine) || !are_bytes(input, input_length) || !are_bytes(output, output_length))
+        return refused;
+    machine->words[CHANGES]++;
+    return trac_engine_turn(machine, read_from(input), input_length, written_to(output), output_length, ended != 0,
+                            most);
+}
+
+uint32_t trac_again(trac_machine *machine, uint64_t steps) {
+    if (!is_opened(machine))
+        return TRAC_REFUSED;
+    machine->words[CHANGES]++;
+    trac_engine_again(machine, steps);
+    return 0;
+}
+
+size_t trac_form_count(const trac_machine *machine) {
+    return is_opened(machine) ? trac_engine_form_count(seen(machine)) : 0;
+}
+
+int trac_next_form(const trac_machine *machine, trac_form *form) {
+    if (!is_opened(machine) || !is_place(form))
+        return 0;
+    if (!form->words[NUMBER]) {
+        memcpy(form, machine, ENGINE_WORDS * sizeof(uint64_t));
+        form->words[OF_MACHINE] = number_of(machine);
+        form->words[OF_CHANGES] = machine->words[CHANGES];
+    } else if (form->words[OF_MACHINE] != number_of(machine) || form->words[OF_CHANGES] != machine->words[CHANGES]) {
+        return 0;
+    }
+    if (form->words[NUMBER] > trac_engine_form_count(form))
+        return 0;
+    form->words[NUMBER]++;
+    return form->words[NUMBER] <= trac_engine_form_count(form);
+}
+
+/* Which form it is, from 0. Behind the last one there is none. */
+static size_t place_of(const trac_form *form) { return (size_t)(form->words[NUMBER] - 1); }
+
+size_t trac_form_name(const trac_form *form, void *to, size_t room) {
+    void *const machine = found(form);
+    if (!machine || !are_bytes(to, room))
+        return 0;
+    return trac_engine_form_name(machine, place_of(form), written_to(to), room);
+}
+
+size_t trac_form_text(const trac_form *form, void *to, size_t room) {
+    void *const machine = found(form);
+    if (!machine || !are_bytes(to, room))
+        return 0;
+    return trac_engine_form_text(machine, place_of(form), written_to(to), room);
+}
+
+size_t trac_form_codes(const trac_form *form, uint32_t *to, size_t room) {
+    void *const machine = found(form);
+    if (!machine || !are_codes(to, room))
+        return 0;
+    return trac_engine_form_codes(machine, place_of(form), laid_to(to), room);
+}
+
+size_t trac_form_pointer(const trac_form *form) {
+    void *const machine = found(form);
+    return machine ? trac_engine_form_pointer(machine, place_of(form)) : 0;
+}
+
+size_t trac_neutral(const trac_machine *machine, uint32_t *to, size_t room) {
+    if (!is_opened(machine) || !are_codes(to, room))
+        return 0;
+    return trac_engine_neutral(seen(machine), laid_to(to), room);
+}
+
+size_t trac_active(const trac_machine *machine, uint32_t *to, size_t room) {
+    if (!is_opened(machine) || !are_codes(to, room))
+        return 0;
+    return trac_engine_active(seen(machine), laid_to(to), room);
+}
+
+uint32_t trac_rule(const trac_machine *machine) {
+    return is_opened(machine) ? trac_engine_rule(seen(machine)) : TRAC_REFUSED;
+}
+
+size_t trac_part(const trac_machine *machine, uint32_t which) {
+    return is_opened(machine) ? trac_engine_part(seen(machine), which) : 0;
+}
+
+uint32_t trac_meta(const trac_machine *machine) {
+    return is_opened(machine) ? trac_engine_meta(seen(machine)) : 256;
+}
+
+uint32_t trac_awaits(const trac_machine *machine) {
+    return is_opened(machine) ? trac_engine_awaits(seen(machine)) : TRAC_REFUSED;
+}

@@ -1,0 +1,27 @@
+/* The functions of trac.h around the exports of the proved library, which are hidden behind them in libtrac.a: each
+ * export meets its contract in crates/trac_c where its caller meets the conditions of trac.h. */
+#include "trac.h"
+
+#include <string.h>
+
+trac_report trac_engine_run(void *block, size_t cells, uint64_t steps, const uint8_t *script, size_t script_length,
+                            uint8_t *output, size_t output_length);
+size_t trac_engine_machine_size(void);
+uint32_t trac_engine_open(void *machine, void *block, size_t cells, uint64_t steps);
+trac_report trac_engine_turn(void *machine, const uint8_t *input, size_t input_length, uint8_t *output,
+                             size_t output_length, uint32_t ended, uint64_t most);
+void trac_engine_again(void *machine, uint64_t steps);
+size_t trac_engine_form_count(void *machine);
+size_t trac_engine_form_name(void *machine, size_t k, uint8_t *to, size_t room);
+size_t trac_engine_form_text(void *machine, size_t k, uint8_t *to, size_t room);
+size_t trac_engine_form_codes(void *machine, size_t k, uint32_t *to, size_t room);
+size_t trac_engine_form_pointer(void *machine, size_t k);
+size_t trac_engine_neutral(void *machine, uint32_t *to, size_t room);
+size_t trac_engine_active(void *machine, uint32_t *to, size_t room);
+uint32_t trac_engine_rule(void *machine);
+size_t trac_engine_part(void *machine, uint32_t which);
+uint32_t trac_engine_meta(void *machine);
+uint32_t trac_engine_awaits(void *machine);
+
+#define TRAC_KIND "proved"
+#include "api.c"
