@@ -8,25 +8,27 @@
 #include <stdio.h>
 #include <string.h>
 
-trac_report c_trac_engine_run(void *, size_t, uint64_t, const uint8_t *, size_t, uint8_t *, size_t);
-uint32_t c_trac_engine_open(void *, void *, size_t, uint64_t);
-trac_report c_trac_engine_turn(void *, const uint8_t *, size_t, uint8_t *, size_t, uint32_t, uint64_t);
-size_t c_trac_engine_form_count(void *);
-size_t c_trac_engine_form_name(void *, size_t, uint8_t *, size_t);
-size_t c_trac_engine_form_codes(void *, size_t, uint32_t *, size_t);
-size_t c_trac_engine_form_pointer(void *, size_t);
-size_t c_trac_engine_neutral(void *, uint32_t *, size_t);
-size_t c_trac_engine_active(void *, uint32_t *, size_t);
-uint32_t c_trac_engine_rule(void *);
-size_t c_trac_engine_part(void *, uint32_t);
-uint32_t c_trac_engine_meta(void *);
-uint32_t c_trac_engine_awaits(void *);
+trac_report c_trac_run(trac_cell *, size_t, uint64_t, const void *, size_t, void *, size_t);
+uint32_t c_trac_open(trac_machine *, trac_cell *, size_t, uint64_t);
+trac_report c_trac_turn(trac_machine *, const void *, size_t, int, void *, size_t, uint64_t);
+size_t c_trac_form_count(const trac_machine *);
+int c_trac_next_form(const trac_machine *, trac_form *);
+size_t c_trac_form_name(const trac_form *, void *, size_t);
+size_t c_trac_form_codes(const trac_form *, uint32_t *, size_t);
+size_t c_trac_form_pointer(const trac_form *);
+size_t c_trac_neutral(const trac_machine *, uint32_t *, size_t);
+size_t c_trac_active(const trac_machine *, uint32_t *, size_t);
+uint32_t c_trac_rule(const trac_machine *);
+size_t c_trac_part(const trac_machine *, uint32_t);
+uint32_t c_trac_meta(const trac_machine *);
+uint32_t c_trac_awaits(const trac_machine *);
 
 enum { MOST_CELLS = 1024, MOST_OUTPUT = 4096 };
 
 /* What one engine works on. */
 typedef struct {
-    uint64_t block[MOST_CELLS], machine[TRAC_MACHINE_SIZE / 8];
+    trac_cell block[MOST_CELLS];
+    trac_machine machine;
     uint8_t output[MOST_OUTPUT];
 } side;
 
@@ -41,21 +43,21 @@ static int is_same(const trac_report *a, const trac_report *b) {
 /* Runs a script at once by both. Gives whether they did the same, and what that was. */
 static int run_both(const uint8_t *script, size_t length, size_t cells, uint64_t steps, size_t room,
                     trac_report *told) {
-    *told = trac_engine_run(proved.block, cells, steps, script, length, proved.output, room);
-    const trac_report other = c_trac_engine_run(in_c.block, cells, steps, script, length, in_c.output, room);
+    *told = trac_run(proved.block, cells, steps, script, length, proved.output, room);
+    const trac_report other = c_trac_run(in_c.block, cells, steps, script, length, in_c.output, room);
     return is_same(told, &other);
 }
 
 static int open_both(size_t cells, uint64_t steps) {
-    return trac_engine_open(proved.machine, proved.block, cells, steps) == 0 &&
-           c_trac_engine_open(in_c.machine, in_c.block, cells, steps) == 0;
+    return trac_open(&proved.machine, proved.block, cells, steps) == 0 &&
+           c_trac_open(&in_c.machine, in_c.block, cells, steps) == 0;
 }
 
 /* Makes a turn of both machines. Gives whether they did the same, and what that was. */
-static int turn_both(const uint8_t *input, size_t length, size_t room, uint32_t ended, uint64_t most,
+static int turn_both(const uint8_t *input, size_t length, size_t room, int ended, uint64_t most,
                      trac_report *told) {
-    *told = trac_engine_turn(proved.machine, input, length, proved.output, room, ended, most);
-    const trac_report other = c_trac_engine_turn(in_c.machine, input, length, in_c.output, room, ended, most);
+    *told = trac_turn(&proved.machine, input, length, ended, proved.output, room, most);
+    const trac_report other = c_trac_turn(&in_c.machine, input, length, ended, in_c.output, room, most);
     return is_same(told, &other);
 }
 
