@@ -15,7 +15,7 @@ ENGINE = os.path.join(HEADERS, 'trac_engine.c')
 PROGRAM_IN_C = os.path.join(HEADERS, 'trac.c')
 EXAMPLE = os.path.join(TOP, 'examples', 'embedding_c', 'embedding.c')
 AS_CPP = ['-std=c++17', *STRICT[1:], '-x', 'c++']
-KINDS = (('gcc', STRICT), ('clang', STRICT), ('gcc', [*SANITIZED, '-O1']), ('g++', AS_CPP))
+KINDS = (('gcc', STRICT), ('clang', STRICT), ('gcc', SANITIZED), ('g++', AS_CPP))
 # What the engine may leave to the program that it is linked with: what compilers make of the moves of memory.
 LEFT_OPEN = {'memcpy', 'memmove', 'memset'}
 # Bytes of stack that trac_run needs beside what its caller has.

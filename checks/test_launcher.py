@@ -1,63 +1,40 @@
-"""The launcher, over a throw-away copy of the sources, and an `rt` and a way to build libraries that
-only write down that they were called."""
+"""The launcher, over a throw-away copy: what it builds and runs, what it says, and that it needs a C compiler alone."""
 import os
+import pty
 import re
 import shutil
-import signal
 import subprocess
 import tempfile
 import time
 import unittest
 
-from trac import LAUNCHER, TOP, crates_of
+from trac import LAUNCHER, TOP
 
-CRATES = crates_of('trac_cli')
-# Those that are proved beside the others.
-APART = ['trac_laws', 'trac_values', 'trac_devices', 'trac_words', 'trac_lines']
-BUILT = os.path.join('crates', 'trac_cli', 'out', 'trac_cli')
-SOURCE = os.path.join('crates', 'trac_core', 'src', 'machine.rt')
-LIBRARIES = os.path.join('packaging', 'libraries.py')
+HELLO = b"#(ps,hello)'"
+SOURCE = os.path.join('crates', 'trac_core', 'src', 'lib.rt')
+PROVED = os.path.join('crates', 'trac_cli', 'out', 'trac_cli')
+BUILT = os.path.join('build', 'trac')
+ENGINE = os.path.join('hosts', 'c', 'trac_engine.c')
+# A compiler that notes its words, and writes a program that tells who it is.
+COMPILER = """#!/bin/sh
+echo "$0 $*" >>'{calls}'
+while [ "$1" != -o ]; do shift; done
+printf '#!/bin/sh\\necho "C: $*"; exit 3\\n' >"$2"
+chmod +x "$2"
+"""
+CHANGED = 'trac: the sources changed, and this is the engine as it was; make prove proves it\n'
 # What a run by a user gets who may write nothing.
 NOBODY = 65534
 AS_NOBODY = {'user': NOBODY, 'group': NOBODY} if os.getuid() == 0 else {}
-FIRST = ('trac: building the program, and proving it: '
-         'some ten minutes on four idle cores ..\n')
-AGAIN = 'trac: building the program again, and proving what changed ..\n'
-RT = """#!/bin/sh
-echo "$1 ${{PWD##*/}}" >>'{calls}'
-[ "$1" = run ] || {{ mkdir -p out/rlib && : >out/rlib/stamp; exit 0; }} 2>/dev/null
-sleep {seconds}
-mkdir -p out
-printf '#!/bin/sh\\necho "ran $*"; exit 3\\n' >out/trac_cli.$$
-chmod +x out/trac_cli.$$
-mv out/trac_cli.$$ out/trac_cli
-"""
-# The same, but it takes only what stands on libraries, says in which folder, and makes libraries.
-ON_LIBRARIES = """#!/bin/sh
-for below in $(sed -n "s/^${{PWD##*/}}: //p" ../../crates.txt); do
-    [ ! -d "../$below" ] || [ -d "../$below/out/rlib" ] || exit 1
-done
-echo "$1 $PWD" >>'{calls}'
-sleep 0.1
-mkdir -p out/rlib
-echo >out/rlib/stamp
-[ "$1" != run ] || printf '#!/bin/sh\necho "ran $*"; exit 3\n' >out/trac_cli
-[ "$1" != run ] || chmod +x out/trac_cli
-"""
-# In place of what proves a library without what rt keeps for a later check of it.
-WITHOUT_KEPT = """import os, sys
-if not os.path.exists(os.path.join('out', 'rlib', 'stamp')):
-    os.execvp('rt', ['rt', sys.argv[1], '--jobs', sys.argv[2]])
-"""
+# What stands on the path of a machine with a C compiler alone, beside the compiler.
+PLAIN = ['sh', 'cat', 'cp', 'cut', 'dirname', 'ls', 'mkdir', 'mv', 'printf', 'readlink', 'rm', 'sha256sum', 'sort',
+         'touch', 'as', 'ld', 'gcc', 'cc']
 
 
-def is_running(pid):
-    """Whether a process is there, and not one that has ended and waits to be asked how."""
-    try:
-        with open(f'/proc/{pid}/cmdline', 'rb') as file:
-            return file.read() != b''
-    except FileNotFoundError:
-        return False
+def tracked():
+    """The files of the repository, as they stand."""
+    done = subprocess.run(['git', 'ls-files', '-z'], cwd=TOP, capture_output=True, text=True, check=True)
+    return [name for name in done.stdout.split('\0') if name and os.path.lexists(os.path.join(TOP, name))]
 
 
 class Launcher(unittest.TestCase):
@@ -66,278 +43,208 @@ class Launcher(unittest.TestCase):
         self.folder = tempfile.mkdtemp(prefix='a b ')
         self.addCleanup(shutil.rmtree, self.folder)
         os.chmod(self.folder, 0o755)
-        self.top, self.tools, self.calls = (
-            os.path.join(self.folder, name) for name in ('top', 'tools', 'calls'))
+        self.top, self.tools, self.calls = (os.path.join(self.folder, name) for name in ('top', 'tools', 'calls'))
         os.mkdir(self.tools)
-        for crate in CRATES:
-            for part in ('src', 'specs', 'proofs'):
-                place = os.path.join('crates', crate, part)
-                if os.path.exists(os.path.join(TOP, place)):
-                    shutil.copytree(os.path.join(TOP, place), os.path.join(self.top, place))
-        shutil.copy(os.path.join(TOP, 'crates.txt'), self.top)
-        shutil.copy(LAUNCHER, self.top)
-        self.write(LIBRARIES, WITHOUT_KEPT)
-        self.answer(RT.format(calls=self.calls, seconds=0))
+        for name in tracked():
+            if name.startswith(('hosts/c/', 'crates')) or name in ('trac', 'trac_trace', 'trac_terminal'):
+                os.makedirs(os.path.dirname(os.path.join(self.top, name)), exist_ok=True)
+                shutil.copy2(os.path.join(TOP, name), os.path.join(self.top, name), follow_symlinks=False)
+        self.tool('cc', COMPILER.format(calls=self.calls))
+        self.note_sources()
 
-    def answer(self, text, tool='rt'):
-        """Puts a text in place of rt, or of another tool."""
-        tool = os.path.join(self.tools, tool)
-        with open(tool, 'w', encoding='utf-8') as file:
+    def note_sources(self):
+        """Puts the checksum of the sources into the head of the engine, whatever it was made from."""
+        checksum = subprocess.run([os.path.join(self.top, 'hosts', 'c', 'generate'), '--sources'], check=True,
+                                  capture_output=True, text=True).stdout
+        path = os.path.join(self.top, ENGINE)
+        with open(path, encoding='utf-8') as file:
+            text = re.sub(r'(?<= \* Sources: ).*\n', checksum, file.read(), count=1)
+        with open(path, 'w', encoding='utf-8') as file:
             file.write(text)
-        os.chmod(tool, 0o755)
 
-    def start(self, **more):
-        environment = dict(os.environ, PATH=self.tools + ':' + os.environ['PATH'])
-        return subprocess.Popen([os.path.join(self.top, 'trac'), '--cells', '18'], text=True,
-                                stdin=subprocess.DEVNULL, stdout=subprocess.PIPE,
-                                stderr=subprocess.PIPE, env=environment, **more)
-
-    def run_once(self, said='', **more):
-        started = self.start(**more)
-        output, lines = started.communicate(timeout=60)
-        self.assertEqual((output, lines, started.returncode), ('ran --cells 18\n', said, 3))
-
-    def called(self):
-        """What rt was called for, and in which crates."""
-        if not os.path.exists(self.calls):
-            return []
-        with open(self.calls, encoding='utf-8') as file:
-            return file.read().splitlines()
-
-    def left_beside(self):
-        """The copies of the tree that are left."""
-        return [name for name in os.listdir(os.path.join(self.top, os.path.dirname(BUILT)))
-                if name.startswith('beside')]
-
-    def builds(self):
-        return self.called().count('run trac_cli')
-
-    def write(self, name, text=''):
-        place = os.path.join(self.top, name)
-        os.makedirs(os.path.dirname(place), exist_ok=True)
-        with open(place, 'a', encoding='utf-8') as file:
+    def tool(self, name, text):
+        path = os.path.join(self.tools, name)
+        with open(path, 'w', encoding='utf-8') as file:
             file.write(text)
-        return place
+        os.chmod(path, 0o755)
+
+    def put(self, name, text=''):
+        """A program that tells who it is, newer than all sources."""
+        path = os.path.join(self.top, name)
+        os.makedirs(os.path.dirname(path), exist_ok=True)
+        with open(path, 'w', encoding='utf-8') as file:
+            file.write(f'#!/bin/sh\n{text}\n')
+        os.chmod(path, 0o755)
+        self.date(name, 1)
 
     def date(self, name, seconds):
         when = time.time() + seconds
         os.utime(os.path.join(self.top, name), (when, when))
 
-    def test_it_knows_each_crate(self):
-        with open(LAUNCHER, encoding='utf-8') as launcher:
-            text = launcher.read()
-        libraries, apart = (re.search(f"^{name}='([^']*)'", text, re.MULTILINE).group(1).split()
-                            for name in ('libraries', 'apart'))
-        self.assertEqual(sorted(libraries), sorted(CRATES[:-1]))
-        self.assertEqual(sorted(apart), sorted(APART))
-        for at, crate in enumerate(libraries):
-            self.assertLessEqual(set(crates_of(crate)[:-1]), set(libraries[:at]))
-        for at, crate in enumerate(libraries[:-1]):
-            if crate in apart:
-                self.assertNotIn(crate, crates_of(libraries[at + 1]))
-            else:
-                after = [other for other in libraries[at + 1:] if other not in apart]
-                self.assertIn(crate, crates_of(after[0]))
+    def edit(self, name):
+        with open(os.path.join(self.top, name), 'a', encoding='utf-8') as file:
+            file.write('\n')
+        self.date(name, 5)
 
-    def test_it_builds_once(self):
-        self.run_once(FIRST)
-        self.run_once()
-        self.run_once()
-        self.assertEqual(self.builds(), 1)
+    def start(self, name='trac', path=None, **more):
+        environment = {name: value for name, value in os.environ.items() if name != 'CC'}
+        environment.update({'PATH': path or self.tools + ':' + os.environ['PATH'], **more.pop('env', {})})
+        return subprocess.Popen([os.path.join(self.top, name), '--cells', '18'], text=True,
+                                stdin=subprocess.DEVNULL, stdout=subprocess.PIPE, stderr=subprocess.PIPE,
+                                env=environment, **more)
 
-    def test_a_first_build_goes_from_below(self):
-        self.answer(ON_LIBRARIES.format(calls=self.calls))
-        self.run_once(FIRST)
-        called = self.called()
-        here = [f'build {self.top}/crates/{crate}' for crate in CRATES[:-1] if crate not in APART]
-        self.assertEqual([call for call in called if '/beside.' not in call],
-                         here + [f'run {self.top}/crates/trac_cli'])
-        beside = [os.path.basename(call) for call in called if '/beside.' in call]
-        self.assertEqual(sorted(beside), sorted(APART))
-        self.assertEqual(len(called), len(CRATES))
-        self.assertEqual(self.left_beside(), [])
-        os.remove(os.path.join(self.top, BUILT))
-        self.run_once(AGAIN)
-        self.assertEqual(self.called()[len(CRATES):], [f'run {self.top}/crates/trac_cli'])
+    def ran(self, *names, **more):
+        started = self.start(*names, **more)
+        output, lines = started.communicate(timeout=60)
+        return output, lines, started.returncode
 
-    def test_a_first_build_that_was_broken_off(self):
-        self.answer(ON_LIBRARIES.format(calls=self.calls))
-        self.run_once(FIRST)
-        os.remove(os.path.join(self.top, BUILT))
-        os.remove(self.calls)
-        # the last of those below, and one that another run was about to prove
-        shutil.rmtree(os.path.join(self.top, 'crates', 'trac_core', 'out'))
-        os.remove(os.path.join(self.top, 'crates', 'trac_words', 'out', 'rlib', 'stamp'))
-        self.run_once(AGAIN)
-        self.assertEqual(self.called(), [f'build {self.top}/crates/trac_words',
-                                         f'build {self.top}/crates/trac_core',
-                                         f'run {self.top}/crates/trac_cli'])
-        self.assertEqual(self.left_beside(), [])
+    def compiled(self):
+        """How often the compiler was called."""
+        if not os.path.exists(self.calls):
+            return 0
+        with open(self.calls, encoding='utf-8') as file:
+            return len(file.readlines())
 
-    def test_libraries_that_rt_has_to_build_itself(self):
-        os.remove(os.path.join(self.top, LIBRARIES))
-        self.answer(ON_LIBRARIES.format(calls=self.calls))
-        self.run_once(FIRST)
-        self.assertEqual(sorted(self.called()), sorted(
-            [f'lib {self.top}/crates/{crate}' for crate in CRATES[:-1]]
-            + [f'run {self.top}/crates/trac_cli']))
+    def test_it_builds_the_program_in_c_once(self):
+        for _ in range(3):
+            self.assertEqual(self.ran(), ('C: --cells 18\n', '', 3))
+        self.assertEqual(self.compiled(), 1)
+        self.assertEqual(sorted(os.listdir(os.path.join(self.top, 'build'))), ['same', 'trac'])
 
-    def test_a_first_build_with_none_beside_another(self):
-        for tool, text in (('cp', '#!/bin/sh\nexit 1\n'), ('nproc', '#!/bin/sh\necho 1\n')):
-            with self.subTest(tool):
-                self.answer(ON_LIBRARIES.format(calls=self.calls))
-                self.answer(text, tool)
-                self.run_once(FIRST)
-                self.assertEqual(sorted(self.called()), sorted(
-                    [f'build {self.top}/crates/{crate}' for crate in CRATES[:-1]]
-                    + [f'run {self.top}/crates/trac_cli']))
-                os.remove(os.path.join(self.tools, tool))
-                os.remove(self.calls)
-                for crate in CRATES:
-                    shutil.rmtree(os.path.join(self.top, 'crates', crate, 'out'))
+    def test_what_the_program_in_c_is_made_of(self):
+        self.ran()
+        for at, name in enumerate(('trac.c', 'trac.h', 'trac_engine.c'), 2):
+            self.date(os.path.join('hosts', 'c', name), 5 * at)
+            self.assertEqual(self.ran(), ('C: --cells 18\n', '', 3))
+            self.assertEqual(self.compiled(), at)
+            self.date(BUILT, 5 * at + 1)
 
-    def test_a_crate_that_could_not_be_proved_beside_another(self):
-        self.answer('#!/bin/sh\ncase $PWD in */beside.*) exit 1 ;; esac\n'
-                    + ON_LIBRARIES.format(calls=self.calls))
-        self.run_once(FIRST)
-        self.assertEqual(len(self.called()), len(CRATES))
-        self.assertEqual(self.left_beside(), [])
+    def test_a_compiler_that_is_named(self):
+        with tempfile.TemporaryDirectory() as other:
+            self.tool(os.path.join(other, 'other'), COMPILER.format(calls=self.calls))
+            self.assertEqual(self.ran(env={'CC': f'{other}/other -pipe'}), ('C: --cells 18\n', '', 3))
+            with open(self.calls, encoding='utf-8') as file:
+                self.assertIn(f'{other}/other -pipe -std=c11', file.read())
 
-    def test_libraries_of_no_use(self):
-        # rt refuses a library whose statements stand on another build of one below it
-        self.run_once(FIRST)
-        os.remove(os.path.join(self.top, BUILT))
-        os.remove(self.calls)
-        self.answer(f"#!/bin/sh\nif ! [ -e '{self.calls}' ] && [ $1 = run ]; then\n"
-                    'echo "rattle: error[unusable-built-library]: the rlib of"\nexit 1\nfi\n'
-                    + RT.format(calls=self.calls, seconds=0))
-        self.run_once(AGAIN)
-        self.assertEqual(sorted(self.called()), sorted(
-            ['run trac_cli', *(f'build {crate}' for crate in CRATES[:-1])]))
+    def test_no_compiler(self):
+        path = os.path.join(self.folder, 'none')
+        os.mkdir(path)
+        for name in ('sh', 'dirname', 'readlink'):
+            os.symlink(shutil.which(name), os.path.join(path, name))
+        self.assertEqual(self.ran(path=path), (
+            '', 'trac: there is no C compiler; install gcc, or name one by CC\n', 70))
 
-    def test_an_interrupt_ends_a_first_build(self):
-        # the functions, and the words that are proved beside them
-        self.answer('#!/bin/sh\ncase $PWD in */trac_functions | */trac_words)\n'
-                    f'echo $$ >>\'{self.calls}\'\nexec sleep 50 ;;\nesac\n')
-        # the shell that runs the checks may ignore interrupts
-        started = self.start(start_new_session=True, preexec_fn=lambda: signal.signal(
-            signal.SIGINT, signal.SIG_DFL))
-        while len(self.called()) < 2:
-            time.sleep(0.1)
-        os.killpg(started.pid, signal.SIGINT)
-        started.communicate(timeout=20)
-        self.assertNotEqual(started.returncode, 0)
-        time.sleep(1)
-        left = [pid for pid in self.called() if is_running(pid)]
-        for pid in left:
-            os.kill(int(pid), signal.SIGKILL)
-        self.assertEqual(left, [])
-        self.assertFalse(os.path.exists(os.path.join(self.top, os.path.dirname(BUILT))))
+    def test_a_compiler_that_fails(self):
+        self.tool('cc', '#!/bin/sh\necho why\nexit 1\n')
+        self.assertEqual(self.ran(), ('', 'trac: the program in C could not be built: why\n', 70))
+        self.assertFalse(os.path.exists(os.path.join(self.top, BUILT)))
 
-    def test_an_edit_is_built(self):
-        self.run_once(FIRST)
-        for name in (SOURCE, 'crates.txt',
-                     os.path.join('crates', 'trac_space', 'specs', 'Lists.antt')):
-            before = self.builds()
-            self.write(name, '\n')
-            self.date(name, 1)
-            self.run_once(AGAIN)
-            self.assertEqual(self.builds(), before + 1)
-            self.run_once()
-            self.assertEqual(self.builds(), before + 1)
+    def test_a_line_at_a_terminal(self):
+        reading, writing = pty.openpty()
+        started = subprocess.Popen([os.path.join(self.top, 'trac')], stdin=subprocess.DEVNULL, stdout=subprocess.DEVNULL,
+                                   stderr=writing, env={**os.environ, 'PATH': self.tools + ':' + os.environ['PATH']})
+        self.assertEqual(started.wait(timeout=60), 3)
+        os.close(writing)
+        self.assertEqual(os.read(reading, 1000).decode(),
+                         'trac: building the program in C, once, in some ten seconds ..\r\n')
+        os.close(reading)
 
-    def test_a_program_that_is_gone(self):
-        self.run_once(FIRST)
-        os.remove(os.path.join(self.top, BUILT))
-        self.run_once(AGAIN)
-        self.assertEqual(self.builds(), 2)
+    def test_a_proved_program_that_is_newest(self):
+        self.put(PROVED, 'echo "proved: $*"; exit 4')
+        self.assertEqual(self.ran(), ('proved: --cells 18\n', '', 4))
+        self.assertEqual(self.compiled(), 0)
+        for name in (SOURCE, 'crates.txt', os.path.join('crates', 'trac_space', 'specs', 'Lists.antt')):
+            before = os.stat(os.path.join(self.top, name)).st_mtime
+            self.date(name, 5)
+            self.assertEqual(self.ran()[0], 'C: --cells 18\n', name)
+            os.utime(os.path.join(self.top, name), (before, before))
+        self.assertEqual(self.ran()[0], 'proved: --cells 18\n')
+
+    def test_sources_that_changed(self):
+        self.assertEqual(self.ran(), ('C: --cells 18\n', '', 3))
+        self.date(SOURCE, 5)
+        self.assertEqual(self.ran(), ('C: --cells 18\n', '', 3))
+        self.edit(SOURCE)
+        for _ in range(2):
+            self.assertEqual(self.ran(), ('C: --cells 18\n', CHANGED, 3))
+        self.assertEqual(self.compiled(), 1)
 
     def test_what_an_editor_leaves_is_no_source(self):
-        self.run_once(FIRST)
-        folder = os.path.dirname(SOURCE)
-        for name in ('machine.rt~', '.machine.rt.swp', '#machine.rt#', '.machine.rt', '#x#',
-                     'notes.orig'):
-            self.write(os.path.join(folder, name), 'x')
-            self.date(os.path.join(folder, name), 60)
-        self.run_once()
-        self.assertEqual(self.builds(), 1)
+        self.ran()
+        for name in ('lib.rt~', '.lib.rt.swp', '#lib.rt#', 'notes.orig'):
+            self.put(os.path.join(os.path.dirname(SOURCE), name))
+        self.assertEqual(self.ran(), ('C: --cells 18\n', '', 3))
 
-    def test_a_source_of_the_future(self):
-        self.date(SOURCE, 1000000)
-        self.run_once(FIRST)
-        self.run_once()
-        self.assertEqual(self.builds(), 1)
-        self.write(SOURCE, '\n')
-        self.date(SOURCE, 1000000)
-        self.run_once(AGAIN)
-        self.run_once()
-        self.assertEqual(self.builds(), 2)
-
-    def test_a_program_made_elsewise_of_a_source_of_the_future(self):
-        self.date(SOURCE, 1000000)
-        self.run_once(FIRST)
-        self.write(BUILT, '# made by hand\n')
-        self.run_once(AGAIN)
-        self.assertEqual(self.builds(), 2)
-
-    def test_a_program_of_the_future(self):
-        self.run_once(FIRST)
-        self.date(BUILT, 86400)
-        self.run_once()
-        self.assertEqual(self.builds(), 1)
-        self.write(SOURCE, '\n')
-        self.run_once(AGAIN)
-        self.run_once()
-        self.assertEqual(self.builds(), 2)
-
-    def test_an_edit_while_it_is_built(self):
-        edit = f"echo >>'{os.path.join(self.top, SOURCE)}'\n"
-        self.answer(RT.format(calls=self.calls, seconds=0.1) + edit)
-        self.run_once(FIRST)
-        self.answer(RT.format(calls=self.calls, seconds=0))
-        self.run_once(AGAIN)
-        self.assertEqual(self.builds(), 2)
+    def test_a_link_to_it(self):
+        os.symlink(os.path.join(self.top, 'trac'), os.path.join(self.folder, 'far'))
+        os.symlink('far', os.path.join(self.folder, 'near'))
+        done = subprocess.run(['near'], executable=os.path.join(self.folder, 'near'), capture_output=True, text=True,
+                              env={**os.environ, 'PATH': self.tools + ':' + os.environ['PATH']}, check=False)
+        self.assertEqual((done.stdout, done.returncode), ('C: \n', 3))
 
     def test_two_at_once(self):
-        self.answer(RT.format(calls=self.calls, seconds=1))
-        started = [self.start(), self.start()]
-        for process in started:
-            self.assertEqual(process.communicate(timeout=60)[0], 'ran --cells 18\n')
-            self.assertEqual(process.returncode, 3)
-        self.run_once()
+        self.tool('cc', COMPILER.format(calls=self.calls).replace('while', 'sleep 0.3\nwhile', 1))
+        for process in [self.start(), self.start()]:
+            self.assertEqual(process.communicate(timeout=60), ('C: --cells 18\n', ''))
+        self.assertEqual(sorted(os.listdir(os.path.join(self.top, 'build'))), ['same', 'trac'])
 
     def test_a_user_who_may_not_write(self):
-        self.date(SOURCE, 1000000)
-        self.run_once(FIRST)
-        for folder, _, files in os.walk(self.top):
+        self.ran()
+        os.remove(os.path.join(self.top, 'build', 'same'))
+        for folder, _, _ in os.walk(self.top):
             os.chmod(folder, 0o555)
-            for name in files:
-                file = os.path.join(folder, name)
-                os.chmod(file, os.stat(file).st_mode & 0o555)
         self.addCleanup(subprocess.run, ['chmod', '-R', 'u+w', self.top], check=True)
-        self.run_once(**AS_NOBODY)
-        self.assertEqual(self.builds(), 1)
+        self.assertEqual(self.ran(**AS_NOBODY), ('C: --cells 18\n', '', 3))
 
-    def test_a_note_that_can_not_be_written(self):
-        for folder in (self.folder, os.path.join(self.top, 'crates', 'trac_cli')):
-            os.chmod(folder, 0o777)
-        self.addCleanup(subprocess.run, ['chmod', '-R', 'u+w', self.top], check=True)
-        self.answer(RT.format(calls=self.calls, seconds=0) + 'chmod 555 out\n')
-        self.run_once(FIRST, **AS_NOBODY)
-        self.assertEqual(os.listdir(os.path.join(self.top, os.path.dirname(BUILT))), ['trac_cli'])
-        self.run_once(**AS_NOBODY)
-        self.assertEqual(self.builds(), 1)
+    def test_the_other_programs(self):
+        for name in ('trac_trace', 'trac_terminal'):
+            program = os.path.join('crates', name, 'out', name)
+            with self.subTest(program=name):
+                path = os.path.join(self.folder, f'without {name}')
+                os.mkdir(path)
+                for tool in ('sh', 'dirname', 'readlink', 'find'):
+                    os.symlink(shutil.which(tool), os.path.join(path, tool))
+                self.assertEqual(self.ran(name, path=path), (
+                    '', f'{name}: it is not built yet, and its proof needs the Rattle kit, whose rt is not here\n', 70))
+                self.tool('rt', '#!/bin/sh\n')
+                self.tool('make', '#!/bin/sh\necho "make $*" >&2\nexit 1\n')
+                output, lines, status = self.ran(name)
+                self.assertEqual((output, status), ('', 70))
+                self.assertEqual(lines.splitlines()[1:], [
+                    f'make -s -C {self.top} {program}', f'{name}: it could not be built'])
+                self.assertIn('20 minutes', lines)
+                self.put(program, 'echo "other: $*"')
+                self.assertEqual(self.ran(name), ('other: --cells 18\n', '', 0))
 
-    def test_a_build_that_fails(self):
-        for crate in ('trac_space', 'trac_words', 'trac_cli'):
-            with self.subTest(crate):
-                self.answer(f'#!/bin/sh\n[ "${{PWD##*/}}" = {crate} ] || exit 0\n'
-                            'echo "this is why"\nexit 1\n')
-                started = self.start()
-                output, lines = started.communicate(timeout=60)
-                self.assertEqual((output, started.returncode), ('', 70))
-                self.assertEqual(
-                    lines, FIRST + 'this is why\ntrac: the program could not be built\n')
+
+class Clone(unittest.TestCase):
+    def test_hello_with_a_c_compiler_alone(self):
+        """What a clone says first, with the compiler, the shell and the plainest tools on the path: no kit, no make,
+        no Python."""
+        with tempfile.TemporaryDirectory() as folder:
+            tools, top = os.path.join(folder, 'tools'), os.path.join(folder, 'top')
+            os.mkdir(tools)
+            for name in PLAIN:
+                os.symlink(shutil.which(name), os.path.join(tools, name))
+            for name in tracked():
+                os.makedirs(os.path.dirname(os.path.join(top, name)), exist_ok=True)
+                shutil.copy2(os.path.join(TOP, name), os.path.join(top, name), follow_symlinks=False)
+            done = subprocess.run([os.path.join(top, 'trac'), '--report'], input=HELLO, capture_output=True,
+                                  env={'PATH': tools}, timeout=120, check=False)
+            self.assertEqual(done.stdout, b'hello')
+            self.assertIn(b'trac: 29 steps, peak 19 cells\n', done.stderr)
+            self.assertEqual(done.returncode, 0)
+
+    def test_the_launcher_passes_words_devices_and_status(self):
+        done = subprocess.run([LAUNCHER, '--cells', '18', '--report'], input=HELLO, capture_output=True, check=False)
+        self.assertEqual(done.stdout, b'')
+        self.assertTrue(done.stderr.decode().endswith(
+            'trac: 8 steps, peak 11 cells\ntrac: workspace of 18 cells full at step 9\n'))
+        self.assertEqual(done.returncode, 1)
+
+    def test_it_is_short(self):
+        with open(LAUNCHER, encoding='utf-8') as lines:
+            self.assertLessEqual(len(lines.readlines()), 60)
 
 
 if __name__ == '__main__':

@@ -16,10 +16,8 @@
 /* The exit statuses. What the engine calls halted and input ended are both 0. */
 enum { DONE, WORKSPACE, USAGE, STEPS, INPUT_FAILED, OUTPUT_FAILED, NO_MEMORY };
 
-/* The bytes of one read, as many as the proved program reads ahead; and those of a print that needs no more memory. */
+/* The bytes of a read, as in the proved program, and of the longest print that needs no more memory. */
 enum { CHUNK = 8192 };
-
-#define MOST_STEPS UINT64_C(1000000000000)
 
 static const char HELP[] =
     "Runs a TRAC T-64 script from standard input\n\n"
@@ -58,10 +56,11 @@ static int say_line(int status, const char *format, ...) {
 
 /* ---- The words. */
 
-/* A number that wasn't given is 0. */
+/* A number that wasn't given is 0. An option whose value is the next word waits until what follows is known. */
 typedef struct {
     uint64_t cells, steps;
     int reports;
+    const char *option, *value;
 } settings;
 
 #define HINT "\n\nFor more information, try '--help'.\n"
@@ -77,8 +76,6 @@ static int refuse(const char *text, const char *about, const char *rest) {
 
 static int refuse_word(const char *word) { return refuse("unexpected argument '", word, "' found" USAGE_AND_HINT); }
 
-static int show_help(void) { return write_all(STDOUT_FILENO, HELP, sizeof HELP - 1) ? DONE : OUTPUT_FAILED; }
-
 /* The length of the character of UTF-8 that begins there; 0 where none does. */
 static size_t length_of_character(const uint8_t *c) {
     const size_t length = c[0] < 0x80 ? 1 : c[0] < 0xE0 ? 2 : c[0] < 0xF0 ? 3 : 4;
@@ -93,107 +90,112 @@ static size_t length_of_character(const uint8_t *c) {
 }
 
 static int is_utf8(const char *word) {
-    const uint8_t *c = (const uint8_t *)word;
     size_t length = 1;
-    for (; length && *c; c += length)
-        length = length_of_character(c);
+    for (; length && *word; word += length)
+        length = length_of_character((const uint8_t *)word);
     return length != 0;
 }
 
-/* Whether a word is an option of the program, with a value or without: such a word is no value. */
 static int is_option(const char *word) {
-    static const char *const options[] = {"--cells", "--steps", "--report", "--help"};
-    int is_found = !strcmp(word, "--") || !strncmp(word, "-h", 2);
-    for (size_t i = 0; i < sizeof options / sizeof *options; i++) {
-        const size_t length = strlen(options[i]);
-        is_found = is_found || (!strncmp(word, options[i], length) && (!word[length] || word[length] == '='));
-    }
-    return is_found;
+    return !strcmp(word, "--cells") || !strcmp(word, "--steps") || !strcmp(word, "--report") || !strcmp(word, "--help");
 }
 
-/* What is wrong with the digits of a number up to `most`; nothing, and the number, where they are good. */
-static const char *fault_of_number(const char *word, uint64_t most, uint64_t *number) {
+/* What is wrong with the cells, read as a number of 64 bits with a sign, or with the steps, read as one without; a null
+ * pointer, and the number, where nothing is. */
+static const char *fault_of_number(const char *word, int is_cells, uint64_t *number) {
     static char range[80];
-    const char *digit = *word == '+' ? word + 1 : word;
-    int is_large = 0;
-    if (!*word)
-        return "cannot parse integer from empty string";
-    if (!*digit || digit[strspn(digit, "0123456789")])
-        return "invalid digit found in string";
-    for (*number = 0; *digit; digit++) {
-        const uint64_t value = (uint64_t)(*digit - '0');
-        is_large = is_large || *number > (INT64_MAX - value) / 10;
-        *number = is_large ? 0 : *number * 10 + value;
+    const int is_negative = is_cells && *word == '-';
+    const uint64_t limit = is_cells ? (uint64_t)INT64_MAX + (uint64_t)is_negative : UINT64_MAX;
+    const uint64_t most = is_cells ? TRAC_MOST_CELLS : UINT64_C(1000000000000);
+    const char *digit = word + (is_negative || *word == '+');
+    uint64_t value = 0;
+    if (!*digit)
+        return *word ? "invalid digit found in string" : "cannot parse integer from empty string";
+    for (; *digit; digit++) {
+        const uint64_t next = (uint64_t)(uint8_t)*digit - '0';
+        if (next > 9)
+            return "invalid digit found in string";
+        if (value > (limit - next) / 10)
+            return is_negative ? "number too small to fit in target type" : "number too large to fit in target type";
+        value = value * 10 + next;
     }
-    if (is_large)
-        return "number too large to fit in target type";
-    (void)snprintf(range, sizeof range, "%" PRIu64 " is not in 1..=%" PRIu64, *number, most);
-    return *number < 1 || *number > most ? range : NULL;
+    *number = is_negative || value > most ? 0 : value;
+    (void)snprintf(range, sizeof range, "%s%" PRIu64 " is not in 1..=%" PRIu64, is_negative && value ? "-" : "", value,
+                   most);
+    return *number ? NULL : range;
 }
 
-/* Takes the value of --cells or --steps, if it is one. Gives -1, or the status with which the program ends. */
-static int take_number(const char *option, const char *value, uint64_t most, uint64_t *number) {
+/* Takes the option that waits. Gives -1, or the status with which the program ends, as the functions below. */
+static int take_waiting(settings *to) {
+    const char *const option = to->option;
+    if (!option)
+        return -1;
+    const int is_cells = !strcmp(option, "--cells");
+    uint64_t *const number = is_cells ? &to->cells : &to->steps;
+    to->option = NULL;
+    if (!to->value)
+        return refuse("a value is required for '", option, " <N>' but none was supplied" HINT);
     if (*number)
         return refuse("the argument '", option, " <N>' cannot be used multiple times" USAGE_AND_HINT);
-    const char *const fault = fault_of_number(value, most, number);
+    const char *const fault = fault_of_number(to->value, is_cells, number);
     if (!fault)
         return -1;
-    (void)refuse("invalid value '", value, "' for '");
+    (void)refuse("invalid value '", to->value, "' for '");
     return say_line(USAGE, "%s <N>': %s" HINT, option, fault);
 }
 
-/* Takes --report or --help, which have no value. Gives -1, or the status with which the program ends. */
-static int take_flag(settings *to, const char *option, const char *value) {
-    if (value) {
+/* Takes an option of the program, and what stands behind its equals sign. */
+static int take_option(settings *to, const char *option, const char *value) {
+    const int is_help = !strcmp(option, "--help"), is_report = !strcmp(option, "--report");
+    if ((is_help || is_report) && value) {
         (void)refuse("unexpected value '", value, "' for '");
         return say_line(USAGE, "%s' found; no more were expected" USAGE_AND_HINT, option);
     }
-    if (!strcmp(option, "--help"))
-        return show_help();
-    if (to->reports++)
+    const int status = take_waiting(to);
+    if (status >= 0)
+        return status;
+    if (is_help)
+        return write_all(STDOUT_FILENO, HELP, sizeof HELP - 1) ? DONE : OUTPUT_FAILED;
+    if (is_report && to->reports)
         return refuse("the argument '", option, "' cannot be used multiple times" USAGE_AND_HINT);
-    return -1;
+    to->reports |= is_report;
+    to->option = is_report ? NULL : option;
+    to->value = value;
+    return value ? take_waiting(to) : -1;
 }
 
-/* Takes the first of the words that are left, and its value. Gives -1, or the status with which the program ends. */
-static int take_word(settings *to, char ***words) {
-    char *const word = *(*words)++, *const next = **words;
-    if (word[0] == '-' && word[1] == 'h' && word[2] != '=')
-        return show_help();
-    if (!strcmp(word, "--") && !next)
+/* Takes a word. Of one that begins with two dashes an unknown part in front of an equals sign is named, and of one
+ * that begins with one dash its first letter. */
+static int take_word(settings *to, char *word, const char *next) {
+    char *const end = word + strcspn(word, "=");
+    const char *const value = *end ? end + 1 : NULL;
+    if (!strcmp(word, "--"))
+        return next ? refuse_word(next) : -1;
+    if (!strncmp(word, "-h", 2))
+        return take_option(to, "--help", NULL);
+    if (word[0] != '-' || !word[1]) {
+        if (!to->option || to->value)
+            return refuse_word(word);
+        to->value = word;
         return -1;
-    char *value = strncmp(word, "--", 2) ? NULL : strchr(word, '=');
-    if (value)
-        *value++ = 0;
-    if (!strcmp(word, "--help") || !strcmp(word, "--report"))
-        return take_flag(to, word, value);
-    const int is_cells = !strcmp(word, "--cells");
-    if (!is_cells && strcmp(word, "--steps"))
-        return refuse_word(strcmp(word, "--") ? word : next);
-    if (!value && (!next || is_option(next)))
-        return refuse("a value is required for '", word, " <N>' but none was supplied" HINT);
-    if (!value && next[0] == '-' && next[1])
-        return refuse_word(next);
-    if (!value)
-        value = *(*words)++;
-    return take_number(word, value, is_cells ? TRAC_MOST_CELLS : MOST_STEPS, is_cells ? &to->cells : &to->steps);
+    }
+    *(word[1] == '-' ? end : word + 1 + length_of_character((const uint8_t *)word + 1)) = 0;
+    return is_option(word) ? take_option(to, word, value) : refuse_word(word);
 }
 
-/* Takes the words. Gives -1, or the status with which the program ends. */
 static int take_words(settings *to, char **words) {
     int status = -1;
     for (char **word = words; *word; word++)
         if (!is_utf8(*word))
             return refuse("the command line isn't UTF-8\n", "", "");
-    while (*words && status < 0)
-        status = take_word(to, &words);
-    return status;
+    for (; *words && status < 0; words++)
+        status = take_word(to, *words, words[1]);
+    return status < 0 ? take_waiting(to) : status;
 }
 
 /* ---- The devices. */
 
-/* What was read and not consumed: so many bytes from `bytes + start` on. There is room for a string that fills the
- * workspace, and for a read more. */
+/* What was read and not consumed, from `bytes + start` on. There is room for a full workspace, and a read more. */
 typedef struct {
     uint8_t *bytes;
     size_t start, length;
@@ -227,13 +229,6 @@ static int feed(const trac_machine *machine, source *from) {
     return 1;
 }
 
-/* The cells that the next step, a call that reads, needs for what was read of its string so far. */
-static uint32_t need_of_reading(const trac_machine *machine, const source *from) {
-    const size_t used = trac_part(machine, TRAC_PART_STORE) + trac_part(machine, TRAC_PART_NEUTRAL) +
-                        trac_part(machine, TRAC_PART_ACTIVE);
-    return (uint32_t)(used - 1 + (trac_awaits(machine) == TRAC_AWAITS_TEXT ? from->length : 0));
-}
-
 /* ---- The run. */
 
 /* The room for one print. */
@@ -264,13 +259,15 @@ static trac_report turn(trac_machine *machine, source *from, const sink *to, siz
 }
 
 /* Runs the script, and tells how it ended. TRAC_REFUSED: there is no memory for a print. */
-static trac_report run(trac_machine *machine, source *from, sink *to) {
+static trac_report run(trac_machine *machine, size_t cells, source *from, sink *to) {
     trac_report report = turn(machine, from, to, 0);
     while (report.fate == TRAC_GOING || report.fate == TRAC_WANTS_INPUT || report.fate == TRAC_WANTS_OUTPUT) {
         if (report.fate == TRAC_WANTS_OUTPUT && !reserve(to, report.wanted)) {
             report.fate = TRAC_REFUSED;
         } else if (report.fate == TRAC_WANTS_INPUT && !feed(machine, from)) {
-            const uint32_t need = need_of_reading(machine, from);
+            /* the step's need, for what was read of its string so far */
+            const size_t text = trac_awaits(machine) == TRAC_AWAITS_TEXT ? from->length : 0;
+            const uint32_t need = (uint32_t)(cells - trac_part(machine, TRAC_PART_FREE) - 1 + text);
             report.fate = TRAC_INPUT_FAILED;
             report.peak = need > report.peak ? need : report.peak;
         } else {
@@ -303,7 +300,7 @@ static int ended(const settings *with, const trac_report *report) {
 
 int main(int count, char **words) {
     static trac_machine machine;
-    settings with = {0, 0, 0};
+    settings with = {0, 0, 0, NULL, NULL};
     trac_report report = {TRAC_REFUSED, 0, 0, 0, 0, 0};
     (void)signal(SIGPIPE, SIG_IGN);
     const int status = count ? take_words(&with, words + 1) : -1;
@@ -312,11 +309,11 @@ int main(int count, char **words) {
     with.cells = with.cells ? with.cells : 65536;
     with.steps = with.steps ? with.steps : 1000000;
     const size_t cells = (size_t)with.cells, longest = cells + 1;
-    trac_cell *const block = (trac_cell *)malloc(cells * sizeof(trac_cell) + longest + CHUNK);
     sink to = {(uint8_t *)malloc(CHUNK), CHUNK};
+    trac_cell *const block = (trac_cell *)malloc(cells * sizeof(trac_cell) + longest + CHUNK);
     if (block && to.bytes && trac_open(&machine, block, cells, with.steps) == 0) {
         source from = {(uint8_t *)(block + cells), 0, 0, 0};
-        report = run(&machine, &from, &to);
+        report = run(&machine, cells, &from, &to);
     }
     return ended(&with, &report);
 }

@@ -1,0 +1,12 @@
+"""The cases of checks/ that need no kit, over the proved program."""
+from test_conformance import Conformance
+from test_examples import Examples, Exercises
+from test_interruptions import Interruptions
+from test_manual import Manual
+from test_memory import Refused
+from test_pipes import Closed, Streams
+from test_program import Devices, Memory, Program, Stack
+from test_rooms import Rooms
+
+__all__ = ['Closed', 'Conformance', 'Devices', 'Examples', 'Exercises', 'Interruptions', 'Manual', 'Memory', 'Program',
+           'Refused', 'Rooms', 'Stack', 'Streams']
