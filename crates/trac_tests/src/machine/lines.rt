@@ -7,7 +7,7 @@ use trac_words::Settings;
 
 /// The settings of a run with so many steps.
 fn settings(cells: usize, steps: u64) -> Option<Settings> {
-    Settings::new(cells as u32, steps, false)
+    Settings::new(u32::try_from(cells).ok()?, steps, false)
 }
 
 /// A run in so many cells ends with this line and this status.
