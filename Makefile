@@ -81,12 +81,13 @@ generate:
 	hosts/c/generate
 
 ## make dist       what is handed out, in dist/: programs, libraries, the page, the manual
-dist: dist/trac dist/libtrac.a dist/trac.h dist/trac.html dist/npm/package.json
-
-dist/trac: crates/trac_cli/out/trac_cli
-	mkdir -p dist
-	cp -p crates/trac_cli/out/trac_cli $@
-	cp docs/*.1 dist
+dist: programs build/trac build/libtrac.so.0 dist/libtrac.a dist/trac.h dist/trac.html dist/npm/package.json
+	for program in trac_trace trac_terminal; do cp -p crates/$$program/out/$$program dist || exit; done
+	cp -p crates/trac_cli/out/trac_cli dist/trac
+	cp docs/*.[0-9] hosts/c/trac.c hosts/c/trac_engine.c dist
+	@hosts/system/stage build/dist /usr/local lib
+	rm -rf dist/doc && cp -R build/dist/share/doc/trac-t64 dist/doc
+	sed 's/@VERSION@/$(VERSION)/' hosts/system/README.in >dist/README
 
 # The proved library: its exports are hidden behind the functions of trac.h.
 dist/libtrac.a: $(SOURCES) hosts/c/proved.c hosts/c/api.c hosts/c/trac.h

@@ -21,6 +21,15 @@ def version():
 
 
 class Release(unittest.TestCase):
+    def test_its_files(self):
+        files = set(os.listdir(DIST))
+        self.assertLessEqual({'README', 'trac', 'trac_trace', 'trac_terminal', 'trac.h', 'libtrac.a', 'trac_engine.c',
+                              'trac.c', 'trac.html', 'npm', 'doc', 'trac.3'}, files)
+        for page in (name for name in files if name.endswith('.1')):
+            self.assertIn(page[:-2], files)
+        for part in ('docs/LANGUAGE.md', 'docs/EXERCISES.md', 'examples/hanoi.trac'):
+            self.assertTrue(os.path.exists(os.path.join(DIST, 'doc', part)), part)
+
     def test_its_version(self):
         for name in ('trac.h', 'trac.html', 'trac.mjs'):
             with open(os.path.join(DIST, name), encoding='utf-8') as file:
