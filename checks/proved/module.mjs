@@ -52,11 +52,11 @@ const mark = [...(await run("#(ps,\ufeffa)'")).text].map((c) => c.codePointAt(0)
 
 const session = await Session.open();
 const parts = [];
-for (const byte of new TextEncoder().encode("##(ps,##(rc))'")) session.turn(Uint8Array.of(byte));
+session.turn("##(ps,##(rc))'");
 for (const byte of new TextEncoder().encode('\u20ac')) {
     const { text, output } = session.turn(Uint8Array.of(byte));
     parts.push([text, output.length]);
-    session.turn(new TextEncoder().encode("'##(ps,##(rc))'"));
+    session.turn("'##(ps,##(rc))'");
 }
 
 const long = 3000000;
