@@ -2,7 +2,7 @@
 use Rattle.trac_functions.specs.Flat.{in_first}
 use Rattle.trac_space.specs.declared.cell.Cell.{Cell}
 use Rattle.trac_space.specs.declared.cell.Cell.TheVariants.{Byte as ByteCell, Call, Comma, Gap, Head}
-use Rattle.trac_core.proofs.Words.{◌≡◌, ◌≢◌, ℕ, ◌+◌, ◌<◌, Bool, true, false, List, [], ◌∷◌, ◌++◌, length, take, drop, slice_get, get_or, Option, Some, None, refl, sym, ap, ◌∙◌, arith, codes, ℤ, take-append-drop, take_more, slice_get-get_or, Mode, Item, Function, ReadString, ReadCharacter, ChangeMeta, PrintString, PrintForm, SegmentString, CallForm, CallSegment, CallCharacter, CallNumber, InitialPart, CallRestore, Arithmetic, Text, Form, before_pointer, after_pointer, OpenCall, Memory, Input, arguments, argument, World, Meaning, Gives, Ends, on_form, take_part, result_or, read_all, read_string, read_character, change_meta, show, show_form, meaning, meaning_of, before_meta, from_meta, form_of_call, Rule, EndCall, rule, function_of, world_of, perform, end_call, follow, step, with_active, IsLastCall, text_of_cells, Contents, IsSound, memory_of, mode_at, arguments_at, world, state_with, performed_by, performs, prints_output, function_at, display, shown, printed_in, zero, suc, ◌≤◌, ◌⊎◌, inl, inr, length-drop, texts_of}
+use Rattle.trac_core.proofs.Words.{◌≡◌, ◌≢◌, ℕ, ◌+◌, ◌<◌, Bool, true, false, List, [], ◌∷◌, ◌++◌, length, take, drop, slice_get, get_or, Option, Some, None, refl, sym, ap, ◌∙◌, arith, codes, ℤ, take-append-drop, take_more, slice_get-get_or, Mode, Item, Function, ReadString, ReadCharacter, ChangeMeta, PrintString, PrintForm, SegmentString, CallForm, CallSegment, CallCharacter, CallNumber, InitialPart, CallRestore, Arithmetic, Text, Form, before_pointer, after_pointer, OpenCall, Memory, Input, arguments, argument, World, Meaning, Gives, Ends, on_form, take_part, result_or, read_all, read_string, read_character, change_meta, show, show_form, meaning, meaning_of, before_meta, from_meta, form_of_call, Rule, EndCall, rule, function_of, world_of, perform, end_call, follow, step, with_active, IsLastCall, text_of_cells, Contents, IsSound, memory_of, mode_at, arguments_at, world, state_with, performed_by, performs, prints_output, function_at, display, shown, printed_in, zero, suc, ◌≤◌, ◌⊎◌, inl, inr, length-drop, texts_of, nat_le}
 use Rattle.std.proofs.lemmas.List.{length-append}
 use Rattle.trac_language.specs.declared.item.Item.TheVariants.{Byte}
 use Rattle.trac_language.specs.Part.{Part}
@@ -161,3 +161,6 @@ prints-no-more neutral place w (Some f) other = go (cases f)
     go (inr not_string) =
         let none = ap length (other-prints (Some f) (arguments_at neutral place) w refl (λ e. not_string cc) other) in
         omega (arith, none)
+
+pub is-within : (a b : ℕ) → a ≤ b → true ≡ nat_le a b
+is-within a b within = sym (grind arith)
