@@ -340,12 +340,10 @@ plain-alone ChangeMeta alone c g = absurd (c refl)
 plain-alone Halt alone c g = absurd (g refl)
 plain-alone _ alone c g = refl
 
--- the functions that have no arm of their own are plain
-pub plain-rest : (f : Function) → f ≢ ReadString → f ≢ ReadCharacter → f ≢ ChangeMeta → f ≢ PrintString → f ≢ PrintForm → f ≢ Halt → is_plain f ≡ true
-plain-rest ReadString a b c d e g = absurd (a refl)
-plain-rest ReadCharacter a b c d e g = absurd (b refl)
-plain-rest ChangeMeta a b c d e g = absurd (c refl)
-plain-rest PrintString a b c d e g = absurd (d refl)
-plain-rest PrintForm a b c d e g = absurd (e refl)
-plain-rest Halt a b c d e g = absurd (g refl)
-plain-rest _ a b c d e g = refl
+-- the functions that have no arm of their own touch no device
+pub rest-alone : (f : Function) → f ≢ ReadString → f ≢ ReadCharacter → f ≢ PrintString → f ≢ PrintForm → touches_device (Some f) ≡ false
+rest-alone ReadString a b d e = absurd (a refl)
+rest-alone ReadCharacter a b d e = absurd (b refl)
+rest-alone PrintString a b d e = absurd (d refl)
+rest-alone PrintForm a b d e = absurd (e refl)
+rest-alone _ a b d e = refl

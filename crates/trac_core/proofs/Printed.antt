@@ -1,5 +1,8 @@
 -- What a step prints, and how long it is.
-use Rattle.trac_core.proofs.Words.{◌≡◌, ◌≢◌, ℕ, ◌+◌, ◌<◌, Bool, true, false, List, [], ◌∷◌, ◌++◌, length, take, drop, slice_get, get_or, Option, Some, None, refl, sym, ap, ◌∙◌, arith, codes, ℤ, take-append-drop, take_more, slice_get-get_or, Mode, Item, Function, ReadString, ReadCharacter, ChangeMeta, PrintString, PrintForm, SegmentString, CallForm, CallSegment, CallCharacter, CallNumber, InitialPart, CallRestore, Arithmetic, Text, Form, before_pointer, after_pointer, OpenCall, Memory, Input, arguments, argument, World, Meaning, Gives, Ends, on_form, take_part, result_or, read_all, read_string, read_character, change_meta, show, show_form, meaning, meaning_of, before_meta, from_meta, form_of_call, Rule, EndCall, rule, function_of, world_of, perform, end_call, follow, step, with_active, IsLastCall, text_of_cells, Contents, IsSound, memory_of, mode_at, arguments_at, world, state_with, performed_by, performs, prints_output, function_at, display, shown, printed_in}
+use Rattle.trac_functions.specs.Flat.{in_first}
+use Rattle.trac_space.specs.declared.cell.Cell.{Cell}
+use Rattle.trac_space.specs.declared.cell.Cell.TheVariants.{Byte as ByteCell, Call, Comma, Gap, Head}
+use Rattle.trac_core.proofs.Words.{◌≡◌, ◌≢◌, ℕ, ◌+◌, ◌<◌, Bool, true, false, List, [], ◌∷◌, ◌++◌, length, take, drop, slice_get, get_or, Option, Some, None, refl, sym, ap, ◌∙◌, arith, codes, ℤ, take-append-drop, take_more, slice_get-get_or, Mode, Item, Function, ReadString, ReadCharacter, ChangeMeta, PrintString, PrintForm, SegmentString, CallForm, CallSegment, CallCharacter, CallNumber, InitialPart, CallRestore, Arithmetic, Text, Form, before_pointer, after_pointer, OpenCall, Memory, Input, arguments, argument, World, Meaning, Gives, Ends, on_form, take_part, result_or, read_all, read_string, read_character, change_meta, show, show_form, meaning, meaning_of, before_meta, from_meta, form_of_call, Rule, EndCall, rule, function_of, world_of, perform, end_call, follow, step, with_active, IsLastCall, text_of_cells, Contents, IsSound, memory_of, mode_at, arguments_at, world, state_with, performed_by, performs, prints_output, function_at, display, shown, printed_in, zero, suc, ◌≤◌, ◌⊎◌, inl, inr, length-drop, texts_of, nat_le}
 use Rattle.std.proofs.lemmas.List.{length-append}
 use Rattle.trac_language.specs.declared.item.Item.TheVariants.{Byte}
 use Rattle.trac_language.specs.Part.{Part}
@@ -121,3 +124,43 @@ step-prints-call w place meta input sound first last =
     let after = record w { active = drop 1 w.active } in
     ap output_after (step-performs w after place (performs-closed w after place sound first last refl) (function_at w.neutral place) refl meta input [])
     ∙ perform-prints (mode_at w.neutral place) (meaning (function_at w.neutral place) (arguments_at w.neutral place) (world w.forms meta input)) (memory_of meta (closed after place)) input
+
+-- ---- a text that is printed is no longer than the neutral string
+
+first-within : (c n : ℕ) (texts : List Text) → ((k : ℕ) → length (argument texts k) ≤ n) → (k : ℕ) → length (argument (in_first c texts) k) ≤ suc n
+first-within c n [] within zero = omega arith
+first-within c n [] within (suc k) = omega arith
+first-within c n (text ∷ texts) within zero = let first = within 0 in omega arith
+first-within c n (text ∷ texts) within (suc k) = let later = within (suc k) in omega arith
+
+-- each argument is no longer than the cells that it stands in
+argument-within : (cells : List Cell) (k : ℕ) → length (argument (texts_of cells) k) ≤ length cells
+argument-within [] zero = omega arith
+argument-within [] (suc k) = omega arith
+argument-within (ByteCell c ∷ cells) k = first-within c (length cells) (texts_of cells) (argument-within cells) k
+argument-within (Call mode n ∷ cells) k = first-within 0 (length cells) (texts_of cells) (argument-within cells) k
+argument-within (Comma ∷ cells) zero = omega arith
+argument-within (Comma ∷ cells) (suc k) = let later = argument-within cells k in omega arith
+argument-within (Gap n ∷ cells) k = first-within 0 (length cells) (texts_of cells) (argument-within cells) k
+argument-within (Head n ∷ cells) k = first-within 0 (length cells) (texts_of cells) (argument-within cells) k
+
+pub prints-no-more : (neutral : List Cell) (place : ℕ) (w : World) (f : Option Function) → f ≢ Some PrintForm → length (printed_in (meaning f (arguments_at neutral place) w)) ≤ length neutral
+prints-no-more neutral place w None other = omega arith
+prints-no-more neutral place w (Some f) other = go (cases f)
+  where
+    cases : (f : Function) → (f ≡ PrintString) ⊎ (f ≢ PrintString)
+    cases PrintString = inl refl
+    cases _ = inr (λ e. absurd cc)
+
+    go : (f ≡ PrintString) ⊎ (f ≢ PrintString) → length (printed_in (meaning (Some f) (arguments_at neutral place) w)) ≤ length neutral
+    go (inl is) =
+        let one = argument-within (drop (place + 1) neutral) 1 in
+        let prints = ap length (string-prints (Some f) (arguments_at neutral place) w (ap Some is)) in
+        let short = length-drop (place + 1) neutral in
+        omega (arith, one, prints, short)
+    go (inr not_string) =
+        let none = ap length (other-prints (Some f) (arguments_at neutral place) w refl (λ e. not_string cc) other) in
+        omega (arith, none)
+
+pub is-within : (a b : ℕ) → a ≤ b → true ≡ nat_le a b
+is-within a b within = sym (grind arith)

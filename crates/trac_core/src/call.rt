@@ -1,15 +1,15 @@
 //! Calls: one is performed when its right parenthesis is scanned.
-ghost use Rattle.std.specs.Prelude.{◌≡◌, ◌≢◌, ◌-◌, ◌<◌, ◌≤◌, ◌^◌};
+ghost use Rattle.std.specs.Prelude.{◌≡◌, ◌≢◌, ◌-◌, ◌<◌, ◌≤◌, ◌^◌, ℕ};
 ghost use Rattle.std.specs.Prelude.{length, None, Some, true, false, MatchOption, ⊤};
 ghost use Rattle.trac_language.specs.Text.{Text};
 ghost use Rattle.trac_space.specs.Calls.{IsLastCall};
 ghost use Rattle.trac_forms.specs.Contents.{IsSound, used};
-ghost use Rattle.trac_functions.specs.Flat.{memory_of};
+ghost use Rattle.trac_functions.specs.Flat.{memory_of, mode_at, is_active_mode};
 ghost use Rattle.trac_functions.specs.Calls.{AreArguments, Performs};
 ghost use Rattle.trac_core.specs.Performed.{is_plain, performs, touches_device};
 ghost use Rattle.trac_core.specs.Attempts.{scene, Tried, TriedCall, function_at, TakesFrom};
 ghost use Rattle.trac_core.specs.Attempts.{TakesAtMost, AnswersCall, Stands, fate_after};
-ghost use Rattle.trac_core.specs.Attempts.{LeavesSource, LeavesSink, EndsQuietly, NoneFailed};
+ghost use Rattle.trac_core.specs.Attempts.{LeavesSource, LeavesSink, EndsQuietly, NoneFailed, HasArguments};
 ghost use Rattle.trac_core.specs.NamedCalls.{IsNamed, TriedAlone, TouchesDevice};
 ghost use Rattle.trac_devices.specs.Devices.{Stream};
 ghost use Rattle.trac_core.specs.StepsInRow.{AsksFor, IsPlainFrom};
@@ -163,8 +163,7 @@ fn named(work: &Work, call: InnermostCall) -> NamedCall
     requires innermost { IsLastCall work.now.neutral call.place }
     requires plain { IsPlainFrom call.plain work.now.neutral }
     requires sound { IsSound work.now }
-    ensures named { IsNamed result work.now }
-    ensures place { result.place ≡ call.place }
+    ensures { IsNamed result work.now }
 {
     let mut arguments = Arguments {
         from: call.place + 1,
@@ -195,7 +194,8 @@ fn touches_device(function: Option<Function>) -> bool
     }
 }
 
-/// What the function of the innermost call answers.
+/// What the function of the innermost call answers. A call of a name that is no function has a null
+/// value (this processor's own choice).
 #[inline(always)]
 fn answer<I: Source, O: Sink>(
     work: &mut Work,
@@ -224,21 +224,25 @@ fn answer<I: Source, O: Sink>(
         TakesFrom work.old (I.stream source.old) (I.stream source.new) taken }
     ensures keeps { KeepsRoom work.old work.new }
 {
-    let call = named(work, call);
-    let Some(function) = call.function else {
-        return answer_alone(work, call, meta);
+    let mut arguments = Arguments {
+        from: call.place + 1,
+        end: work.neutral_len(),
+        plain: call.plain,
+        scanned: is_active_call(work, call.place),
+    };
+    let Some(function) = arguments.function(work) else {
+        return Made::Defined(0);
     };
     match function {
         Function::ReadString => read_string(work, *meta, source),
         Function::ReadCharacter => read_character(work, source),
-        Function::PrintString => print_string(work, call.arguments, sink),
-        Function::PrintForm => print_form(work, call.arguments, sink),
-        _ => answer_alone(work, call, meta),
+        Function::PrintString => print_string(work, arguments, sink),
+        Function::PrintForm => print_form(work, arguments, sink),
+        _ => made_alone(work, function, arguments, meta),
     }
 }
 
-/// What a function answers that touches no device. A call of a name that is no function has a null
-/// value (this processor's own choice).
+/// What the function of a call answers that touches no device.
 #[inline(always)]
 fn answer_alone(work: &mut Work, call: NamedCall, meta: &mut u8) -> Made
     requires named { IsNamed call work.old }
@@ -252,13 +256,32 @@ fn answer_alone(work: &mut Work, call: NamedCall, meta: &mut u8) -> Made
         (work.new.forms ≡ work.old.forms) × (meta.new ≡ meta.old) }
     ensures keeps { KeepsRoom work.old work.new }
 {
-    let Some(function) = call.function else {
-        return Made::Defined(0);
-    };
+    match call.function {
+        None => Made::Defined(0),
+        Some(function) => made_alone(work, function, call.arguments, meta),
+    }
+}
+
+/// What a function that touches no device makes of the arguments that follow its name.
+#[inline(always)]
+fn made_alone(work: &mut Work, function: Function, arguments: Arguments, meta: &mut u8) -> Made
+    requires arguments { AreArguments work.old arguments }
+    requires alone { touches_device (Some function) ≡ false }
+    ensures answers { (place : ℕ) (source : Stream) (written : Text) →
+        HasArguments work.old place function arguments →
+        arguments.scanned ≡ is_active_mode (mode_at work.old.neutral place) →
+        AnswersCall place (scene work.old meta.old source written) result
+        (scene work.new meta.new source written) }
+    ensures stands { Stands result (used work.old) (length work.old.neutral) work.new }
+    ensures quiet { EndsQuietly result }
+    ensures stay { fate_after result ≢ None →
+        (work.new.forms ≡ work.old.forms) × (meta.new ≡ meta.old) }
+    ensures keeps { KeepsRoom work.old work.new }
+{
     match function {
-        Function::ChangeMeta => change_meta(work, call.arguments, meta),
+        Function::ChangeMeta => change_meta(work, arguments, meta),
         Function::Halt => Made::Over(Fate::Halted),
-        _ => value_of(work, function, call.arguments),
+        _ => value_of(work, function, arguments),
     }
 }
 

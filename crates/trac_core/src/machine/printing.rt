@@ -1,5 +1,6 @@
 //! How many bytes the next step of a machine prints.
-ghost use Rattle.std.specs.Prelude.{◌≡◌, ℕ, length};
+ghost use Rattle.std.specs.Prelude.{◌≡◌, ◌≢◌, ℕ, length, nat_le, false, Some};
+ghost use Rattle.trac_language.specs.declared.function.Function.TheVariants.{PrintForm};
 ghost use Rattle.trac_language.specs.State.{Input};
 ghost use Rattle.trac_language.specs.Meaning.{meaning};
 ghost use Rattle.trac_space.specs.Calls.{IsLastCall};
@@ -30,6 +31,66 @@ impl<'a> Machine<'a> {
             return 0;
         }
         printed_len(&mut self.work)
+    }
+
+    /// Whether so many bytes are room for what the next step prints, as `prints` counts it. Where a
+    /// text is printed and there is room for the whole neutral string, it isn't measured. This
+    /// processor's own choice.
+    pub fn prints_within(&mut self, free: u64) -> bool
+        ensures within { (input : Input) →
+            result ≡ nat_le (length (next_printed self.old input)) free }
+        ensures same { self.new ≡ self.old }
+    {
+        if self.fate.is_some() {
+            return true;
+        }
+        if self.steps == self.allowance {
+            return true;
+        }
+        fits_within(&mut self.work, free)
+    }
+}
+
+/// Whether so many bytes are room for what a step over these contents prints.
+fn fits_within(work: &mut Work, free: u64) -> bool
+    ensures within { (meta : ℕ) (input : Input) →
+        result ≡ nat_le (length (step_prints (memory_of meta work.old) input)) free }
+    ensures same { work.new ≡ work.old }
+    ensures sound { IsSound work.new }
+{
+    match closed_call(work) {
+        None => true,
+        Some(place) => call_fits(work, place, free),
+    }
+}
+
+/// The same of what the innermost call prints, whose mark stands at the place.
+fn call_fits(work: &mut Work, place: u32, free: u64) -> bool
+    requires { IsLastCall work.old.neutral place }
+    ensures within { (meta : ℕ) (input : Input) →
+        let args = arguments_at work.old.neutral place in
+        result ≡ nat_le (length (printed_in (meaning (function_at work.old.neutral place) args
+        (world work.old.forms meta input)))) free }
+    ensures same { work.new ≡ work.old }
+    ensures sound { IsSound work.new }
+{
+    if u64::from(work.neutral_len()) <= free && !displays(work, place) {
+        return true;
+    }
+    u64::from(call_len(work, place)) <= free
+}
+
+/// Whether the innermost call displays a form, whose mark stands at the place.
+fn displays(work: &Work, place: u32) -> bool
+    requires { IsLastCall work.now.neutral place }
+    ensures { result ≡ false → function_at work.now.neutral place ≢ Some PrintForm }
+{
+    match named_at(work, place).0 {
+        None => false,
+        Some(function) => match function {
+            Function::PrintForm => true,
+            _ => false,
+        },
     }
 }
 
