@@ -1,12 +1,14 @@
 -- Open calls and their arguments.
 use Rattle.std.specs.Prelude.{◌≡◌, ℕ, zero, suc, ◌+◌, ◌-◌, ◌&&◌, ◌||◌, Bool, true, false}
-use Rattle.std.specs.Prelude.{Option, None, MatchOption, List, length, take, drop}
+use Rattle.std.specs.Prelude.{Option, None, Some, MatchOption, List, [], length, take, drop}
 use Rattle.std.specs.Prelude.{count_by, min, nat_lt, if◌then◌else◌}
 use Rattle.std.specs.List.{position_or_len}
 use Rattle.trac_language.specs.Rule.{rule}
+use Rattle.trac_language.specs.State.{size}
 use Rattle.trac_space.specs.declared.cell.Cell.{Cell}
 use Rattle.trac_space.specs.Cells.{is_call, is_comma, NoCall}
 use Rattle.trac_space.specs.Calls.{IsLastCall}
+use Rattle.trac_space.specs.Texts.{text_of_cells}
 use Rattle.trac_functions.specs.Flat.{mode_at, neutral_of}
 use Rattle.trac_core.specs.Machine.{MachineState}
 use Rattle.trac_core.specs.View.{neutral_in, row_of}
@@ -15,6 +17,7 @@ use Rattle.trac_core.specs.declared.machine.session.Awaits.{Awaits}
 use Rattle.trac_core.specs.declared.machine.session.Awaits.TheVariants.{Nothing, Text, Byte}
 use Rattle.trac_core.specs.declared.machine.view.ScanningRule.{ScanningRule}
 use Rattle.trac_core.specs.declared.machine.view.ScanningRule.TheVariants as row
+use Rattle.trac_events.specs.declared.before.Before.{Before}
 use Rattle.trac_events.specs.declared.call.OpenCall.{OpenCall}
 
 -- the call is the innermost one: its mark is the last, and the
@@ -72,3 +75,20 @@ added before active = min (length active + 1 - before) (length active)
 abbrev pub value_behind : (mark before : ℕ) → (neutral active : List Cell) → List Cell
 value_behind mark before neutral active =
     if nat_lt 0 (added before active) then take (added before active) active else drop mark neutral
+
+-- what is seen of a machine before a step
+abbrev pub IsSeen : MachineState → Bool → Before → Type 0
+IsSeen m asked before = (before.done ≡ m.steps)
+    × (before.rule ≡ row_of (rule m.memory.active))
+    × (before.size ≡ size m.memory)
+    × (before.awaits ≡ awaited (next_function m))
+    × (before.active ≡ length m.memory.active)
+    × (before.meta ≡ m.memory.meta)
+    × SeesCall m asked before.call
+
+-- the value of the call that was seen, by the cells of a machine's strings; null where none was seen
+abbrev pub SeesValue : MachineState → Option OpenCall → ℕ → List Cell → Type 0
+SeesValue m None before value = value ≡ []
+SeesValue m (Some call) before value = (neutral : List Cell) × ((active : List Cell)
+    × ((neutral_of neutral ≡ neutral_in m.memory) × ((text_of_cells active ≡ m.memory.active)
+    × (value ≡ value_behind call.mark before neutral active))))

@@ -1,10 +1,6 @@
 //! What is seen of a machine before a step, and the value of the call after it.
-ghost use Rattle.std.specs.Prelude.{◌≡◌, length};
-ghost use Rattle.trac_language.specs.State.{size};
-ghost use Rattle.trac_language.specs.Rule.{rule};
-ghost use Rattle.trac_core.specs.View.{row_of};
-ghost use Rattle.trac_core.specs.Session.{awaited, next_function};
-ghost use Rattle.trac_events.specs.Calls.{SeesCall, ends_call, reads, value_behind};
+ghost use Rattle.std.specs.Prelude.{◌≡◌};
+ghost use Rattle.trac_events.specs.Calls.{IsSeen, SeesValue, ends_call, reads, value_behind};
 
 use crate::call::{OpenCall, innermost};
 use trac_core::{Awaits, Machine, ScanningRule};
@@ -33,13 +29,7 @@ impl Before {
     /// Looks at a machine before a step; at the call that the step performs only where that is
     /// asked for or reads.
     pub fn new(machine: &Machine, with_call: bool) -> Before
-        ensures done { result.done ≡ machine.now.steps }
-        ensures rule { result.rule ≡ row_of (rule machine.now.memory.active) }
-        ensures size { result.size ≡ size machine.now.memory }
-        ensures awaits { result.awaits ≡ awaited (next_function machine.now) }
-        ensures active { result.active ≡ length machine.now.memory.active }
-        ensures meta { result.meta ≡ machine.now.memory.meta }
-        ensures call { SeesCall machine.now with_call result.call }
+        ensures { IsSeen machine.now with_call result }
     {
         let rule = machine.next_rule();
         let awaits = machine.awaits();
@@ -60,7 +50,9 @@ impl Before {
     }
 
     /// The value of the call that the step performed, of the machine after that step.
-    pub fn value<'m>(&self, machine: &'m Machine) -> &'m [Cell] {
+    pub fn value<'m>(&self, machine: &'m Machine) -> &'m [Cell]
+        ensures { SeesValue machine.now self.now.call self.now.active result.now }
+    {
         match self.call {
             None => &[],
             Some(call) => value_behind(call, self.active, machine.neutral(), machine.active()),

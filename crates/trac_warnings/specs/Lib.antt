@@ -1,3 +1,4 @@
 pub mod Suspicions
 pub mod Gaps
 pub mod Strings
+pub mod Watched

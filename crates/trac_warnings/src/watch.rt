@@ -1,4 +1,7 @@
 //! A run that is watched, step by step.
+ghost use Rattle.std.specs.Prelude.{◌≡◌, ◌≢◌, length, take, drop, IfOk, OnOk, false};
+ghost use Rattle.trac_events.specs.Calls.{IsSeen};
+ghost use Rattle.trac_warnings.specs.Watched.{IsFresh, Kept};
 
 use crate::gaps::{body_of, stands_in_name};
 use crate::names::{needs_form, suspicion_of_name};
@@ -43,9 +46,12 @@ pub struct Watch {
     calls: Vec<usize>,
 }
 
+#[tactic(auto, using(crate::proofs::Keeping::kept_same, crate::proofs::Keeping::kept_more, crate::proofs::Keeping::kept_pushed))]
 impl Watch {
     /// Before the first step.
-    pub fn new(alloc: Global) -> Watch {
+    pub fn new(alloc: Global) -> Watch
+        ensures { IsFresh result }
+    {
         Watch {
             alloc,
             warnings: Vec::new(alloc),
@@ -57,13 +63,19 @@ impl Watch {
     }
 
     /// The warnings of the step that was seen last.
-    pub fn warnings(&self) -> &[Warning] {
+    pub fn warnings(&self) -> &[Warning]
+        ensures { result.now ≡ drop self.now.told self.now.warnings.items }
+    {
         self.warnings.as_slice().get(self.told..).unwrap_or(&[])
     }
 
     /// Looks at a machine before a step, of whose input at least these bytes are known that it has
     /// read. An error is want of memory.
-    pub fn look(&mut self, machine: &Machine, input: &[u8]) -> Result<Before, AllocError> {
+    pub fn look(&mut self, machine: &Machine, input: &[u8]) -> Result<Before, AllocError>
+        ensures seen { IfOk result (IsSeen machine.now false) }
+        ensures told { self.new.told ≡ length self.old.warnings.items }
+        ensures kept { Kept self.old.warnings.items self.new.warnings.items }
+    {
         self.told = self.warnings.len();
         let before = Before::new(machine, false);
         match before.rule {
@@ -88,7 +100,13 @@ impl Watch {
         before: &Before,
         machine: &Machine,
         input: &[u8],
-    ) -> Result<(), AllocError> {
+    ) -> Result<(), AllocError>
+        ensures told { self.new.told ≡ self.old.told }
+        ensures undone { machine.now.steps ≡ before.now.done →
+            OnOk result (self.new.warnings.items ≡ take self.old.told self.old.warnings.items) }
+        ensures kept { machine.now.steps ≢ before.now.done →
+            Kept self.old.warnings.items self.new.warnings.items }
+    {
         if machine.steps() == before.done {
             self.warnings.truncate(self.told);
             return Ok(());
@@ -126,7 +144,10 @@ impl Watch {
         before: &Before,
         machine: &Machine,
         input: &[u8],
-    ) -> Result<(), AllocError> {
+    ) -> Result<(), AllocError>
+        ensures told { self.new.told ≡ self.old.told }
+        ensures kept { Kept self.old.warnings.items self.new.warnings.items }
+    {
         let offset = self.offset(before.active);
         let open = self.calls.len();
         let begin = self.calls.pop().unwrap_or(offset);
@@ -152,7 +173,10 @@ impl Watch {
         arguments: &[Cell],
         begin: usize,
         input: &[u8],
-    ) -> Result<(), AllocError> {
+    ) -> Result<(), AllocError>
+        ensures told { self.new.told ≡ self.old.told }
+        ensures kept { Kept self.old.warnings.items self.new.warnings.items }
+    {
         let name = argument(arguments, 0);
         let Some(function) = function_named(name) else {
             return match suspicion_of_name(name) {
@@ -177,7 +201,10 @@ impl Watch {
         arguments: &[Cell],
         begin: usize,
         input: &[u8],
-    ) -> Result<(), AllocError> {
+    ) -> Result<(), AllocError>
+        ensures told { self.new.told ≡ self.old.told }
+        ensures kept { Kept self.old.warnings.items self.new.warnings.items }
+    {
         for form in machine.forms() {
             if is_same(form.name(), argument(arguments, 1)) {
                 let items = body_of(self.alloc, &form)?;
@@ -194,7 +221,10 @@ impl Watch {
         arguments: &[Cell],
         begin: usize,
         input: &[u8],
-    ) -> Result<(), AllocError> {
+    ) -> Result<(), AllocError>
+        ensures told { self.new.told ≡ self.old.told }
+        ensures kept { Kept self.old.warnings.items self.new.warnings.items }
+    {
         let mut k: u32 = 0;
         for cell in arguments {
             if !matches!(cell, Cell::Comma) {
@@ -215,7 +245,10 @@ impl Watch {
         before: &Before,
         machine: &Machine,
         input: &[u8],
-    ) -> Result<(), AllocError> {
+    ) -> Result<(), AllocError>
+        ensures told { self.new.told ≡ self.old.told }
+        ensures kept { Kept self.old.warnings.items self.new.warnings.items }
+    {
         let len = before.value(machine).len();
         let start = self.read.min(input.len());
         let end = start.saturating_add(len).min(input.len());
@@ -252,7 +285,10 @@ impl Watch {
         active: usize,
         offset: usize,
         input: &[u8],
-    ) -> Result<(), AllocError> {
+    ) -> Result<(), AllocError>
+        ensures told { self.new.told ≡ self.old.told }
+        ensures kept { Kept self.old.warnings.items self.new.warnings.items }
+    {
         for _ in 0..self.strings.len() {
             let Some(string) = self.strings.last_mut() else {
                 return Ok(());
@@ -278,7 +314,10 @@ impl Watch {
     }
 
     // Tells the calls that are open beyond so many.
-    fn tell_open_calls(&mut self, depth: usize, input: &[u8]) -> Result<(), AllocError> {
+    fn tell_open_calls(&mut self, depth: usize, input: &[u8]) -> Result<(), AllocError>
+        ensures told { self.new.told ≡ self.old.told }
+        ensures kept { Kept self.old.warnings.items self.new.warnings.items }
+    {
         for k in depth..self.calls.len() {
             if let Some(begin) = self.calls.get(k).copied() {
                 self.warn(Suspicion::OpenCall, begin, &[], input)?;
@@ -294,7 +333,10 @@ impl Watch {
         offset: usize,
         cells: &[Cell],
         input: &[u8],
-    ) -> Result<(), AllocError> {
+    ) -> Result<(), AllocError>
+        ensures told { self.new.told ≡ self.old.told }
+        ensures kept { Kept self.old.warnings.items self.new.warnings.items }
+    {
         let text = characters_of(self.alloc, cells)?;
         if self.was_said(suspicion, offset, &text) {
             return Ok(());

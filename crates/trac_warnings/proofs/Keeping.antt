@@ -1,0 +1,16 @@
+-- Warnings that stay in front of others.
+use Rattle.std.proofs.Common.{◌≡◌, ◌∙◌, ◌++◌, ◌∷◌, List, [], ap, sym, refl, append-nil, append_assoc}
+use Rattle.trac_warnings.specs.Watched.{Kept}
+use Rattle.trac_warnings.specs.declared.warning.Warning.{Warning}
+
+pub kept_same : (a b : List Warning) → b ≡ a → Kept a b
+unfolding Kept
+kept_same a b is = ([], is ∙ sym (append-nil a))
+
+pub kept_more : (a b c : List Warning) → Kept a b → Kept b c → Kept a c
+unfolding Kept
+kept_more a b c k l = (k.0 ++ l.0, l.1 ∙ ap (λ (x : List Warning). x ++ l.0) k.1 ∙ append_assoc a k.0 l.0)
+
+pub kept_pushed : (a b : List Warning) (x : Warning) → b ≡ a ++ x ∷ [] → Kept a b
+unfolding Kept
+kept_pushed a b x is = (x ∷ [], is)
