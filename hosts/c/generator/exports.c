@@ -44,8 +44,8 @@ static size_t in_order(u32 *codes, size_t room, u64 count) {
     return (size_t)count;
 }
 
-static trac_report trac_engine_run(void *block, size_t cells, uint64_t steps, const uint8_t *script, size_t script_len,
-                            uint8_t *output, size_t output_len) {
+static trac_report trac_engine_run(void *block, size_t cells, uint64_t steps, const uint8_t *script,
+                                   size_t script_len, uint8_t *output, size_t output_len) {
     struct lent lent;
     struct engine_report report;
     engine_run(lend(&lent), address_of(&report), address_of(block), cells, steps, address_of(script), script_len,
@@ -64,7 +64,7 @@ static uint32_t trac_engine_open(void *machine, void *block, size_t cells, uint6
 }
 
 static trac_report trac_engine_turn(void *machine, const uint8_t *input, size_t input_len, uint8_t *output,
-                             size_t output_len, uint32_t ended, uint64_t most) {
+                                    size_t output_len, uint32_t ended, uint64_t most) {
     struct lent lent;
     struct engine_report report;
     engine_turn(lend(&lent), address_of(&report), address_of(machine), address_of(input), input_len,
