@@ -64,7 +64,7 @@ returns-in-Some-clause-turns c = λ going.
         (
           λ e. (let one = inputs e in let counts = c.step.ensures.input_failed in absurd (omega (arith, one, counts))),
           not-broken c.in-Some.fate (moment old source (written_to sink)) new (length sink.room.now) going room answers
-          (λ e. (let one = outputs e in let counts = c.step.ensures.output_failed in broken-more c.step.new.sink (length sink.room.now) size.1 (omega (arith, one, counts, c.requires.sink_sound.0)))),
+              (λ e. (let one = outputs e in let counts = c.step.ensures.output_failed in broken-more c.step.new.sink (length sink.room.now) size.1 (omega (arith, one, counts, c.requires.sink_sound.0)))),
         ),
         answers,
       ),
