@@ -4,7 +4,7 @@
  * and what compilers make of it (memcpy, memset) alone.
  *
  * Crates: trac_language trac_space trac_values trac_store trac_forms trac_devices trac_functions trac_laws trac_core trac_c
- * Sources: 22c9070b3fa12ad3a3f1e3091c751a3687b6d481ede4320620e286284bc20dab
+ * Sources: 77da69f5b8fa75558804ef9283d85d03b70f18f7f47d022dbc6127f69d683c4c
  * Kit: rattle-kit-13f logic dac8208d650f15bf
  * Tools: wasm-opt version 108, wabt 1.0.32
  */
@@ -102,17 +102,9 @@ static const u8 tables[3040] = {
     168, 169, 170, 171, 172, 173, 174, 175, 176, 177, 178, 179, 180, 181, 182, 183, 184, 185, 186, 187, 188, 189, 190, 191,
     192, 193, 194, 195, 196, 197, 198, 199, 200, 201, 202, 203, 204, 205, 206, 207, 208, 209, 210, 211, 212, 213, 214, 215,
     216, 217, 218, 219, 220, 221, 222, 223, 224, 225, 226, 227, 228, 229, 230, 231, 232, 233, 234, 235, 236, 237, 238, 239,
-    240, 241, 242, 243, 244, 245, 246, 247, 248, 249, 250, 251, 252, 253, 254, 255, 48, 48, 48, 49, 48, 50, 48, 51,
-    48, 52, 48, 53, 48, 54, 48, 55, 48, 56, 48, 57, 49, 48, 49, 49, 49, 50, 49, 51, 49, 52, 49, 53,
-    49, 54, 49, 55, 49, 56, 49, 57, 50, 48, 50, 49, 50, 50, 50, 51, 50, 52, 50, 53, 50, 54, 50, 55,
-    50, 56, 50, 57, 51, 48, 51, 49, 51, 50, 51, 51, 51, 52, 51, 53, 51, 54, 51, 55, 51, 56, 51, 57,
-    52, 48, 52, 49, 52, 50, 52, 51, 52, 52, 52, 53, 52, 54, 52, 55, 52, 56, 52, 57, 53, 48, 53, 49,
-    53, 50, 53, 51, 53, 52, 53, 53, 53, 54, 53, 55, 53, 56, 53, 57, 54, 48, 54, 49, 54, 50, 54, 51,
-    54, 52, 54, 53, 54, 54, 54, 55, 54, 56, 54, 57, 55, 48, 55, 49, 55, 50, 55, 51, 55, 52, 55, 53,
-    55, 54, 55, 55, 55, 56, 55, 57, 56, 48, 56, 49, 56, 50, 56, 51, 56, 52, 56, 53, 56, 54, 56, 55,
-    56, 56, 56, 57, 57, 48, 57, 49, 57, 50, 57, 51, 57, 52, 57, 53, 57, 54, 57, 55, 57, 56, 57, 57,
+    240, 241, 242, 243, 244, 245, 246, 247, 248, 249, 250, 251, 252, 253, 254, 255, 0, 0, 0, 0, 0, 0, 0, 0,
     0, 0, 0, 0, 0, 0, 0, 0, 0, 0, 0, 0, 0, 0, 0, 0, 0, 0, 0, 0, 0, 0, 0, 0,
-    0, 0, 0, 0, 0, 0, 0, 0, 0, 0, 0, 0, 0, 0, 0, 0, 1, 16, 0, 0, 0, 0, 0, 0,
+    0, 0, 0, 0, 0, 0, 0, 0, 1, 16, 0, 0, 0, 0, 0, 0, 0, 0, 0, 0, 0, 0, 0, 0,
     0, 0, 0, 0, 0, 0, 0, 0, 0, 0, 0, 0, 0, 0, 0, 0, 0, 0, 0, 0, 0, 0, 0, 0,
     0, 0, 0, 0, 0, 0, 0, 0, 0, 0, 0, 0, 0, 0, 0, 0, 0, 0, 0, 0, 0, 0, 0, 0,
     0, 0, 0, 0, 0, 0, 0, 0, 0, 0, 0, 0, 0, 0, 0, 0, 0, 0, 0, 0, 0, 0, 0, 0,
@@ -121,9 +113,10 @@ static const u8 tables[3040] = {
     0, 0, 0, 0, 0, 0, 0, 0, 0, 0, 0, 0, 0, 0, 0, 0, 0, 0, 0, 0, 0, 0, 0, 0,
     0, 0, 0, 0, 0, 0, 0, 0, 0, 0, 0, 0, 0, 0, 0, 0, 0, 0, 0, 0, 0, 0, 0, 0,
     0, 0, 0, 0, 0, 0, 0, 0, 0, 0, 0, 0, 0, 0, 0, 0, 0, 0, 0, 0, 0, 0, 0, 0,
+    0, 0, 0, 0, 0, 0, 0, 0, 0, 0, 0, 0, 0, 0, 0, 0, 0, 2, 2, 0, 0, 2, 0, 0,
+    0, 0, 0, 0, 0, 0, 0, 0, 0, 0, 0, 0, 0, 0, 0, 0, 0, 0, 0, 2, 0, 0, 0, 0,
+    2, 2, 0, 0, 1, 0, 0, 0, 0, 0, 0, 0, 0, 0, 0, 0, 0, 0, 0, 0, 0, 0, 0, 0,
     0, 0, 0, 0, 0, 0, 0, 0, 0, 0, 0, 0, 0, 0, 0, 0, 0, 0, 0, 0, 0, 0, 0, 0,
-    0, 2, 2, 0, 0, 2, 0, 0, 0, 0, 0, 0, 0, 0, 0, 0, 0, 0, 0, 0, 0, 0, 0, 0,
-    0, 0, 0, 2, 0, 0, 0, 0, 2, 2, 0, 0, 1, 0, 0, 0, 0, 0, 0, 0, 0, 0, 0, 0,
     0, 0, 0, 0, 0, 0, 0, 0, 0, 0, 0, 0, 0, 0, 0, 0, 0, 0, 0, 0, 0, 0, 0, 0,
     0, 0, 0, 0, 0, 0, 0, 0, 0, 0, 0, 0, 0, 0, 0, 0, 0, 0, 0, 0, 0, 0, 0, 0,
     0, 0, 0, 0, 0, 0, 0, 0, 0, 0, 0, 0, 0, 0, 0, 0, 0, 0, 0, 0, 0, 0, 0, 0,
@@ -131,8 +124,8 @@ static const u8 tables[3040] = {
     0, 0, 0, 0, 0, 0, 0, 0, 0, 0, 0, 0, 0, 0, 0, 0, 0, 0, 0, 0, 0, 0, 0, 0,
     0, 0, 0, 0, 0, 0, 0, 0, 0, 0, 0, 0, 0, 0, 0, 0, 0, 0, 0, 0, 0, 0, 0, 0,
     0, 0, 0, 0, 0, 0, 0, 0, 0, 0, 0, 0, 0, 0, 0, 0, 0, 0, 0, 0, 0, 0, 0, 0,
+    35, 40, 112, 115, 44, 35, 40, 114, 115, 41, 41, 0, 0, 0, 0, 0, 0, 0, 0, 0, 0, 0, 0, 0,
     0, 0, 0, 0, 0, 0, 0, 0, 0, 0, 0, 0, 0, 0, 0, 0, 0, 0, 0, 0, 0, 0, 0, 0,
-    0, 0, 0, 0, 0, 0, 0, 0, 35, 40, 112, 115, 44, 35, 40, 114, 115, 41, 41, 0, 0, 0, 0, 0,
     0, 0, 0, 0, 0, 0, 0, 0, 0, 0, 0, 0, 0, 0, 0, 0, 0, 0, 0, 0, 0, 0, 0, 0,
     0, 0, 0, 0, 0, 0, 0, 0, 0, 0, 0, 0, 0, 0, 0, 0, 0, 0, 0, 0, 0, 0, 0, 0,
     0, 0, 0, 0, 0, 0, 0, 0, 0, 0, 0, 0, 0, 0, 0, 0, 0, 0, 0, 0, 0, 0, 0, 0,
@@ -216,8 +209,15 @@ static const u8 tables[3040] = {
     0, 0, 0, 0, 0, 0, 0, 0, 0, 0, 0, 0, 0, 0, 0, 0, 0, 0, 0, 0, 0, 0, 0, 0,
     0, 0, 0, 0, 0, 0, 0, 0, 0, 0, 0, 0, 0, 0, 0, 0, 0, 0, 0, 0, 0, 0, 0, 0,
     0, 0, 0, 0, 0, 0, 0, 0, 0, 0, 0, 0, 0, 0, 0, 0, 0, 0, 0, 0, 0, 0, 0, 0,
-    0, 0, 0, 0, 0, 0, 0, 0, 0, 0, 0, 0, 0, 0, 0, 0, 0, 0, 0, 0, 0, 0, 0, 0,
-    0, 0, 0, 0, 0, 0, 0, 0, 0, 0, 0, 0, 1, 2, 0, 0, 0, 0, 0, 0, 0, 0, 0, 0,
+    0, 0, 0, 0, 48, 48, 48, 49, 48, 50, 48, 51, 48, 52, 48, 53, 48, 54, 48, 55, 48, 56, 48, 57,
+    49, 48, 49, 49, 49, 50, 49, 51, 49, 52, 49, 53, 49, 54, 49, 55, 49, 56, 49, 57, 50, 48, 50, 49,
+    50, 50, 50, 51, 50, 52, 50, 53, 50, 54, 50, 55, 50, 56, 50, 57, 51, 48, 51, 49, 51, 50, 51, 51,
+    51, 52, 51, 53, 51, 54, 51, 55, 51, 56, 51, 57, 52, 48, 52, 49, 52, 50, 52, 51, 52, 52, 52, 53,
+    52, 54, 52, 55, 52, 56, 52, 57, 53, 48, 53, 49, 53, 50, 53, 51, 53, 52, 53, 53, 53, 54, 53, 55,
+    53, 56, 53, 57, 54, 48, 54, 49, 54, 50, 54, 51, 54, 52, 54, 53, 54, 54, 54, 55, 54, 56, 54, 57,
+    55, 48, 55, 49, 55, 50, 55, 51, 55, 52, 55, 53, 55, 54, 55, 55, 55, 56, 55, 57, 56, 48, 56, 49,
+    56, 50, 56, 51, 56, 52, 56, 53, 56, 54, 56, 55, 56, 56, 56, 57, 57, 48, 57, 49, 57, 50, 57, 51,
+    57, 52, 57, 53, 57, 54, 57, 55, 57, 56, 57, 57, 1, 2, 0, 0, 0, 0, 0, 0, 0, 0, 0, 0,
     0, 0, 0, 0, 0, 0, 0, 0, 0, 0, 0, 0, 0, 0, 0, 0,
 };
 
@@ -228,9 +228,6 @@ static u32 core_machine_Machine_awaits(struct engine *e, u64 l0);
 static void functions_arguments_Arguments_next(struct engine *e, u64 l0, u64 l1, u64 l2);
 static void functions_function_function_of(struct engine *e, u64 l0, u64 l1, u64 l2);
 static u32 store_arguments_before_far_comma(struct engine *e, u64 l0, u64 l1);
-static void itoa_Buffer_format(struct engine *e, u64 l0, u64 l1, u32 l2);
-static u32 core_display_show_form(struct engine *e, u64 l0, u64 l1);
-static u32 core_display_show_items(struct engine *e, u64 l0, u32 l1, u32 l2, u64 l3);
 static void core_scan_pass(struct engine *e, u64 l0, u64 l1, u64 l2, u64 l3, u64 l4);
 static u32 space_space_Space_find_way(struct engine *e, u64 l0, u64 l1);
 static void space_space_write_bytes(struct engine *e, u64 l0, u64 l1, u64 l2);
@@ -267,11 +264,15 @@ static void space_copies_copy_more(struct engine *e, u64 l0, u64 l1, u64 l2, u64
 static void space_copies_copy_parts(struct engine *e, u64 l0, u64 l1, u64 l2);
 static void space_space_Space_move_active(struct engine *e, u64 l0, u32 l1);
 static void forms_work_Work_stored(struct engine *e, u64 l0, u64 l1, u32 l2);
+static u32 core_display_show_form(struct engine *e, u64 l0, u64 l1);
 static void store_index_index_worthwhile(struct engine *e, u64 l0, u32 l1, u64 l2);
 static void store_store_find_some(struct engine *e, u64 l0, u64 l1, u32 l2, u32 l3, u32 l4, u64 l5, u64 l6);
 static void store_store_find_round(struct engine *e, u64 l0, u64 l1, u32 l2, u32 l3, u32 l4, u64 l5, u64 l6);
 static u32 store_index_index_fitting(struct engine *e, u64 l0, u32 l1);
 static void store_index_index_from(struct engine *e, u64 l0, u32 l1, u32 l2, u32 l3);
+static u32 store_store_place_of(struct engine *e, u64 l0, u32 l1, u32 l2, u32 l3);
+static u32 core_display_show_items(struct engine *e, u64 l0, u32 l1, u32 l2, u64 l3);
+static void itoa_Buffer_format(struct engine *e, u64 l0, u64 l1, u32 l2);
 static u32 forms_work_Work_load_other_part(struct engine *e, u64 l0, u32 l1, u32 l2);
 static u32 functions_arguments_put_part(struct engine *e, u64 l0, u32 l1, u32 l2);
 static u32 values_number_long_greater(struct engine *e, u64 l0, u64 l1, u64 l2, u64 l3);
@@ -288,15 +289,12 @@ static void store_define_take_out(struct engine *e, u64 l0, u32 l1, u32 l2, u32 
 static void space_space_Space_remove_store(struct engine *e, u64 l0, u32 l1, u32 l2);
 static void space_filling_fill_each(struct engine *e, u64 l0, u64 l1, u64 l2, u64 l3, u64 l4, u64 l5);
 static u32 store_fill_fill_without_list(struct engine *e, u64 l0, u32 l1, u32 l2, u32 l3, u32 l4);
+static void forms_work_Work_form(struct engine *e, u64 l0, u64 l1, u32 l2);
 static u32 core_machine_Machine_prints(struct engine *e, u64 l0);
 static u64 engine_active(struct engine *e, u64 l0, u64 l1, u64 l2);
 static void engine_again(struct engine *e, u64 l0, u64 l1);
 static u32 engine_awaits(struct engine *e, u64 l0);
-static u64 engine_form_codes(struct engine *e, u64 l0, u64 l1, u64 l2, u64 l3);
 static u64 engine_form_count(struct engine *e, u64 l0);
-static u64 engine_form_name(struct engine *e, u64 l0, u64 l1, u64 l2, u64 l3);
-static u64 engine_form_pointer(struct engine *e, u64 l0, u64 l1);
-static u64 engine_form_text(struct engine *e, u64 l0, u64 l1, u64 l2, u64 l3);
 static u64 engine_machine_size(struct engine *e);
 static u32 engine_meta(struct engine *e, u64 l0);
 static u64 engine_neutral(struct engine *e, u64 l0, u64 l1, u64 l2);
@@ -304,6 +302,10 @@ static u32 engine_open(struct engine *e, u64 l0, u64 l1, u64 l2, u64 l3);
 static u64 engine_part(struct engine *e, u64 l0, u32 l1);
 static u32 engine_rule(struct engine *e, u64 l0);
 static void engine_run(struct engine *e, u64 l0, u64 l1, u64 l2, u64 l3, u64 l4, u64 l5, u64 l6, u64 l7);
+static u64 engine_form_codes(struct engine *e, u64 l0, u64 l1, u64 l2, u64 l3);
+static u64 engine_form_name(struct engine *e, u64 l0, u64 l1, u64 l2, u64 l3);
+static u64 engine_form_pointer(struct engine *e, u64 l0, u64 l1);
+static u64 engine_form_text(struct engine *e, u64 l0, u64 l1, u64 l2, u64 l3);
 static void engine_turn(struct engine *e, u64 l0, u64 l1, u64 l2, u64 l3, u64 l4, u64 l5, u32 l6, u64 l7);
 
 static void multi3(struct engine *e, u64 l0, u64 l1, u64 l2, u64 l3, u64 l4) {
@@ -833,263 +835,6 @@ static u32 store_arguments_before_far_comma(struct engine *e, u64 l0, u64 l1) {
     return 0;
 }
 
-static void itoa_Buffer_format(struct engine *e, u64 l0, u64 l1, u32 l2) {
-    u64 l3 = 0;
-    u64 l4 = 0;
-    u64 l5 = 0;
-    u64 l6 = 0;
-    u32 l7 = 0;
-    if ((i64)(e->stack_pointer - e->stack) >= (i64)16ull) {
-        l4 = (u64)l2;
-        l3 = 40ull;
-        if (l2 >= 10000u) {
-            L3:;
-            {
-                l5 = l1 + l3;
-                l6 = l4;
-                l4 = l4 / 10000ull;
-                l2 = (u32)((l6 - (l4 * 10000ull)));
-                l7 = (l2 & 65535u) / 100u;
-                const u32 t4 = load16(((u64)l7 << 1) + TABLES + 256u);
-                store16(l5 - 4ull, (u16)t4);
-                const u32 t5 = load16((((u64)((l2 - (l7 * 100u))) & 65535ull) << 1) + TABLES + 256u);
-                store16(l5 - 2ull, (u16)t5);
-                l3 = l3 - 4ull;
-                if (l6 > 99999999ull) goto L3;
-            }
-        }
-        {
-            if (l4 <= 99ull) {
-                if (l4 <= 9ull) {
-                    l3 = l3 - 1ull;
-                    store8(l1 + l3, (u8)(((u32)l4 | 48u)));
-                    goto L6;
-                }
-                l3 = l3 - 2ull;
-                const u32 t9 = load16((l4 << 1) + TABLES + 256u);
-                store16(l1 + l3, (u16)t9);
-                goto L6;
-            }
-            l2 = (u32)l4;
-            const u32 t10 = l2;
-            l2 = (l2 & 65535u) / 100u;
-            const u32 t11 = load16((((u64)((t10 - (l2 * 100u))) & 65535ull) << 1) + TABLES + 256u);
-            store16((l1 + l3) - 2ull, (u16)t11);
-            if (l4 <= 999ull) {
-                l3 = l3 - 3ull;
-                store8(l1 + l3, (u8)(l2 | 48u));
-                goto L6;
-            }
-            l3 = l3 - 4ull;
-            const u32 t13 = load16(((u64)l2 << 1) + TABLES + 256u);
-            store16(l1 + l3, (u16)t13);
-        }
-        L6:;
-        store64(l0 + 8u, 40ull - l3);
-        store64(l0, l1 + l3);
-        return;
-    }
-    trap();
-}
-
-static u32 core_display_show_form(struct engine *e, u64 l0, u64 l1) {
-    u64 l2 = 0;
-    u64 l3 = 0;
-    u64 l4 = 0;
-    u64 l5 = 0;
-    u32 l6 = 0;
-    l4 = e->stack_pointer;
-    if ((i64)(l4 - e->stack) >= (i64)16ull) {
-        const u32 t2 = load32(l0 + 32ull);
-        l6 = t2;
-        const u32 t3 = core_display_show_items(e, l0, 0u, l6, l1);
-        if ((t3 & 255u) == 0) {
-            {
-                l3 = l1 + 16ull;
-                const u64 t6 = load64(l3);
-                l2 = t6;
-                l5 = l1 + 8ull;
-                const u64 t7 = load64(l5);
-                if (l2 >= t7) goto L5;
-                const u64 t8 = load64(l1);
-                store8(t8 + l2, (u8)60u);
-                const u64 t9 = load64(l3);
-                l2 = t9 + 1ull;
-                store64(l3, l2);
-                const u64 t10 = load64(l5);
-                if (l2 >= t10) goto L5;
-                const u64 t11 = load64(l1);
-                store8(t11 + l2, (u8)94u);
-                l3 = l1 + 16ull;
-                const u64 t12 = load64(l3);
-                l2 = t12 + 1ull;
-                store64(l3, l2);
-                const u64 t13 = load64(l1 + 8ull);
-                if (l2 >= t13) goto L5;
-                const u64 t14 = load64(l1);
-                store8(t14 + l2, (u8)62u);
-                const u64 t15 = load64(l3);
-                store64(l3, t15 + 1ull);
-                const u32 t16 = load32(l0 + 24ull);
-                const u32 t17 = core_display_show_items(e, l0, l6, t16, l1);
-                l6 = t17;
-                e->stack_pointer = l4;
-                return l6 & 255u;
-            }
-            L5:;
-            l1 = l1 + 24ull;
-            const u64 t18 = load64(l1);
-            store64(l1, t18 + 1ull);
-        }
-        e->stack_pointer = l4;
-        return 1u;
-    }
-    trap();
-    return 0;
-}
-
-static u32 core_display_show_items(struct engine *e, u64 l0, u32 l1, u32 l2, u64 l3) {
-    u64 l4 = 0;
-    u64 l5 = 0;
-    u64 l6 = 0;
-    u64 l7 = 0;
-    u64 l8 = 0;
-    u64 l9 = 0;
-    u32 l10 = 0;
-    l4 = e->stack_pointer - 64ull;
-    e->stack_pointer = l4;
-    {
-        {
-            l5 = l4;
-            if ((i64)(l5 - e->stack) >= (i64)16ull) {
-                if (l1 >= l2) goto L1;
-                l9 = (u64)l2;
-                l7 = (u64)l1;
-                L4:;
-                {
-                    {
-                        const u64 t6 = load64(l0 + 24ull);
-                        if (t6 <= l7) goto L5;
-                        l2 = 0u;
-                        {
-                            {
-                                {
-                                    const u64 t10 = load64(l0 + 16ull);
-                                    l4 = t10 + (l7 << 3);
-                                    const u64 t11 = load8(l4);
-                                    switch ((u32)t11 - 1u) {
-                                    case 0: goto L7;
-                                    case 1: goto L7;
-                                    case 2: goto L8;
-                                    case 3: goto L7;
-                                    default: goto L9;
-                                    }
-                                }
-                                L9:;
-                                l6 = l3 + 16ull;
-                                const u64 t12 = load64(l6);
-                                l8 = t12;
-                                const u64 t13 = load64(l3 + 8ull);
-                                if (l8 < t13) {
-                                    const u64 t15 = load64(l3);
-                                    const u32 t16 = load8(l4 + 1ull);
-                                    store8(t15 + l8, (u8)t16);
-                                    const u64 t17 = load64(l6);
-                                    store64(l6, t17 + 1ull);
-                                    goto L5;
-                                }
-                                l3 = l3 + 24ull;
-                                const u64 t18 = load64(l3);
-                                store64(l3, t18 + 1ull);
-                                l10 = 1u;
-                                goto L1;
-                            }
-                            L8:;
-                            const u32 t19 = load32(l4 + 4ull);
-                            l2 = t19;
-                        }
-                        L7:;
-                        store64(l5 + 56u, 0ull);
-                        store64(l5 + 48u, 0ull);
-                        store64(l5 + 40u, 0ull);
-                        store64(l5 + 32u, 0ull);
-                        store64(l5 + 24u, 0ull);
-                        l6 = l3 + 16ull;
-                        const u64 t20 = load64(l6);
-                        l4 = t20;
-                        const u64 t21 = load64(l3 + 8ull);
-                        if (l4 >= t21) goto L2;
-                        const u64 t22 = load64(l3);
-                        store8(t22 + l4, (u8)60u);
-                        const u64 t23 = load64(l6);
-                        l4 = t23 + 1ull;
-                        store64(l6, l4);
-                        itoa_Buffer_format(e, l5 + 8ull, l5 + 24ull, l2);
-                        {
-                            {
-                                const u64 t26 = load64(l5 + 16u);
-                                l8 = t26;
-                                if ((l8 == 0) == 0) {
-                                    const u64 t28 = load64(l5 + 8u);
-                                    l6 = t28;
-                                    L29:;
-                                    {
-                                        const u64 t30 = load64(l3 + 8ull);
-                                        if (l4 >= t30) goto L25;
-                                        const u64 t31 = load64(l3);
-                                        const u32 t32 = load8(l6);
-                                        store8(t31 + l4, (u8)t32);
-                                        l4 = l3 + 16ull;
-                                        const u64 t33 = load64(l4);
-                                        const u64 t34 = l4;
-                                        l4 = t33 + 1ull;
-                                        store64(t34, l4);
-                                        l6 = l6 + 1ull;
-                                        l8 = l8 - 1ull;
-                                        if ((l8 == 0) == 0) goto L29;
-                                    }
-                                }
-                                const u64 t35 = load64(l3 + 8ull);
-                                if (l4 < t35) goto L24;
-                                l3 = l3 + 24ull;
-                                const u64 t36 = load64(l3);
-                                store64(l3, t36 + 1ull);
-                                l10 = 1u;
-                                goto L1;
-                            }
-                            L25:;
-                            l3 = l3 + 24ull;
-                            const u64 t37 = load64(l3);
-                            store64(l3, t37 + 1ull);
-                            l10 = 1u;
-                            goto L1;
-                        }
-                        L24:;
-                        const u64 t38 = load64(l3);
-                        store8(t38 + l4, (u8)62u);
-                        l4 = l3 + 16ull;
-                        const u64 t39 = load64(l4);
-                        store64(l4, t39 + 1ull);
-                    }
-                    L5:;
-                    l7 = l7 + 1ull;
-                    if (l7 != l9) goto L4;
-                }
-                goto L1;
-            }
-            trap();
-        }
-        L2:;
-        l3 = l3 + 24ull;
-        const u64 t40 = load64(l3);
-        store64(l3, t40 + 1ull);
-        l10 = 1u;
-    }
-    L1:;
-    e->stack_pointer = l5 + 64ull;
-    return l10;
-}
-
 static void core_scan_pass(struct engine *e, u64 l0, u64 l1, u64 l2, u64 l3, u64 l4) {
     u32 l5 = 0;
     u32 l6 = 0;
@@ -1187,22 +932,22 @@ static void core_scan_pass(struct engine *e, u64 l0, u64 l1, u64 l2, u64 l3, u64
                                                                                                             L38:;
                                                                                                             {
                                                                                                                 const u64 t39 = load8(l4 + 57ull);
-                                                                                                                const u32 t40 = load8(t39 + TABLES + 456u);
+                                                                                                                const u32 t40 = load8(t39 + TABLES + 256u);
                                                                                                                 const u64 t41 = load8(l4 + 49ull);
-                                                                                                                const u32 t42 = load8(t41 + TABLES + 456u);
+                                                                                                                const u32 t42 = load8(t41 + TABLES + 256u);
                                                                                                                 const u64 t43 = load8(l4 + 41ull);
-                                                                                                                const u32 t44 = load8(t43 + TABLES + 456u);
+                                                                                                                const u32 t44 = load8(t43 + TABLES + 256u);
                                                                                                                 const u64 t45 = load8(l4 + 33ull);
-                                                                                                                const u32 t46 = load8(t45 + TABLES + 456u);
+                                                                                                                const u32 t46 = load8(t45 + TABLES + 256u);
                                                                                                                 const u64 t47 = load8(l4 + 25ull);
-                                                                                                                const u32 t48 = load8(t47 + TABLES + 456u);
+                                                                                                                const u32 t48 = load8(t47 + TABLES + 256u);
                                                                                                                 const u64 t49 = load8(l4 + 17ull);
-                                                                                                                const u32 t50 = load8(t49 + TABLES + 456u);
+                                                                                                                const u32 t50 = load8(t49 + TABLES + 256u);
                                                                                                                 const u64 t51 = load8(l4 + 9ull);
-                                                                                                                const u32 t52 = load8(t51 + TABLES + 456u);
+                                                                                                                const u32 t52 = load8(t51 + TABLES + 256u);
                                                                                                                 const u32 t53 = load8(l4 + 1ull);
                                                                                                                 l13 = t53;
-                                                                                                                const u32 t54 = load8((u64)l13 + TABLES + 456u);
+                                                                                                                const u32 t54 = load8((u64)l13 + TABLES + 256u);
                                                                                                                 l7 = t40 + (t42 + (t44 + (t46 + (t48 + (t50 + (t52 + t54))))));
                                                                                                                 if (l7 & 255u) {
                                                                                                                     {
@@ -1511,7 +1256,7 @@ static void core_scan_pass(struct engine *e, u64 l0, u64 l1, u64 l2, u64 l3, u64
                                                             {
                                                                 const u32 t111 = load8(l4);
                                                                 l5 = t111;
-                                                                const u32 t112 = load8(((u64)l5 & 255ull) + TABLES + 712u);
+                                                                const u32 t112 = load8(((u64)l5 & 255ull) + TABLES + 512u);
                                                                 if (t112 == 0) {
                                                                     store8(l2, (u8)0u);
                                                                     store32(l2 + 4ull, 0u);
@@ -1615,7 +1360,7 @@ static void core_scan_pass(struct engine *e, u64 l0, u64 l1, u64 l2, u64 l3, u64
                                                                 {
                                                                     const u32 t137 = load8(l4 + l16);
                                                                     l5 = t137;
-                                                                    const u32 t138 = load8(((u64)l5 & 255ull) + TABLES + 712u);
+                                                                    const u32 t138 = load8(((u64)l5 & 255ull) + TABLES + 512u);
                                                                     if (t138 == 0) {
                                                                         l15 = l4 + l17;
                                                                         store8(l15, (u8)0u);
@@ -1663,7 +1408,7 @@ static void core_scan_pass(struct engine *e, u64 l0, u64 l1, u64 l2, u64 l3, u64
                                                             {
                                                                 const u32 t146 = load8(l15);
                                                                 l5 = t146;
-                                                                const u32 t147 = load8(((u64)l5 & 255ull) + TABLES + 712u);
+                                                                const u32 t147 = load8(((u64)l5 & 255ull) + TABLES + 512u);
                                                                 if (t147 == 0) {
                                                                     store8(l4, (u8)0u);
                                                                     store32(l4 + 4ull, 0u);
@@ -1754,21 +1499,21 @@ static void core_scan_pass(struct engine *e, u64 l0, u64 l1, u64 l2, u64 l3, u64
                                                                         L168:;
                                                                         {
                                                                             const u64 t169 = load8(l15 + 49ull);
-                                                                            const u32 t170 = load8(t169 + TABLES + 712u);
+                                                                            const u32 t170 = load8(t169 + TABLES + 512u);
                                                                             const u64 t171 = load8(l15 + 41ull);
-                                                                            const u32 t172 = load8(t171 + TABLES + 712u);
+                                                                            const u32 t172 = load8(t171 + TABLES + 512u);
                                                                             const u64 t173 = load8(l15 + 33ull);
-                                                                            const u32 t174 = load8(t173 + TABLES + 712u);
+                                                                            const u32 t174 = load8(t173 + TABLES + 512u);
                                                                             const u64 t175 = load8(l15 + 25ull);
-                                                                            const u32 t176 = load8(t175 + TABLES + 712u);
+                                                                            const u32 t176 = load8(t175 + TABLES + 512u);
                                                                             const u64 t177 = load8(l15 + 17ull);
-                                                                            const u32 t178 = load8(t177 + TABLES + 712u);
+                                                                            const u32 t178 = load8(t177 + TABLES + 512u);
                                                                             const u64 t179 = load8(l15 + 9ull);
-                                                                            const u32 t180 = load8(t179 + TABLES + 712u);
+                                                                            const u32 t180 = load8(t179 + TABLES + 512u);
                                                                             const u64 t181 = load8(l15 + 1ull);
-                                                                            const u32 t182 = load8(t181 + TABLES + 712u);
+                                                                            const u32 t182 = load8(t181 + TABLES + 512u);
                                                                             const u64 t183 = load8(l15 + 57ull);
-                                                                            const u32 t184 = load8(t183 + TABLES + 712u);
+                                                                            const u32 t184 = load8(t183 + TABLES + 512u);
                                                                             const u32 t185 = ((t170 + (t172 + (t174 + (t176 + (t178 + (t180 + t182)))))) & 255u) != ((0u - t184) & 255u);
                                                                             if (t185) goto L167;
                                                                             l15 = l15 + 64ull;
@@ -1852,7 +1597,7 @@ static void core_scan_pass(struct engine *e, u64 l0, u64 l1, u64 l2, u64 l3, u64
                                                     {
                                                         const u32 t202 = load8(l15);
                                                         l5 = t202;
-                                                        const u32 t203 = load8(((u64)l5 & 255ull) + TABLES + 712u);
+                                                        const u32 t203 = load8(((u64)l5 & 255ull) + TABLES + 512u);
                                                         if (t203 == 0) {
                                                             store8(l2, (u8)0u);
                                                             store32(l2 + 4ull, 0u);
@@ -1948,7 +1693,7 @@ static void core_scan_pass(struct engine *e, u64 l0, u64 l1, u64 l2, u64 l3, u64
                             {
                                 const u32 t217 = load8(l2 + l17);
                                 l5 = t217;
-                                const u32 t218 = load8(((u64)l5 & 255ull) + TABLES + 712u);
+                                const u32 t218 = load8(((u64)l5 & 255ull) + TABLES + 512u);
                                 if (t218 == 0) {
                                     l16 = l2 + l18;
                                     store8(l16, (u8)0u);
@@ -2018,7 +1763,7 @@ static void core_scan_pass(struct engine *e, u64 l0, u64 l1, u64 l2, u64 l3, u64
                 {
                     const u32 t229 = load8(l2 + l16);
                     l5 = t229;
-                    const u32 t230 = load8(((u64)l5 & 255ull) + TABLES + 712u);
+                    const u32 t230 = load8(((u64)l5 & 255ull) + TABLES + 512u);
                     if (t230 == 0) {
                         l15 = l2 + l17;
                         store8(l15, (u8)0u);
@@ -2093,7 +1838,7 @@ static void space_space_write_bytes(struct engine *e, u64 l0, u64 l1, u64 l2) {
             L3:;
             {
                 {
-                    if ((l3 - (TABLES + 980u)) <= 63ull) {
+                    if ((l3 - (TABLES + 780u)) <= 63ull) {
                         store16(l3, (u16)0u);
                         store32(l3 + 60ull, 0u);
                         store16(l3 + 56ull, (u16)0u);
@@ -3214,9 +2959,9 @@ static void functions_arithmetic_arithmetic(struct engine *e, u64 l0, u64 l1, u3
                             l5 = l5 / 10000ull;
                             l21 = (u32)((l6 - (l5 * 10000ull)));
                             l22 = (l21 & 65535u) / 100u;
-                            const u32 t79 = load16(((u64)l22 << 1) + TABLES + 256u);
+                            const u32 t79 = load16(((u64)l22 << 1) + TABLES + 2812u);
                             store16(l7 - 4ull, (u16)t79);
-                            const u32 t80 = load16((((u64)((l21 - (l22 * 100u))) & 65535ull) << 1) + TABLES + 256u);
+                            const u32 t80 = load16((((u64)((l21 - (l22 * 100u))) & 65535ull) << 1) + TABLES + 2812u);
                             store16(l7 - 2ull, (u16)t80);
                             l3 = l3 - 4ull;
                             if (l6 > 99999999ull) goto L78;
@@ -3230,14 +2975,14 @@ static void functions_arithmetic_arithmetic(struct engine *e, u64 l0, u64 l1, u3
                                 goto L81;
                             }
                             l6 = l3 - 2ull;
-                            const u32 t84 = load16((l5 << 1) + TABLES + 256u);
+                            const u32 t84 = load16((l5 << 1) + TABLES + 2812u);
                             store16(l6 + (l4 + 208ull), (u16)t84);
                             goto L81;
                         }
                         l21 = (u32)l5;
                         const u32 t85 = l21;
                         l21 = (l21 & 65535u) / 100u;
-                        const u32 t86 = load16((((u64)((t85 - (l21 * 100u))) & 65535ull) << 1) + TABLES + 256u);
+                        const u32 t86 = load16((((u64)((t85 - (l21 * 100u))) & 65535ull) << 1) + TABLES + 2812u);
                         store16((l3 + l4) + 206ull, (u16)t86);
                         if (l5 <= 999ull) {
                             l6 = l3 - 3ull;
@@ -3245,7 +2990,7 @@ static void functions_arithmetic_arithmetic(struct engine *e, u64 l0, u64 l1, u3
                             goto L81;
                         }
                         l6 = l3 - 4ull;
-                        const u32 t88 = load16(((u64)l21 << 1) + TABLES + 256u);
+                        const u32 t88 = load16(((u64)l21 << 1) + TABLES + 2812u);
                         store16(l6 + (l4 + 208ull), (u16)t88);
                     }
                     L81:;
@@ -3333,9 +3078,9 @@ static void functions_arithmetic_arithmetic(struct engine *e, u64 l0, u64 l1, u3
                         l3 = l3 / 10000ull;
                         l21 = (u32)((l6 - (l3 * 10000ull)));
                         l22 = (l21 & 65535u) / 100u;
-                        const u32 t102 = load16(((u64)l22 << 1) + TABLES + 256u);
+                        const u32 t102 = load16(((u64)l22 << 1) + TABLES + 2812u);
                         store16(l5, (u16)t102);
-                        const u32 t103 = load16((((u64)((l21 - (l22 * 100u))) & 65535ull) << 1) + TABLES + 256u);
+                        const u32 t103 = load16((((u64)((l21 - (l22 * 100u))) & 65535ull) << 1) + TABLES + 2812u);
                         store16(l5 + 2ull, (u16)t103);
                         l12 = l12 - 4ull;
                         if (l6 > 99999999ull) goto L101;
@@ -3350,14 +3095,14 @@ static void functions_arithmetic_arithmetic(struct engine *e, u64 l0, u64 l1, u3
                             goto L104;
                         }
                         l6 = l12 - 2ull;
-                        const u32 t107 = load16((l3 << 1) + TABLES + 256u);
+                        const u32 t107 = load16((l3 << 1) + TABLES + 2812u);
                         store16(l6 + (l4 + 208ull), (u16)t107);
                         goto L104;
                     }
                     l21 = (u32)l3;
                     const u32 t108 = l21;
                     l21 = (l21 & 65535u) / 100u;
-                    const u32 t109 = load16((((u64)((t108 - (l21 * 100u))) & 65535ull) << 1) + TABLES + 256u);
+                    const u32 t109 = load16((((u64)((t108 - (l21 * 100u))) & 65535ull) << 1) + TABLES + 2812u);
                     store16((l4 + l12) + 206ull, (u16)t109);
                     if (l3 <= 999ull) {
                         l6 = l12 - 3ull;
@@ -3365,7 +3110,7 @@ static void functions_arithmetic_arithmetic(struct engine *e, u64 l0, u64 l1, u3
                         goto L104;
                     }
                     l6 = l12 - 4ull;
-                    const u32 t111 = load16(((u64)l21 << 1) + TABLES + 256u);
+                    const u32 t111 = load16(((u64)l21 << 1) + TABLES + 2812u);
                     store16(l6 + (l4 + 208ull), (u16)t111);
                 }
                 L104:;
@@ -8979,7 +8724,7 @@ static void functions_form_calls_delete_all(struct engine *e, u64 l0, u64 l1) {
                     l3 = l4 << 3;
                     l10 = l2 << 3;
                     l2 = l8 + l10;
-                    if (l3 > (l2 - (TABLES + 980u))) {
+                    if (l3 > (l2 - (TABLES + 780u))) {
                         l3 = l4 & 3ull;
                         l5 = 0ull;
                         const u64 t12 = l8;
@@ -9047,12 +8792,9 @@ static void functions_form_calls_list_names(struct engine *e, u64 l0, u64 l1, u6
     u32 l11 = 0;
     u32 l12 = 0;
     u64 l13 = 0;
-    u64 l14 = 0;
-    u64 l15 = 0;
-    l14 = e->stack_pointer - 32ull;
-    e->stack_pointer = l14;
+    l13 = e->stack_pointer - 32ull;
+    e->stack_pointer = l13;
     {
-        l13 = l14;
         if ((i64)(l13 - e->stack) >= (i64)16ull) {
             const u64 t3 = load64(l2 + 8u);
             store64(l13 + 24u, t3);
@@ -9068,181 +8810,107 @@ static void functions_form_calls_list_names(struct engine *e, u64 l0, u64 l1, u6
                 l12 = t8;
                 L9:;
                 {
+                    forms_work_Work_form(e, l13, l1, l8);
                     {
-                        const u32 t11 = load32(l1 + 40ull);
-                        if (t11 <= l6) goto L10;
-                        l14 = l1 + 48ull;
-                        const u32 t12 = load32(l14);
-                        l3 = t12;
-                        {
-                            l15 = l1 + 44ull;
-                            const u32 t14 = load32(l15);
-                            l8 = t14;
-                            if (l8 == l6) goto L13;
-                            if (l6 > l8) {
-                                const u32 t16 = load32(l1 + 16ull);
-                                l7 = t16;
-                                L17:;
-                                {
-                                    l4 = 3u;
-                                    if (l3 < l7) {
-                                        const u64 t19 = load64(l1);
-                                        l2 = t19 + ((u64)l3 << 3);
-                                        const u32 t20 = load32(l2 + 4ull);
-                                        const u32 t21 = load8(l2);
-                                        l4 = (t21 == 4u) ? (t20 + 3u) : 3u;
-                                    }
-                                    l5 = 0u;
-                                    l9 = l3 + 1u;
-                                    u32 v22;
-                                    if (l7 > l9) {
-                                        const u64 t23 = load64(l1);
-                                        l2 = t23 + ((u64)l9 << 3);
-                                        const u32 t24 = load32(l2 + 4ull);
-                                        const u32 t25 = load8(l2);
-                                        v22 = (t25 == 4u) ? t24 : 0u;
-                                    } else {
-                                        v22 = l5;
-                                    }
-                                    l3 = v22 + (l3 + l4);
-                                    l8 = l8 + 1u;
-                                    if (l6 != l8) goto L17;
-                                }
-                                goto L13;
-                            }
-                            if (l6 == 0) {
-                                l3 = 0u;
-                                goto L13;
-                            }
-                            const u32 t27 = load32(l1 + 16ull);
-                            l8 = t27;
-                            l3 = 0u;
-                            l7 = l6;
-                            L28:;
+                        const u32 t11 = load8(l13);
+                        if (t11 != 1u) goto L10;
+                        const u32 t12 = load32(l13 + 4u);
+                        l4 = t12;
+                        const u32 t13 = functions_arguments_put_part(e, l1, l12, l11);
+                        if (t13) {
+                            const u32 t15 = load32(l1 + 48ull);
+                            l3 = t15;
                             {
-                                l4 = 3u;
-                                if (l3 < l8) {
-                                    const u64 t30 = load64(l1);
-                                    l2 = t30 + ((u64)l3 << 3);
-                                    const u32 t31 = load32(l2 + 4ull);
-                                    const u32 t32 = load8(l2);
-                                    l4 = (t32 == 4u) ? (t31 + 3u) : 3u;
+                                const u32 t17 = load32(l1 + 44ull);
+                                l5 = t17;
+                                if (l5 == l4) {
+                                    const u32 t19 = load32(l1 + 16ull);
+                                    l5 = t19;
+                                    goto L16;
                                 }
-                                l5 = 0u;
-                                l9 = l3 + 1u;
-                                u32 v33;
-                                if (l8 > l9) {
-                                    const u64 t34 = load64(l1);
-                                    l2 = t34 + ((u64)l9 << 3);
-                                    const u32 t35 = load32(l2 + 4ull);
-                                    const u32 t36 = load8(l2);
-                                    v33 = (t36 == 4u) ? t35 : 0u;
-                                } else {
-                                    v33 = l5;
-                                }
-                                l3 = v33 + (l3 + l4);
-                                l7 = l7 - 1u;
-                                if (l7) goto L28;
-                            }
-                        }
-                        L13:;
-                        store32(l14, l3);
-                        store32(l15, l6);
-                        const u32 t37 = functions_arguments_put_part(e, l1, l12, l11);
-                        if (t37) {
-                            const u32 t39 = load32(l1 + 48ull);
-                            l3 = t39;
-                            {
-                                const u32 t41 = load32(l1 + 44ull);
-                                l7 = t41;
-                                if (l6 == l7) {
-                                    const u32 t43 = load32(l1 + 16ull);
-                                    l4 = t43;
-                                    goto L40;
-                                }
-                                if (l6 > l7) {
-                                    const u32 t45 = load32(l1 + 16ull);
-                                    l4 = t45;
-                                    L46:;
+                                if (l4 > l5) {
+                                    l7 = l4 - l5;
+                                    const u32 t21 = load32(l1 + 16ull);
+                                    l5 = t21;
+                                    L22:;
                                     {
-                                        l5 = 3u;
-                                        if (l3 < l4) {
-                                            const u64 t48 = load64(l1);
-                                            l2 = t48 + ((u64)l3 << 3);
-                                            const u32 t49 = load32(l2 + 4ull);
-                                            const u32 t50 = load8(l2);
-                                            l5 = (t50 == 4u) ? (t49 + 3u) : 3u;
+                                        l4 = 3u;
+                                        if (l3 < l5) {
+                                            const u64 t24 = load64(l1);
+                                            l2 = t24 + ((u64)l3 << 3);
+                                            const u32 t25 = load32(l2 + 4ull);
+                                            const u32 t26 = load8(l2);
+                                            l4 = (t26 == 4u) ? (t25 + 3u) : 3u;
                                         }
-                                        l8 = 0u;
+                                        l6 = 0u;
                                         l9 = l3 + 1u;
-                                        u32 v51;
-                                        if (l4 > l9) {
-                                            const u64 t52 = load64(l1);
-                                            l2 = t52 + ((u64)l9 << 3);
-                                            const u32 t53 = load32(l2 + 4ull);
-                                            const u32 t54 = load8(l2);
-                                            v51 = (t54 == 4u) ? t53 : 0u;
+                                        u32 v27;
+                                        if (l5 > l9) {
+                                            const u64 t28 = load64(l1);
+                                            l2 = t28 + ((u64)l9 << 3);
+                                            const u32 t29 = load32(l2 + 4ull);
+                                            const u32 t30 = load8(l2);
+                                            v27 = (t30 == 4u) ? t29 : 0u;
                                         } else {
-                                            v51 = l8;
+                                            v27 = l6;
                                         }
-                                        l3 = v51 + (l3 + l5);
-                                        l7 = l7 + 1u;
-                                        if (l6 != l7) goto L46;
+                                        l3 = v27 + (l3 + l4);
+                                        l7 = l7 - 1u;
+                                        if (l7) goto L22;
                                     }
-                                    goto L40;
+                                    goto L16;
                                 }
-                                const u32 t55 = load32(l1 + 16ull);
-                                l4 = t55;
+                                const u32 t31 = load32(l1 + 16ull);
+                                l5 = t31;
                                 l3 = 0u;
-                                if (l6 == 0) goto L40;
-                                l7 = l6;
-                                L56:;
+                                if (l4 == 0) goto L16;
+                                L32:;
                                 {
-                                    l5 = 3u;
-                                    if (l3 < l4) {
-                                        const u64 t58 = load64(l1);
-                                        l2 = t58 + ((u64)l3 << 3);
-                                        const u32 t59 = load32(l2 + 4ull);
-                                        const u32 t60 = load8(l2);
-                                        l5 = (t60 == 4u) ? (t59 + 3u) : 3u;
+                                    l6 = 3u;
+                                    if (l3 < l5) {
+                                        const u64 t34 = load64(l1);
+                                        l2 = t34 + ((u64)l3 << 3);
+                                        const u32 t35 = load32(l2 + 4ull);
+                                        const u32 t36 = load8(l2);
+                                        l6 = (t36 == 4u) ? (t35 + 3u) : 3u;
                                     }
-                                    l8 = 0u;
+                                    l7 = 0u;
                                     l9 = l3 + 1u;
-                                    u32 v61;
-                                    if (l4 > l9) {
-                                        const u64 t62 = load64(l1);
-                                        l2 = t62 + ((u64)l9 << 3);
-                                        const u32 t63 = load32(l2 + 4ull);
-                                        const u32 t64 = load8(l2);
-                                        v61 = (t64 == 4u) ? t63 : 0u;
+                                    u32 v37;
+                                    if (l5 > l9) {
+                                        const u64 t38 = load64(l1);
+                                        l2 = t38 + ((u64)l9 << 3);
+                                        const u32 t39 = load32(l2 + 4ull);
+                                        const u32 t40 = load8(l2);
+                                        v37 = (t40 == 4u) ? t39 : 0u;
                                     } else {
-                                        v61 = l8;
+                                        v37 = l7;
                                     }
-                                    l3 = v61 + (l3 + l5);
-                                    l7 = l7 - 1u;
-                                    if (l7) goto L56;
+                                    l3 = v37 + (l3 + l6);
+                                    l4 = l4 - 1u;
+                                    if (l4) goto L32;
                                 }
                             }
-                            L40:;
-                            l5 = 0u;
-                            if (l3 < l4) {
-                                const u64 t66 = load64(l1);
-                                l2 = t66 + ((u64)l3 << 3);
-                                const u32 t67 = load32(l2 + 4ull);
-                                const u32 t68 = load8(l2);
-                                l5 = (t68 == 4u) ? t67 : 0u;
+                            L16:;
+                            l4 = 0u;
+                            if (l3 < l5) {
+                                const u64 t42 = load64(l1);
+                                l2 = t42 + ((u64)l3 << 3);
+                                const u32 t43 = load32(l2 + 4ull);
+                                const u32 t44 = load8(l2);
+                                l4 = (t44 == 4u) ? t43 : 0u;
                             }
                             l3 = l3 + 3u;
-                            const u32 t69 = space_space_Space_copy_store(e, l1, l3, l3 + l5);
-                            if (t69) goto L10;
+                            const u32 t45 = space_space_Space_copy_store(e, l1, l3, l3 + l4);
+                            if (t45) goto L10;
                         }
                         store16(l0, (u16)0u);
                         store32(l0 + 4ull, 0u);
                         goto L1;
                     }
                     L10:;
-                    l6 = l6 + 1u;
-                    if (l6 != l10) goto L9;
+                    l8 = l8 + 1u;
+                    if (l8 != l10) goto L9;
                 }
             }
             store16(l0, (u16)1u);
@@ -13391,6 +13059,62 @@ static void forms_work_Work_stored(struct engine *e, u64 l0, u64 l1, u32 l2) {
     trap();
 }
 
+static u32 core_display_show_form(struct engine *e, u64 l0, u64 l1) {
+    u64 l2 = 0;
+    u64 l3 = 0;
+    u64 l4 = 0;
+    u64 l5 = 0;
+    u32 l6 = 0;
+    l4 = e->stack_pointer;
+    if ((i64)(l4 - e->stack) >= (i64)16ull) {
+        const u32 t2 = load32(l0 + 32ull);
+        l6 = t2;
+        const u32 t3 = core_display_show_items(e, l0, 0u, l6, l1);
+        if ((t3 & 255u) == 0) {
+            {
+                l3 = l1 + 16ull;
+                const u64 t6 = load64(l3);
+                l2 = t6;
+                l5 = l1 + 8ull;
+                const u64 t7 = load64(l5);
+                if (l2 >= t7) goto L5;
+                const u64 t8 = load64(l1);
+                store8(t8 + l2, (u8)60u);
+                const u64 t9 = load64(l3);
+                l2 = t9 + 1ull;
+                store64(l3, l2);
+                const u64 t10 = load64(l5);
+                if (l2 >= t10) goto L5;
+                const u64 t11 = load64(l1);
+                store8(t11 + l2, (u8)94u);
+                l3 = l1 + 16ull;
+                const u64 t12 = load64(l3);
+                l2 = t12 + 1ull;
+                store64(l3, l2);
+                const u64 t13 = load64(l1 + 8ull);
+                if (l2 >= t13) goto L5;
+                const u64 t14 = load64(l1);
+                store8(t14 + l2, (u8)62u);
+                const u64 t15 = load64(l3);
+                store64(l3, t15 + 1ull);
+                const u32 t16 = load32(l0 + 24ull);
+                const u32 t17 = core_display_show_items(e, l0, l6, t16, l1);
+                l6 = t17;
+                e->stack_pointer = l4;
+                return l6 & 255u;
+            }
+            L5:;
+            l1 = l1 + 24ull;
+            const u64 t18 = load64(l1);
+            store64(l1, t18 + 1ull);
+        }
+        e->stack_pointer = l4;
+        return 1u;
+    }
+    trap();
+    return 0;
+}
+
 static void store_index_index_worthwhile(struct engine *e, u64 l0, u32 l1, u64 l2) {
     u64 l3 = 0;
     u32 l4 = 0;
@@ -13641,7 +13365,7 @@ static u32 store_index_index_fitting(struct engine *e, u64 l0, u32 l1) {
                         l3 = l4 << 3;
                         l10 = l2 << 3;
                         l2 = l8 + l10;
-                        if (l3 > (l2 - (TABLES + 980u))) {
+                        if (l3 > (l2 - (TABLES + 780u))) {
                             l3 = l4 & 3ull;
                             l5 = 0ull;
                             const u64 t15 = l8;
@@ -13847,6 +13571,286 @@ static void store_index_index_from(struct engine *e, u64 l0, u32 l1, u32 l2, u32
         }
         L2:;
         e->stack_pointer = l11;
+        return;
+    }
+    trap();
+}
+
+static u32 store_store_place_of(struct engine *e, u64 l0, u32 l1, u32 l2, u32 l3) {
+    u64 l4 = 0;
+    u32 l5 = 0;
+    u32 l6 = 0;
+    u32 l7 = 0;
+    if ((i64)(e->stack_pointer - e->stack) >= (i64)16ull) {
+        {
+            if (l1 == l3) goto L2;
+            if (l1 < l3) {
+                l6 = l3 - l1;
+                const u32 t4 = load32(l0 + 16ull);
+                l5 = t4;
+                L5:;
+                {
+                    l3 = 3u;
+                    if (l2 < l5) {
+                        const u64 t7 = load64(l0);
+                        l4 = t7 + ((u64)l2 << 3);
+                        const u32 t8 = load32(l4 + 4ull);
+                        const u32 t9 = load8(l4);
+                        l3 = (t9 == 4u) ? (t8 + 3u) : 3u;
+                    }
+                    l1 = 0u;
+                    l7 = l2 + 1u;
+                    u32 v10;
+                    if (l5 > l7) {
+                        const u64 t11 = load64(l0);
+                        l4 = t11 + ((u64)l7 << 3);
+                        const u32 t12 = load32(l4 + 4ull);
+                        const u32 t13 = load8(l4);
+                        v10 = (t13 == 4u) ? t12 : 0u;
+                    } else {
+                        v10 = l1;
+                    }
+                    l2 = v10 + (l2 + l3);
+                    l6 = l6 - 1u;
+                    if (l6) goto L5;
+                }
+                goto L2;
+            }
+            if (l3 == 0) {
+                return 0u;
+            }
+            const u32 t15 = load32(l0 + 16ull);
+            l5 = t15;
+            l2 = 0u;
+            L16:;
+            {
+                l1 = 3u;
+                if (l2 < l5) {
+                    const u64 t18 = load64(l0);
+                    l4 = t18 + ((u64)l2 << 3);
+                    const u32 t19 = load32(l4 + 4ull);
+                    const u32 t20 = load8(l4);
+                    l1 = (t20 == 4u) ? (t19 + 3u) : 3u;
+                }
+                l7 = l2 + 1u;
+                u32 v21;
+                if (l5 > l7) {
+                    const u64 t22 = load64(l0);
+                    l4 = t22 + ((u64)l7 << 3);
+                    const u32 t23 = load32(l4 + 4ull);
+                    const u32 t24 = load8(l4);
+                    v21 = (t24 == 4u) ? t23 : 0u;
+                } else {
+                    v21 = l6;
+                }
+                l2 = v21 + (l1 + l2);
+                l3 = l3 - 1u;
+                if (l3) goto L16;
+            }
+        }
+        L2:;
+        return l2;
+    }
+    trap();
+    return 0;
+}
+
+static u32 core_display_show_items(struct engine *e, u64 l0, u32 l1, u32 l2, u64 l3) {
+    u64 l4 = 0;
+    u64 l5 = 0;
+    u64 l6 = 0;
+    u64 l7 = 0;
+    u64 l8 = 0;
+    u64 l9 = 0;
+    u32 l10 = 0;
+    l4 = e->stack_pointer - 64ull;
+    e->stack_pointer = l4;
+    {
+        {
+            l5 = l4;
+            if ((i64)(l5 - e->stack) >= (i64)16ull) {
+                if (l1 >= l2) goto L1;
+                l9 = (u64)l2;
+                l7 = (u64)l1;
+                L4:;
+                {
+                    {
+                        const u64 t6 = load64(l0 + 24ull);
+                        if (t6 <= l7) goto L5;
+                        l2 = 0u;
+                        {
+                            {
+                                {
+                                    const u64 t10 = load64(l0 + 16ull);
+                                    l4 = t10 + (l7 << 3);
+                                    const u64 t11 = load8(l4);
+                                    switch ((u32)t11 - 1u) {
+                                    case 0: goto L7;
+                                    case 1: goto L7;
+                                    case 2: goto L8;
+                                    case 3: goto L7;
+                                    default: goto L9;
+                                    }
+                                }
+                                L9:;
+                                l6 = l3 + 16ull;
+                                const u64 t12 = load64(l6);
+                                l8 = t12;
+                                const u64 t13 = load64(l3 + 8ull);
+                                if (l8 < t13) {
+                                    const u64 t15 = load64(l3);
+                                    const u32 t16 = load8(l4 + 1ull);
+                                    store8(t15 + l8, (u8)t16);
+                                    const u64 t17 = load64(l6);
+                                    store64(l6, t17 + 1ull);
+                                    goto L5;
+                                }
+                                l3 = l3 + 24ull;
+                                const u64 t18 = load64(l3);
+                                store64(l3, t18 + 1ull);
+                                l10 = 1u;
+                                goto L1;
+                            }
+                            L8:;
+                            const u32 t19 = load32(l4 + 4ull);
+                            l2 = t19;
+                        }
+                        L7:;
+                        store64(l5 + 56u, 0ull);
+                        store64(l5 + 48u, 0ull);
+                        store64(l5 + 40u, 0ull);
+                        store64(l5 + 32u, 0ull);
+                        store64(l5 + 24u, 0ull);
+                        l6 = l3 + 16ull;
+                        const u64 t20 = load64(l6);
+                        l4 = t20;
+                        const u64 t21 = load64(l3 + 8ull);
+                        if (l4 >= t21) goto L2;
+                        const u64 t22 = load64(l3);
+                        store8(t22 + l4, (u8)60u);
+                        const u64 t23 = load64(l6);
+                        l4 = t23 + 1ull;
+                        store64(l6, l4);
+                        itoa_Buffer_format(e, l5 + 8ull, l5 + 24ull, l2);
+                        {
+                            {
+                                const u64 t26 = load64(l5 + 16u);
+                                l8 = t26;
+                                if ((l8 == 0) == 0) {
+                                    const u64 t28 = load64(l5 + 8u);
+                                    l6 = t28;
+                                    L29:;
+                                    {
+                                        const u64 t30 = load64(l3 + 8ull);
+                                        if (l4 >= t30) goto L25;
+                                        const u64 t31 = load64(l3);
+                                        const u32 t32 = load8(l6);
+                                        store8(t31 + l4, (u8)t32);
+                                        l4 = l3 + 16ull;
+                                        const u64 t33 = load64(l4);
+                                        const u64 t34 = l4;
+                                        l4 = t33 + 1ull;
+                                        store64(t34, l4);
+                                        l6 = l6 + 1ull;
+                                        l8 = l8 - 1ull;
+                                        if ((l8 == 0) == 0) goto L29;
+                                    }
+                                }
+                                const u64 t35 = load64(l3 + 8ull);
+                                if (l4 < t35) goto L24;
+                                l3 = l3 + 24ull;
+                                const u64 t36 = load64(l3);
+                                store64(l3, t36 + 1ull);
+                                l10 = 1u;
+                                goto L1;
+                            }
+                            L25:;
+                            l3 = l3 + 24ull;
+                            const u64 t37 = load64(l3);
+                            store64(l3, t37 + 1ull);
+                            l10 = 1u;
+                            goto L1;
+                        }
+                        L24:;
+                        const u64 t38 = load64(l3);
+                        store8(t38 + l4, (u8)62u);
+                        l4 = l3 + 16ull;
+                        const u64 t39 = load64(l4);
+                        store64(l4, t39 + 1ull);
+                    }
+                    L5:;
+                    l7 = l7 + 1ull;
+                    if (l7 != l9) goto L4;
+                }
+                goto L1;
+            }
+            trap();
+        }
+        L2:;
+        l3 = l3 + 24ull;
+        const u64 t40 = load64(l3);
+        store64(l3, t40 + 1ull);
+        l10 = 1u;
+    }
+    L1:;
+    e->stack_pointer = l5 + 64ull;
+    return l10;
+}
+
+static void itoa_Buffer_format(struct engine *e, u64 l0, u64 l1, u32 l2) {
+    u64 l3 = 0;
+    u64 l4 = 0;
+    u64 l5 = 0;
+    u64 l6 = 0;
+    u32 l7 = 0;
+    if ((i64)(e->stack_pointer - e->stack) >= (i64)16ull) {
+        l4 = (u64)l2;
+        l3 = 40ull;
+        if (l2 >= 10000u) {
+            L3:;
+            {
+                l5 = l1 + l3;
+                l6 = l4;
+                l4 = l4 / 10000ull;
+                l2 = (u32)((l6 - (l4 * 10000ull)));
+                l7 = (l2 & 65535u) / 100u;
+                const u32 t4 = load16(((u64)l7 << 1) + TABLES + 2812u);
+                store16(l5 - 4ull, (u16)t4);
+                const u32 t5 = load16((((u64)((l2 - (l7 * 100u))) & 65535ull) << 1) + TABLES + 2812u);
+                store16(l5 - 2ull, (u16)t5);
+                l3 = l3 - 4ull;
+                if (l6 > 99999999ull) goto L3;
+            }
+        }
+        {
+            if (l4 <= 99ull) {
+                if (l4 <= 9ull) {
+                    l3 = l3 - 1ull;
+                    store8(l1 + l3, (u8)(((u32)l4 | 48u)));
+                    goto L6;
+                }
+                l3 = l3 - 2ull;
+                const u32 t9 = load16((l4 << 1) + TABLES + 2812u);
+                store16(l1 + l3, (u16)t9);
+                goto L6;
+            }
+            l2 = (u32)l4;
+            const u32 t10 = l2;
+            l2 = (l2 & 65535u) / 100u;
+            const u32 t11 = load16((((u64)((t10 - (l2 * 100u))) & 65535ull) << 1) + TABLES + 2812u);
+            store16((l1 + l3) - 2ull, (u16)t11);
+            if (l4 <= 999ull) {
+                l3 = l3 - 3ull;
+                store8(l1 + l3, (u8)(l2 | 48u));
+                goto L6;
+            }
+            l3 = l3 - 4ull;
+            const u32 t13 = load16(((u64)l2 << 1) + TABLES + 2812u);
+            store16(l1 + l3, (u16)t13);
+        }
+        L6:;
+        store64(l0 + 8u, 40ull - l3);
+        store64(l0, l1 + l3);
         return;
     }
     trap();
@@ -16955,6 +16959,109 @@ static u32 store_fill_fill_without_list(struct engine *e, u64 l0, u32 l1, u32 l2
     return l30;
 }
 
+static void forms_work_Work_form(struct engine *e, u64 l0, u64 l1, u32 l2) {
+    u32 l3 = 0;
+    u32 l4 = 0;
+    u32 l5 = 0;
+    u32 l6 = 0;
+    u32 l7 = 0;
+    u32 l8 = 0;
+    u64 l9 = 0;
+    u64 l10 = 0;
+    u64 l11 = 0;
+    if ((i64)(e->stack_pointer - e->stack) >= (i64)16ull) {
+        const u32 t2 = load32(l1 + 40ull);
+        const u64 t3 = l0;
+        u32 v4;
+        if (l2 < t2) {
+            l10 = l1 + 48ull;
+            const u32 t5 = load32(l10);
+            l3 = t5;
+            {
+                l11 = l1 + 44ull;
+                const u32 t7 = load32(l11);
+                l4 = t7;
+                if (l2 == l4) goto L6;
+                if (l2 > l4) {
+                    l5 = l2 - l4;
+                    const u32 t9 = load32(l1 + 16ull);
+                    l6 = t9;
+                    L10:;
+                    {
+                        l4 = 3u;
+                        if (l3 < l6) {
+                            const u64 t12 = load64(l1);
+                            l9 = t12 + ((u64)l3 << 3);
+                            const u32 t13 = load32(l9 + 4ull);
+                            const u32 t14 = load8(l9);
+                            l4 = (t14 == 4u) ? (t13 + 3u) : 3u;
+                        }
+                        l8 = l3 + 1u;
+                        u32 v15;
+                        if (l6 > l8) {
+                            const u64 t16 = load64(l1);
+                            l9 = t16 + ((u64)l8 << 3);
+                            const u32 t17 = load32(l9 + 4ull);
+                            const u32 t18 = load8(l9);
+                            v15 = (t18 == 4u) ? t17 : 0u;
+                        } else {
+                            v15 = l7;
+                        }
+                        l3 = v15 + (l3 + l4);
+                        l5 = l5 - 1u;
+                        if (l5) goto L10;
+                    }
+                    goto L6;
+                }
+                if (l2 == 0) {
+                    l3 = 0u;
+                    goto L6;
+                }
+                const u32 t20 = load32(l1 + 16ull);
+                l5 = t20;
+                l3 = 0u;
+                l6 = l2;
+                L21:;
+                {
+                    l4 = 3u;
+                    if (l3 < l5) {
+                        const u64 t23 = load64(l1);
+                        l9 = t23 + ((u64)l3 << 3);
+                        const u32 t24 = load32(l9 + 4ull);
+                        const u32 t25 = load8(l9);
+                        l4 = (t25 == 4u) ? (t24 + 3u) : 3u;
+                    }
+                    l8 = l3 + 1u;
+                    u32 v26;
+                    if (l5 > l8) {
+                        const u64 t27 = load64(l1);
+                        l9 = t27 + ((u64)l8 << 3);
+                        const u32 t28 = load32(l9 + 4ull);
+                        const u32 t29 = load8(l9);
+                        v26 = (t29 == 4u) ? t28 : 0u;
+                    } else {
+                        v26 = l7;
+                    }
+                    l3 = v26 + (l3 + l4);
+                    l6 = l6 - 1u;
+                    if (l6) goto L21;
+                }
+            }
+            L6:;
+            store32(l10, l3);
+            store32(l11, l2);
+            l4 = 1u;
+            v4 = l2;
+        } else {
+            v4 = l3;
+        }
+        store32(t3 + 4u, v4);
+        store8(l0, (u8)l4);
+        return;
+    }
+    trap();
+}
+
 static u32 core_machine_Machine_prints(struct engine *e, u64 l0) {
     u64 l1 = 0;
     u64 l2 = 0;
@@ -17263,120 +17370,6 @@ static u32 engine_awaits(struct engine *e, u64 l0) {
     return l1;
 }
 
-static u64 engine_form_codes(struct engine *e, u64 l0, u64 l1, u64 l2, u64 l3) {
-    u32 l4 = 0;
-    u32 l5 = 0;
-    u64 l6 = 0;
-    u64 l7 = 0;
-    u64 v1;
-    {
-        l6 = l2;
-        l7 = l3;
-        l2 = 0ull;
-        if ((i64)(e->stack_pointer - e->stack) >= (i64)16ull) {
-            {
-                const u32 t4 = load32(l0 + 40ull);
-                l4 = t4;
-                if (l1 >= (u64)l4) goto L3;
-                const u64 t5 = load64(l0);
-                l0 = t5;
-                {
-                    if (l1 == 0) goto L6;
-                    if (l1 != 1ull) {
-                        l3 = l1 & 1ull;
-                        l1 = l1 & 18446744073709551614ull;
-                        L8:;
-                        {
-                            u32 v9;
-                            if (l4) {
-                                const u64 t10 = load32(l0 + 4ull);
-                                const u64 t11 = load32(l0 + 12ull);
-                                l0 = (((t10 + t11) << 3) + l0) + 24ull;
-                                v9 = l4 - 1u;
-                            } else {
-                                v9 = 0u;
-                            }
-                            l4 = v9;
-                            u32 v12;
-                            if (l4) {
-                                const u64 t13 = load32(l0 + 4ull);
-                                const u64 t14 = load32(l0 + 12ull);
-                                l0 = (((t13 + t14) << 3) + l0) + 24ull;
-                                v12 = l4 - 1u;
-                            } else {
-                                v12 = 0u;
-                            }
-                            l4 = v12;
-                            l1 = l1 - 2ull;
-                            if (l1 != 0ull) goto L8;
-                        }
-                        if (l3 == 0) goto L6;
-                    }
-                    if (l4 == 0) {
-                        l4 = 0u;
-                        goto L6;
-                    }
-                    const u64 t16 = load32(l0 + 4ull);
-                    const u64 t17 = load32(l0 + 12ull);
-                    l0 = (((t16 + t17) << 3) + l0) + 24ull;
-                    l4 = l4 - 1u;
-                }
-                L6:;
-                if (l4 == 0) goto L3;
-                const u64 t18 = load32(l0 + 12ull);
-                l3 = t18;
-                if (l3 == 0) goto L3;
-                l2 = l6 + ((l6 == 0) ? 4096ull : 0ull);
-                const u64 t19 = load32(l0 + 4ull);
-                l0 = ((t19 << 3) + l0) + 28ull;
-                l1 = 0ull;
-                L20:;
-                {
-                    l4 = 255u;
-                    {
-                        {
-                            {
-                                const u64 t24 = load8(l0 - 4ull);
-                                switch ((u32)t24 - 1u) {
-                                case 0: goto L21;
-                                case 1: goto L21;
-                                case 2: goto L23;
-                                case 3: goto L21;
-                                default: goto L22;
-                                }
-                            }
-                            L23:;
-                            const u32 t25 = load32(l0);
-                            l4 = t25;
-                            l5 = l4 + 255u;
-                            l4 = (l4 > l5) ? 4294967295u : l5;
-                            goto L21;
-                        }
-                        L22:;
-                        const u32 t26 = load8(l0 - 3ull);
-                        l4 = t26;
-                    }
-                    L21:;
-                    if (l1 < l7) {
-                        store32(l2, l4);
-                    }
-                    l0 = l0 + 8ull;
-                    l2 = l2 + 4ull;
-                    l1 = l1 + 1ull;
-                    if (l3 != l1) goto L20;
-                }
-                l2 = l3;
-            }
-            L3:;
-            v1 = l2; goto L1;
-        }
-        trap();
-    }
-    L1:;
-    l3 = v1;
-    return l3;
-}
-
 static u64 engine_form_count(struct engine *e, u64 l0) {
     if ((i64)(e->stack_pointer - e->stack) <= (i64)15ull) {
         trap();
@@ -17384,332 +17377,6 @@ static u64 engine_form_count(struct engine *e, u64 l0) {
     const u64 t2 = load32(l0 + 40ull);
     l0 = t2;
     return l0;
-}
-
-static u64 engine_form_name(struct engine *e, u64 l0, u64 l1, u64 l2, u64 l3) {
-    u32 l4 = 0;
-    u64 l5 = 0;
-    u64 l6 = 0;
-    u64 l7 = 0;
-    u64 l8 = 0;
-    u64 v1;
-    {
-        if ((i64)(e->stack_pointer - e->stack) >= (i64)16ull) {
-            const u32 t3 = load32(l0 + 40ull);
-            l4 = t3;
-            if ((u64)l4 <= l1) { v1 = 0ull; goto L1; }
-            const u64 t4 = load64(l0);
-            l0 = t4;
-            {
-                if (l1 == 0) goto L5;
-                if (l1 != 1ull) {
-                    l5 = l1 & 1ull;
-                    l1 = l1 & 18446744073709551614ull;
-                    L7:;
-                    {
-                        u32 v8;
-                        if (l4) {
-                            const u64 t9 = load32(l0 + 4ull);
-                            const u64 t10 = load32(l0 + 12ull);
-                            l0 = (((t9 + t10) << 3) + l0) + 24ull;
-                            v8 = l4 - 1u;
-                        } else {
-                            v8 = 0u;
-                        }
-                        l4 = v8;
-                        u32 v11;
-                        if (l4) {
-                            const u64 t12 = load32(l0 + 4ull);
-                            const u64 t13 = load32(l0 + 12ull);
-                            l0 = (((t12 + t13) << 3) + l0) + 24ull;
-                            v11 = l4 - 1u;
-                        } else {
-                            v11 = 0u;
-                        }
-                        l4 = v11;
-                        l1 = l1 - 2ull;
-                        if (l1 != 0ull) goto L7;
-                    }
-                    if (l5 == 0) goto L5;
-                }
-                if (l4 == 0) {
-                    l4 = 0u;
-                    goto L5;
-                }
-                const u64 t15 = load32(l0 + 4ull);
-                const u64 t16 = load32(l0 + 12ull);
-                l0 = (((t15 + t16) << 3) + l0) + 24ull;
-                l4 = l4 - 1u;
-            }
-            L5:;
-            if (l4 == 0) { v1 = 0ull; goto L1; }
-            {
-                const u64 t18 = load32(l0 + 4ull);
-                l6 = t18;
-                l1 = (l3 < l6) ? l3 : l6;
-                if (l1 == 0) goto L17;
-                l5 = l2 + ((l2 == 0) ? 4096ull : 0ull);
-                l3 = 0ull;
-                if (l1 != 1ull) {
-                    l7 = l1 & 1ull;
-                    l8 = l1 & 4294967294ull;
-                    l1 = l0;
-                    L20:;
-                    {
-                        l2 = l3 + l5;
-                        const u32 t21 = load8(l1 + 24ull);
-                        const u64 t22 = l2;
-                        u32 v23;
-                        if (t21) {
-                            v23 = 0u;
-                        } else {
-                            const u32 t24 = load8(l1 + 25ull);
-                            v23 = t24;
-                        }
-                        store8(t22, (u8)v23);
-                        const u32 t25 = load8(l1 + 32ull);
-                        const u64 t26 = l2 + 1ull;
-                        u32 v27;
-                        if (t25) {
-                            v27 = 0u;
-                        } else {
-                            const u32 t28 = load8(l1 + 33ull);
-                            v27 = t28;
-                        }
-                        store8(t26, (u8)v27);
-                        l1 = l1 + 16ull;
-                        l3 = l3 + 2ull;
-                        if (l8 != l3) goto L20;
-                    }
-                    if (l7 == 0) goto L17;
-                }
-                l0 = (l0 + 24ull) + (l3 << 3);
-                const u32 t29 = load8(l0);
-                const u64 t30 = l3 + l5;
-                u32 v31;
-                if (t29) {
-                    v31 = 0u;
-                } else {
-                    const u32 t32 = load8(l0 + 1ull);
-                    v31 = t32;
-                }
-                store8(t30, (u8)v31);
-            }
-            L17:;
-            v1 = l6; goto L1;
-        }
-        trap();
-    }
-    L1:;
-    l3 = v1;
-    return l3;
-}
-
-static u64 engine_form_pointer(struct engine *e, u64 l0, u64 l1) {
-    u32 l2 = 0;
-    u64 l3 = 0;
-    u64 l4 = 0;
-    u64 v1;
-    {
-        if ((i64)(e->stack_pointer - e->stack) >= (i64)16ull) {
-            {
-                const u32 t4 = load32(l0 + 40ull);
-                l2 = t4;
-                if (l1 >= (u64)l2) goto L3;
-                const u64 t5 = load64(l0);
-                l0 = t5;
-                {
-                    if (l1 == 0) goto L6;
-                    if (l1 != 1ull) {
-                        l4 = l1 & 1ull;
-                        l1 = l1 & 18446744073709551614ull;
-                        L8:;
-                        {
-                            u32 v9;
-                            if (l2) {
-                                const u64 t10 = load32(l0 + 4ull);
-                                const u64 t11 = load32(l0 + 12ull);
-                                l0 = (((t10 + t11) << 3) + l0) + 24ull;
-                                v9 = l2 - 1u;
-                            } else {
-                                v9 = 0u;
-                            }
-                            l2 = v9;
-                            u32 v12;
-                            if (l2) {
-                                const u64 t13 = load32(l0 + 4ull);
-                                const u64 t14 = load32(l0 + 12ull);
-                                l0 = (((t13 + t14) << 3) + l0) + 24ull;
-                                v12 = l2 - 1u;
-                            } else {
-                                v12 = 0u;
-                            }
-                            l2 = v12;
-                            l1 = l1 - 2ull;
-                            if (l1 != 0ull) goto L8;
-                        }
-                        if (l4 == 0) goto L6;
-                    }
-                    if (l2 == 0) {
-                        l2 = 0u;
-                        goto L6;
-                    }
-                    const u64 t16 = load32(l0 + 4ull);
-                    const u64 t17 = load32(l0 + 12ull);
-                    l0 = (((t16 + t17) << 3) + l0) + 24ull;
-                    l2 = l2 - 1u;
-                }
-                L6:;
-                if (l2 == 0) goto L3;
-                const u64 t18 = load32(l0 + 20ull);
-                l3 = t18;
-            }
-            L3:;
-            v1 = l3; goto L1;
-        }
-        trap();
-    }
-    L1:;
-    l1 = v1;
-    return l1;
-}
-
-static u64 engine_form_text(struct engine *e, u64 l0, u64 l1, u64 l2, u64 l3) {
-    u64 l4 = 0;
-    u64 l5 = 0;
-    u64 l6 = 0;
-    u32 l7 = 0;
-    u32 l8 = 0;
-    u64 v1;
-    {
-        l4 = e->stack_pointer - 96ull;
-        e->stack_pointer = l4;
-        if ((i64)(l4 - e->stack) >= (i64)16ull) {
-            store64(l4 + 48u, 0ull);
-            store64(l4 + 40u, 0ull);
-            store64(l4 + 32u, 0ull);
-            store64(l4 + 24u, 0ull);
-            store64(l4 + 16u, 0ull);
-            {
-                const u32 t4 = load32(l0 + 40ull);
-                l7 = t4;
-                if (l1 >= (u64)l7) goto L3;
-                const u64 t5 = load64(l0);
-                l0 = t5;
-                {
-                    if (l1 == 0) goto L6;
-                    if (l1 != 1ull) {
-                        l6 = l1 & 1ull;
-                        l1 = l1 & 18446744073709551614ull;
-                        L8:;
-                        {
-                            u32 v9;
-                            if (l7) {
-                                const u64 t10 = load32(l0 + 4ull);
-                                const u64 t11 = load32(l0 + 12ull);
-                                l0 = (((t10 + t11) << 3) + l0) + 24ull;
-                                v9 = l7 - 1u;
-                            } else {
-                                v9 = 0u;
-                            }
-                            l7 = v9;
-                            u32 v12;
-                            if (l7) {
-                                const u64 t13 = load32(l0 + 4ull);
-                                const u64 t14 = load32(l0 + 12ull);
-                                l0 = (((t13 + t14) << 3) + l0) + 24ull;
-                                v12 = l7 - 1u;
-                            } else {
-                                v12 = 0u;
-                            }
-                            l7 = v12;
-                            l1 = l1 - 2ull;
-                            if (l1 != 0ull) goto L8;
-                        }
-                        if (l6 == 0) goto L6;
-                    }
-                    if (l7 == 0) {
-                        l7 = 0u;
-                        goto L6;
-                    }
-                    const u64 t16 = load32(l0 + 4ull);
-                    const u64 t17 = load32(l0 + 12ull);
-                    l0 = (((t16 + t17) << 3) + l0) + 24ull;
-                    l7 = l7 - 1u;
-                }
-                L6:;
-                if (l7 == 0) goto L3;
-                l6 = l2 + ((l2 == 0) ? 4096ull : 0ull);
-                const u64 t18 = load32(l0 + 4ull);
-                l2 = t18;
-                const u64 t19 = load32(l0 + 12ull);
-                l1 = t19;
-                const u32 t20 = load32(l0 + 20ull);
-                l7 = t20;
-                store32(l4 + 52u, 0u);
-                store32(l4 + 48u, l7);
-                store64(l4 + 40u, l1);
-                store64(l4 + 24u, l2);
-                store64(l4 + 16u, l0 + 24ull);
-                l5 = 3ull;
-                l0 = l0 + (l2 << 3);
-                store64(l4 + 32u, l0 + 24ull);
-                if ((l1 == 0) == 0) {
-                    l0 = l0 + 28ull;
-                    l7 = 3u;
-                    L22:;
-                    {
-                        l8 = 0u;
-                        u32 v23;
-                        {
-                            {
-                                {
-                                    {
-                                        const u64 t27 = load8(l0 - 4ull);
-                                        switch ((u32)t27 - 1u) {
-                                        case 0: goto L24;
-                                        case 1: goto L24;
-                                        case 2: goto L25;
-                                        case 3: goto L24;
-                                        default: goto L26;
-                                        }
-                                    }
-                                    L26:;
-                                    v23 = 1u; goto L23;
-                                }
-                                L25:;
-                                const u32 t28 = load32(l0);
-                                l8 = t28;
-                            }
-                            L24:;
-                            itoa_Buffer_format(e, l4, l4 + 56ull, l8);
-                            const u32 t29 = load32(l4 + 8u);
-                            v23 = t29 + 2u;
-                        }
-                        L23:;
-                        l8 = v23;
-                        l0 = l0 + 8ull;
-                        l7 = l7 + l8;
-                        l1 = l1 - 1ull;
-                        if (l1 != 0ull) goto L22;
-                    }
-                    l5 = (u64)l7;
-                }
-                store64(l4 + 80u, 0ull);
-                store64(l4 + 72u, 0ull);
-                store64(l4 + 56u, l6);
-                store64(l4 + 64u, (l3 < l5) ? l3 : l5);
-                (void)core_display_show_form(e, l4 + 16ull, l4 + 56ull);
-            }
-            L3:;
-            e->stack_pointer = l4 + 96ull;
-            v1 = l5; goto L1;
-        }
-        trap();
-    }
-    L1:;
-    l3 = v1;
-    return l3;
 }
 
 static u64 engine_machine_size(struct engine *e) {
@@ -18148,100 +17815,99 @@ static void engine_run(struct engine *e, u64 l0, u64 l1, u64 l2, u64 l3, u64 l4,
                 l7 = e->stack_pointer - 192ull;
                 e->stack_pointer = l7;
                 {
-                    if ((i64)(l7 - e->stack) >= (i64)16ull) {
-                        const u64 t11 = load64(l12);
-                        l16 = t11;
-                        store64(l7 + 56u, 0ull);
-                        store64(l7 + 64u, 0ull);
-                        store32(l7 + 72u, 0u);
-                        const u32 t12 = load32(l9 + 20ull);
-                        l36 = t12;
-                        store32(l7 + 76u, l36);
-                        const u32 t13 = load32(l12 + 16u);
-                        l41 = t13;
-                        const u64 t14 = load64(l12 + 8u);
-                        l12 = l16 - t14;
-                        if ((l12 == 0) == 0) {
-                            const u32 t16 = load32(l9 + 24ull);
-                            const u32 t17 = load32(l9 + 16ull);
-                            l38 = t16 + (l36 + t17);
-                            l20 = l7 + 109ull;
-                            l21 = l7 + 93ull;
-                            l22 = l7 + 157ull;
-                            l23 = l7 + 141ull;
-                            L18:;
+                    {
+                        if ((i64)(l7 - e->stack) >= (i64)16ull) {
+                            const u64 t12 = load64(l12);
+                            l16 = t12;
+                            store64(l7 + 56u, 0ull);
+                            store64(l7 + 64u, 0ull);
+                            store32(l7 + 72u, 0u);
+                            const u32 t13 = load32(l9 + 20ull);
+                            l36 = t13;
+                            store32(l7 + 76u, l36);
+                            const u32 t14 = load32(l12 + 16u);
+                            l40 = t14;
                             {
-                                core_scan_pass(e, l7 + 56ull, l9, l12, l7 + 76ull, l7 + 72ull);
-                                u64 v19;
-                                {
-                                    const u32 t20 = load8(l7 + 56u);
-                                    if (t20 == 0) {
-                                        l41 = (l38 > l41) ? l38 : l41;
-                                        const u64 t22 = load64(l7 + 64u);
-                                        v19 = l12 - t22; goto L19;
-                                    }
+                                const u64 t16 = load64(l12 + 8u);
+                                l12 = l16 - t16;
+                                if ((l12 == 0) == 0) {
+                                    const u32 t18 = load32(l9 + 24ull);
+                                    const u32 t19 = load32(l9 + 16ull);
+                                    l39 = t18 + (l36 + t19);
+                                    l20 = l7 + 109ull;
+                                    l21 = l7 + 93ull;
+                                    l22 = l7 + 157ull;
+                                    l23 = l7 + 141ull;
+                                    L20:;
                                     {
+                                        core_scan_pass(e, l7 + 56ull, l9, l12, l7 + 76ull, l7 + 72ull);
+                                        u64 v21;
                                         {
+                                            const u32 t22 = load8(l7 + 56u);
+                                            if (t22 == 0) {
+                                                l40 = (l39 > l40) ? l39 : l40;
+                                                const u64 t24 = load64(l7 + 64u);
+                                                v21 = l12 - t24; goto L21;
+                                            }
                                             {
                                                 {
                                                     {
-                                                        u32 v28;
                                                         {
+                                                            const u32 t29 = load8(l7 + 60u);
+                                                            if (t29 == 0) {
+                                                                store32(l9 + 32ull, 0u);
+                                                                l8 = l9 + 20ull;
+                                                                store32(l8, 0u);
+                                                                const u32 t31 = load32(l9 + 28ull);
+                                                                l39 = t31;
+                                                                l2 = l9 + 24ull;
+                                                                const u32 t32 = load32(l2);
+                                                                l36 = t32;
+                                                                l15 = l9 + 16ull;
+                                                                const u32 t33 = load32(l15);
+                                                                if ((l39 - (l36 + t33)) <= 10u) {
+                                                                    const u32 t35 = space_space_Space_find_way(e, l9, 11ull);
+                                                                    if (t35 == 0) goto L28;
+                                                                    const u32 t36 = load32(l9 + 28ull);
+                                                                    l39 = t36;
+                                                                    const u32 t37 = load32(l9 + 24ull);
+                                                                    l36 = t37;
+                                                                }
+                                                                const u64 t38 = load64(l9);
+                                                                l36 = l36 + 11u;
+                                                                space_space_write_bytes(e, t38 + ((u64)(l39 - l36) << 3), TABLES + 768u, 11ull);
+                                                                store32(l2, l36);
+                                                                const u32 t39 = load32(l8);
+                                                                l39 = t39;
+                                                                const u32 t40 = load32(l15);
+                                                                l45 = t40;
+                                                                l36 = l39 + (l45 + l36);
+                                                                goto L25;
+                                                            }
+                                                            const u64 t41 = load64(l7 + 64u);
+                                                            l15 = t41;
+                                                            l8 = l9 + 24ull;
+                                                            const u32 t42 = load32(l8);
+                                                            l45 = t42 - 1u;
+                                                            store32(l8, l45);
+                                                            const u32 t43 = load32(l9 + 20ull);
+                                                            l41 = t43;
+                                                            const u32 t44 = load32(l9 + 16ull);
+                                                            l36 = t44;
+                                                            store64(l7 + 112u, 0ull);
+                                                            store64(l7 + 96u, 0ull);
+                                                            store64(l7 + 104u, 0ull);
+                                                            store64(l7 + 80u, 0ull);
+                                                            store64(l7 + 88u, 0ull);
+                                                            const u64 t45 = load64(l9);
+                                                            l8 = t45;
+                                                            l39 = (u32)l15;
+                                                            const u32 t46 = load8((l8 + ((u64)(l36 + l39) << 3)) + 1ull);
+                                                            l34 = t46;
+                                                            store8(l7 + 146u, (u8)0u);
+                                                            store16(l7 + 144u, (u16)0u);
                                                             {
                                                                 {
-                                                                    const u32 t31 = load8(l7 + 60u);
-                                                                    if (t31 == 0) {
-                                                                        store32(l9 + 32ull, 0u);
-                                                                        l8 = l9 + 20ull;
-                                                                        store32(l8, 0u);
-                                                                        const u32 t33 = load32(l9 + 28ull);
-                                                                        l38 = t33;
-                                                                        l2 = l9 + 24ull;
-                                                                        const u32 t34 = load32(l2);
-                                                                        l36 = t34;
-                                                                        l15 = l9 + 16ull;
-                                                                        const u32 t35 = load32(l15);
-                                                                        if ((l38 - (l36 + t35)) <= 10u) {
-                                                                            const u32 t37 = space_space_Space_find_way(e, l9, 11ull);
-                                                                            if (t37 == 0) goto L30;
-                                                                            const u32 t38 = load32(l9 + 28ull);
-                                                                            l38 = t38;
-                                                                            const u32 t39 = load32(l9 + 24ull);
-                                                                            l36 = t39;
-                                                                        }
-                                                                        const u64 t40 = load64(l9);
-                                                                        l36 = l36 + 11u;
-                                                                        space_space_write_bytes(e, t40 + ((u64)(l38 - l36) << 3), TABLES + 968u, 11ull);
-                                                                        store32(l2, l36);
-                                                                        const u32 t41 = load32(l8);
-                                                                        l38 = t41;
-                                                                        const u32 t42 = load32(l15);
-                                                                        l45 = t42;
-                                                                        l36 = l38 + (l45 + l36);
-                                                                        goto L23;
-                                                                    }
-                                                                    const u64 t43 = load64(l7 + 64u);
-                                                                    l15 = t43;
-                                                                    l8 = l9 + 24ull;
-                                                                    const u32 t44 = load32(l8);
-                                                                    l45 = t44 - 1u;
-                                                                    store32(l8, l45);
-                                                                    const u32 t45 = load32(l9 + 20ull);
-                                                                    l40 = t45;
-                                                                    const u32 t46 = load32(l9 + 16ull);
-                                                                    l36 = t46;
-                                                                    store64(l7 + 112u, 0ull);
-                                                                    store64(l7 + 96u, 0ull);
-                                                                    store64(l7 + 104u, 0ull);
-                                                                    store64(l7 + 80u, 0ull);
-                                                                    store64(l7 + 88u, 0ull);
-                                                                    const u64 t47 = load64(l9);
-                                                                    l8 = t47;
-                                                                    l38 = (u32)l15;
-                                                                    const u32 t48 = load8((l8 + ((u64)(l36 + l38) << 3)) + 1ull);
-                                                                    l34 = t48;
-                                                                    store8(l7 + 146u, (u8)0u);
-                                                                    store16(l7 + 144u, (u16)0u);
                                                                     {
                                                                         u32 v50;
                                                                         {
@@ -18252,63 +17918,63 @@ static void engine_run(struct engine *e, u64 l0, u64 l1, u64 l2, u64 l3, u64 l4,
                                                                                             {
                                                                                                 {
                                                                                                     {
+                                                                                                        l46 = l36 + l41;
+                                                                                                        l50 = l39 + 1u;
+                                                                                                        l2 = (u64)(l36 + l50);
+                                                                                                        l3 = (u64)l46 - l2;
+                                                                                                        if (l3 < 2ull) goto L57;
+                                                                                                        l2 = l8 + (l2 << 3);
+                                                                                                        if (l3 != 2ull) {
+                                                                                                            const u32 t59 = load8(l2 + 16ull);
+                                                                                                            if (t59 != 2u) goto L57;
+                                                                                                        }
+                                                                                                        functions_function_function_of(e, l7 + 144ull, l2, l2 + 8ull);
+                                                                                                        const u32 t60 = load8(l7 + 144u);
+                                                                                                        if (t60 != 1u) goto L57;
+                                                                                                        l38 = (u32)(l15 >> 32);
+                                                                                                        l34 = l34 == 0;
+                                                                                                        l42 = l39 + 4u;
                                                                                                         {
                                                                                                             {
                                                                                                                 {
-                                                                                                                    l46 = l36 + l40;
-                                                                                                                    l50 = l38 + 1u;
-                                                                                                                    l2 = (u64)(l36 + l50);
-                                                                                                                    l3 = (u64)l46 - l2;
-                                                                                                                    if (l3 < 2ull) goto L60;
-                                                                                                                    l2 = l8 + (l2 << 3);
-                                                                                                                    if (l3 != 2ull) {
-                                                                                                                        const u32 t62 = load8(l2 + 16ull);
-                                                                                                                        if (t62 != 2u) goto L60;
-                                                                                                                    }
-                                                                                                                    functions_function_function_of(e, l7 + 144ull, l2, l2 + 8ull);
-                                                                                                                    const u32 t63 = load8(l7 + 144u);
-                                                                                                                    if (t63 != 1u) goto L60;
-                                                                                                                    l37 = (u32)(l15 >> 32);
-                                                                                                                    l34 = l34 == 0;
-                                                                                                                    l35 = 4u;
-                                                                                                                    l39 = l38 + 4u;
                                                                                                                     {
                                                                                                                         {
                                                                                                                             {
-                                                                                                                                {
-                                                                                                                                    const u32 t68 = load8(l7 + 145u);
-                                                                                                                                    l42 = t68;
-                                                                                                                                    switch (l42 - 1u) {
-                                                                                                                                    case 0: goto L67;
-                                                                                                                                    case 1: goto L64;
-                                                                                                                                    case 2: goto L66;
-                                                                                                                                    case 3: goto L59;
-                                                                                                                                    case 4: goto L58;
-                                                                                                                                    case 5: goto L58;
-                                                                                                                                    case 6: goto L58;
-                                                                                                                                    case 7: goto L58;
-                                                                                                                                    case 8: goto L58;
-                                                                                                                                    case 9: goto L65;
-                                                                                                                                    case 10: goto L58;
-                                                                                                                                    case 11: goto L58;
-                                                                                                                                    case 12: goto L58;
-                                                                                                                                    case 13: goto L58;
-                                                                                                                                    case 14: goto L58;
-                                                                                                                                    case 15: goto L58;
-                                                                                                                                    case 16: goto L58;
-                                                                                                                                    case 17: goto L58;
-                                                                                                                                    case 18: goto L58;
-                                                                                                                                    case 19: goto L58;
-                                                                                                                                    case 20: goto L58;
-                                                                                                                                    case 21: goto L58;
-                                                                                                                                    case 22: goto L58;
-                                                                                                                                    case 23: goto L58;
-                                                                                                                                    default: goto L57;
-                                                                                                                                    }
+                                                                                                                                const u32 t67 = load8(l7 + 145u);
+                                                                                                                                l35 = t67;
+                                                                                                                                switch (l35 - 1u) {
+                                                                                                                                case 0: goto L66;
+                                                                                                                                case 1: goto L63;
+                                                                                                                                case 2: goto L65;
+                                                                                                                                case 3: goto L63;
+                                                                                                                                case 4: goto L63;
+                                                                                                                                case 5: goto L63;
+                                                                                                                                case 6: goto L63;
+                                                                                                                                case 7: goto L63;
+                                                                                                                                case 8: goto L63;
+                                                                                                                                case 9: goto L64;
+                                                                                                                                case 10: goto L63;
+                                                                                                                                case 11: goto L63;
+                                                                                                                                case 12: goto L63;
+                                                                                                                                case 13: goto L63;
+                                                                                                                                case 14: goto L63;
+                                                                                                                                case 15: goto L63;
+                                                                                                                                case 16: goto L63;
+                                                                                                                                case 17: goto L63;
+                                                                                                                                case 18: goto L63;
+                                                                                                                                case 19: goto L63;
+                                                                                                                                case 20: goto L63;
+                                                                                                                                case 21: goto L63;
+                                                                                                                                case 22: goto L63;
+                                                                                                                                case 23: goto L63;
+                                                                                                                                default: goto L62;
                                                                                                                                 }
-                                                                                                                                L67:;
+                                                                                                                            }
+                                                                                                                            L66:;
+                                                                                                                            u32 v68;
+                                                                                                                            {
                                                                                                                                 const u32 t69 = load8(l13 + 17ull);
-                                                                                                                                if (t69) { v50 = 1u; goto L50; }
+                                                                                                                                if (t69) { v68 = 1u; goto L68; }
                                                                                                                                 {
                                                                                                                                     const u64 t71 = load64(l13 + 8u);
                                                                                                                                     l8 = t71;
@@ -18316,7 +17982,7 @@ static void engine_run(struct engine *e, u64 l0, u64 l1, u64 l2, u64 l3, u64 l4,
                                                                                                                                         const u32 t73 = load8(l13 + 16ull);
                                                                                                                                         if (t73) goto L70;
                                                                                                                                         store8(l13 + 17ull, (u8)1u);
-                                                                                                                                        v50 = 1u; goto L50;
+                                                                                                                                        v68 = 1u; goto L68;
                                                                                                                                     }
                                                                                                                                     store64(l13 + 8u, l8 - 1ull);
                                                                                                                                     const u64 t74 = load64(l13);
@@ -18336,90 +18002,100 @@ static void engine_run(struct engine *e, u64 l0, u64 l1, u64 l2, u64 l3, u64 l4,
                                                                                                                                     if (t76 != (l37 + t79)) {
                                                                                                                                         l3 = l9 + 32ull;
                                                                                                                                         const u32 t81 = load32(l3);
-                                                                                                                                        l39 = t81;
+                                                                                                                                        l38 = t81;
                                                                                                                                         const u64 t82 = load64(l9);
                                                                                                                                         l2 = t82 + ((u64)l37 << 3);
                                                                                                                                         store8(l2, (u8)0u);
                                                                                                                                         store32(l2 + 4ull, 0u);
                                                                                                                                         store8(l2 + 1ull, (u8)l34);
                                                                                                                                         store32(l8, l35 + 1u);
-                                                                                                                                        store32(l3, l39);
+                                                                                                                                        store32(l3, l38);
                                                                                                                                         goto L51;
                                                                                                                                     }
                                                                                                                                     const u32 t83 = space_space_Space_push_in_way(e, l9, l7 + 144ull);
                                                                                                                                     if (t83) goto L51;
-                                                                                                                                    l35 = 0u;
+                                                                                                                                    l37 = 0u;
                                                                                                                                     v50 = 0u; goto L50;
                                                                                                                                 }
                                                                                                                                 L70:;
                                                                                                                                 l8 = l13 + 24ull;
                                                                                                                                 const u64 t84 = load64(l8);
                                                                                                                                 store64(l8, t84 + 1ull);
-                                                                                                                                v50 = 4u; goto L50;
+                                                                                                                                v68 = 4u;
                                                                                                                             }
-                                                                                                                            L66:;
-                                                                                                                            store16(l20, (u16)0u);
-                                                                                                                            store8(l20 + 2u, (u8)0u);
-                                                                                                                            store8(l7 + 108u, (u8)l34);
-                                                                                                                            store32(l7 + 104u, l37);
-                                                                                                                            store32(l7 + 100u, l40);
-                                                                                                                            store32(l7 + 96u, l39);
-                                                                                                                            core_input_output_print_string(e, l7 + 112ull, l9, l7 + 96ull, l19);
-                                                                                                                            goto L56;
+                                                                                                                            L68:;
+                                                                                                                            l37 = v68;
+                                                                                                                            v50 = 4u; goto L50;
                                                                                                                         }
                                                                                                                         L65:;
-                                                                                                                        store16(l21, (u16)0u);
-                                                                                                                        store8(l21 + 2u, (u8)0u);
-                                                                                                                        store8(l7 + 92u, (u8)l34);
-                                                                                                                        store32(l7 + 88u, l37);
-                                                                                                                        store32(l7 + 84u, l40);
-                                                                                                                        store32(l7 + 80u, l39);
-                                                                                                                        core_display_print_form(e, l7 + 112ull, l9, l7 + 80ull, l19);
-                                                                                                                        goto L56;
+                                                                                                                        store16(l20, (u16)0u);
+                                                                                                                        store8(l20 + 2u, (u8)0u);
+                                                                                                                        store8(l7 + 108u, (u8)l34);
+                                                                                                                        store32(l7 + 104u, l38);
+                                                                                                                        store32(l7 + 100u, l41);
+                                                                                                                        store32(l7 + 96u, l42);
+                                                                                                                        core_input_output_print_string(e, l7 + 112ull, l9, l7 + 96ull, l19);
+                                                                                                                        goto L61;
                                                                                                                     }
                                                                                                                     L64:;
+                                                                                                                    store16(l21, (u16)0u);
+                                                                                                                    store8(l21 + 2u, (u8)0u);
+                                                                                                                    store8(l7 + 92u, (u8)l34);
+                                                                                                                    store32(l7 + 88u, l38);
+                                                                                                                    store32(l7 + 84u, l41);
+                                                                                                                    store32(l7 + 80u, l42);
+                                                                                                                    core_display_print_form(e, l7 + 112ull, l9, l7 + 80ull, l19);
+                                                                                                                    goto L61;
+                                                                                                                }
+                                                                                                                L63:;
+                                                                                                                const u32 t85 = load8(l7 + 146u);
+                                                                                                                l44 = t85;
+                                                                                                                {
+                                                                                                                    if ((l35 - 5u) < 20u) goto L86;
+                                                                                                                    l43 = 0u;
+                                                                                                                    l37 = 0u;
+                                                                                                                    {
+                                                                                                                        switch (l35 - 3u) {
+                                                                                                                        case 0: goto L86;
+                                                                                                                        case 1: goto L52;
+                                                                                                                        default: goto L87;
+                                                                                                                        }
+                                                                                                                    }
+                                                                                                                    L87:;
                                                                                                                     store16(l22, (u16)0u);
                                                                                                                     store8(l22 + 2u, (u8)0u);
                                                                                                                     store8(l7 + 156u, (u8)l34);
-                                                                                                                    store32(l7 + 152u, l37);
-                                                                                                                    store32(l7 + 148u, l40);
-                                                                                                                    store32(l7 + 144u, l39);
+                                                                                                                    store32(l7 + 152u, l38);
+                                                                                                                    store32(l7 + 148u, l41);
+                                                                                                                    store32(l7 + 144u, l42);
                                                                                                                     functions_arguments_Arguments_next(e, l7 + 8ull, l7 + 144ull, l9);
-                                                                                                                    const u32 t85 = load32(l7 + 8u);
-                                                                                                                    l40 = t85;
-                                                                                                                    const u32 t86 = load32(l7 + 12u);
-                                                                                                                    if (l40 == t86) goto L60;
-                                                                                                                    l8 = l8 + ((u64)(l36 + l40) << 3);
-                                                                                                                    const u32 t87 = load8(l8);
-                                                                                                                    const u64 t88 = l18;
-                                                                                                                    u32 v89;
-                                                                                                                    if (t87) {
-                                                                                                                        v89 = 0u;
-                                                                                                                    } else {
-                                                                                                                        const u32 t90 = load8(l8 + 1ull);
-                                                                                                                        v89 = t90;
+                                                                                                                    const u32 t88 = load32(l7 + 8u);
+                                                                                                                    l34 = t88;
+                                                                                                                    const u32 t89 = load32(l7 + 12u);
+                                                                                                                    if (l34 != t89) {
+                                                                                                                        l8 = l8 + ((u64)(l34 + l36) << 3);
+                                                                                                                        const u32 t91 = load8(l8);
+                                                                                                                        const u64 t92 = l18;
+                                                                                                                        u32 v93;
+                                                                                                                        if (t91) {
+                                                                                                                            v93 = 0u;
+                                                                                                                        } else {
+                                                                                                                            const u32 t94 = load8(l8 + 1ull);
+                                                                                                                            v93 = t94;
+                                                                                                                        }
+                                                                                                                        store8(t92, (u8)v93);
                                                                                                                     }
-                                                                                                                    store8(t88, (u8)v89);
+                                                                                                                    l35 = 3u;
+                                                                                                                    goto L52;
                                                                                                                 }
-                                                                                                                L60:;
-                                                                                                                l34 = 0u;
-                                                                                                                goto L24;
-                                                                                                            }
-                                                                                                            L59:;
-                                                                                                            v28 = 0u; goto L28;
-                                                                                                        }
-                                                                                                        L58:;
-                                                                                                        const u32 t91 = load8(l7 + 146u);
-                                                                                                        l35 = t91;
-                                                                                                        store16(l23, (u16)0u);
-                                                                                                        store8(l23 + 2u, (u8)0u);
-                                                                                                        store8(l7 + 140u, (u8)l34);
-                                                                                                        store32(l7 + 136u, l37);
-                                                                                                        store32(l7 + 132u, l40);
-                                                                                                        store32(l7 + 128u, l39);
-                                                                                                        store64(l7 + 120u, 0ull);
-                                                                                                        {
-                                                                                                            {
+                                                                                                                L86:;
+                                                                                                                store16(l23, (u16)0u);
+                                                                                                                store8(l23 + 2u, (u8)0u);
+                                                                                                                store8(l7 + 140u, (u8)l34);
+                                                                                                                store32(l7 + 136u, l38);
+                                                                                                                store32(l7 + 132u, l41);
+                                                                                                                store32(l7 + 128u, l42);
+                                                                                                                store64(l7 + 120u, 0ull);
                                                                                                                 {
                                                                                                                     {
                                                                                                                         {
@@ -18438,687 +18114,694 @@ static void engine_run(struct engine *e, u64 l0, u64 l1, u64 l2, u64 l3, u64 l4,
                                                                                                                                                                             {
                                                                                                                                                                                 {
                                                                                                                                                                                     {
-                                                                                                                                                                                        switch (l42 - 6u) {
-                                                                                                                                                                                        case 0: goto L97;
-                                                                                                                                                                                        case 1: goto L95;
-                                                                                                                                                                                        case 2: goto L94;
-                                                                                                                                                                                        case 3: goto L93;
-                                                                                                                                                                                        case 4: goto L92;
-                                                                                                                                                                                        case 5: goto L96;
-                                                                                                                                                                                        case 6: goto L103;
-                                                                                                                                                                                        case 7: goto L102;
-                                                                                                                                                                                        case 8: goto L101;
-                                                                                                                                                                                        case 9: goto L100;
-                                                                                                                                                                                        case 10: goto L99;
-                                                                                                                                                                                        case 11: goto L111;
-                                                                                                                                                                                        case 12: goto L110;
-                                                                                                                                                                                        case 13: goto L109;
-                                                                                                                                                                                        case 14: goto L108;
-                                                                                                                                                                                        case 15: goto L107;
-                                                                                                                                                                                        case 16: goto L106;
-                                                                                                                                                                                        case 17: goto L105;
-                                                                                                                                                                                        case 18: goto L104;
-                                                                                                                                                                                        default: goto L98;
+                                                                                                                                                                                        {
+                                                                                                                                                                                            {
+                                                                                                                                                                                                switch (l35 - 5u) {
+                                                                                                                                                                                                case 0: goto L101;
+                                                                                                                                                                                                case 1: goto L100;
+                                                                                                                                                                                                case 2: goto L98;
+                                                                                                                                                                                                case 3: goto L97;
+                                                                                                                                                                                                case 4: goto L96;
+                                                                                                                                                                                                case 6: goto L99;
+                                                                                                                                                                                                case 7: goto L106;
+                                                                                                                                                                                                case 8: goto L105;
+                                                                                                                                                                                                case 9: goto L104;
+                                                                                                                                                                                                case 10: goto L103;
+                                                                                                                                                                                                case 11: goto L102;
+                                                                                                                                                                                                case 12: goto L114;
+                                                                                                                                                                                                case 13: goto L113;
+                                                                                                                                                                                                case 14: goto L112;
+                                                                                                                                                                                                case 15: goto L111;
+                                                                                                                                                                                                case 16: goto L110;
+                                                                                                                                                                                                case 17: goto L109;
+                                                                                                                                                                                                case 18: goto L108;
+                                                                                                                                                                                                case 19: goto L107;
+                                                                                                                                                                                                default: goto L95;
+                                                                                                                                                                                                }
+                                                                                                                                                                                            }
+                                                                                                                                                                                            L114:;
+                                                                                                                                                                                            functions_comparing_equal(e, l7 + 120ull, l9, l7 + 128ull);
+                                                                                                                                                                                            goto L53;
                                                                                                                                                                                         }
+                                                                                                                                                                                        L113:;
+                                                                                                                                                                                        functions_comparing_greater(e, l7 + 120ull, l9, l7 + 128ull);
+                                                                                                                                                                                        goto L53;
                                                                                                                                                                                     }
-                                                                                                                                                                                    L111:;
-                                                                                                                                                                                    functions_comparing_equal(e, l7 + 120ull, l9, l7 + 128ull);
-                                                                                                                                                                                    goto L52;
+                                                                                                                                                                                    L112:;
+                                                                                                                                                                                    functions_arithmetic_arithmetic(e, l7 + 120ull, l9, l44, l7 + 128ull);
+                                                                                                                                                                                    goto L53;
                                                                                                                                                                                 }
-                                                                                                                                                                                L110:;
-                                                                                                                                                                                functions_comparing_greater(e, l7 + 120ull, l9, l7 + 128ull);
-                                                                                                                                                                                goto L52;
+                                                                                                                                                                                L111:;
+                                                                                                                                                                                functions_bit_strings_union(e, l7 + 120ull, l9, l7 + 128ull);
+                                                                                                                                                                                goto L53;
                                                                                                                                                                             }
-                                                                                                                                                                            L109:;
-                                                                                                                                                                            functions_arithmetic_arithmetic(e, l7 + 120ull, l9, l35, l7 + 128ull);
-                                                                                                                                                                            goto L52;
+                                                                                                                                                                            L110:;
+                                                                                                                                                                            functions_bit_strings_intersection(e, l7 + 120ull, l9, l7 + 128ull);
+                                                                                                                                                                            goto L53;
                                                                                                                                                                         }
-                                                                                                                                                                        L108:;
-                                                                                                                                                                        functions_bit_strings_union(e, l7 + 120ull, l9, l7 + 128ull);
-                                                                                                                                                                        goto L52;
+                                                                                                                                                                        L109:;
+                                                                                                                                                                        store64(l7 + 184u, 0ull);
+                                                                                                                                                                        const u64 t115 = load64(l7 + 128u);
+                                                                                                                                                                        store64(l7 + 168u, t115);
+                                                                                                                                                                        const u64 t116 = load64(l7 + 136u);
+                                                                                                                                                                        store64(l7 + 176u, t116);
+                                                                                                                                                                        store64(l7 + 156u, 0ull);
+                                                                                                                                                                        functions_arguments_Arguments_next(e, l7 + 16ull, l7 + 168ull, l9);
+                                                                                                                                                                        const u32 t117 = load32(l7 + 16u);
+                                                                                                                                                                        l38 = t117;
+                                                                                                                                                                        const u32 t118 = load32(l7 + 20u);
+                                                                                                                                                                        l37 = t118;
+                                                                                                                                                                        l3 = (u64)(l37 + l36);
+                                                                                                                                                                        l2 = (u64)(l38 + l36) - l3;
+                                                                                                                                                                        l8 = (l8 + (l3 << 3)) - 8ull;
+                                                                                                                                                                        l35 = l37;
+                                                                                                                                                                        L119:;
+                                                                                                                                                                        {
+                                                                                                                                                                            {
+                                                                                                                                                                                l34 = l35;
+                                                                                                                                                                                if (l2 == 0) goto L120;
+                                                                                                                                                                                const u32 t121 = load8(l8);
+                                                                                                                                                                                if (t121) goto L120;
+                                                                                                                                                                                l2 = l2 + 1ull;
+                                                                                                                                                                                l35 = l34 - 1u;
+                                                                                                                                                                                l3 = l8 + 1ull;
+                                                                                                                                                                                l8 = l8 - 8ull;
+                                                                                                                                                                                const u32 t122 = load8(l3);
+                                                                                                                                                                                if ((t122 & 248u) == 48u) goto L119;
+                                                                                                                                                                            }
+                                                                                                                                                                            L120:;
+                                                                                                                                                                        }
+                                                                                                                                                                        store32(l7 + 152u, l37);
+                                                                                                                                                                        store32(l7 + 148u, l34);
+                                                                                                                                                                        store32(l7 + 144u, 2u);
+                                                                                                                                                                        functions_bit_strings_give_bits(e, l7 + 184ull, l9, l38, l34, l7 + 144ull);
+                                                                                                                                                                        const u32 t123 = load16(l7 + 184u);
+                                                                                                                                                                        store16(l7 + 120u, (u16)t123);
+                                                                                                                                                                        const u32 t124 = load32(l7 + 188u);
+                                                                                                                                                                        store32(l7 + 124u, t124);
+                                                                                                                                                                        goto L53;
                                                                                                                                                                     }
-                                                                                                                                                                    L107:;
-                                                                                                                                                                    functions_bit_strings_intersection(e, l7 + 120ull, l9, l7 + 128ull);
-                                                                                                                                                                    goto L52;
+                                                                                                                                                                    L108:;
+                                                                                                                                                                    functions_bit_strings_shift(e, l7 + 120ull, l9, l7 + 128ull);
+                                                                                                                                                                    goto L53;
                                                                                                                                                                 }
-                                                                                                                                                                L106:;
-                                                                                                                                                                store64(l7 + 184u, 0ull);
-                                                                                                                                                                const u64 t112 = load64(l7 + 128u);
-                                                                                                                                                                store64(l7 + 168u, t112);
-                                                                                                                                                                const u64 t113 = load64(l7 + 136u);
-                                                                                                                                                                store64(l7 + 176u, t113);
-                                                                                                                                                                store64(l7 + 156u, 0ull);
-                                                                                                                                                                functions_arguments_Arguments_next(e, l7 + 16ull, l7 + 168ull, l9);
-                                                                                                                                                                const u32 t114 = load32(l7 + 16u);
-                                                                                                                                                                l39 = t114;
-                                                                                                                                                                const u32 t115 = load32(l7 + 20u);
-                                                                                                                                                                l37 = t115;
-                                                                                                                                                                l3 = (u64)(l37 + l36);
-                                                                                                                                                                l2 = (u64)(l39 + l36) - l3;
-                                                                                                                                                                l8 = (l8 + (l3 << 3)) - 8ull;
-                                                                                                                                                                l35 = l37;
-                                                                                                                                                                L116:;
-                                                                                                                                                                {
-                                                                                                                                                                    {
-                                                                                                                                                                        l34 = l35;
-                                                                                                                                                                        if (l2 == 0) goto L117;
-                                                                                                                                                                        const u32 t118 = load8(l8);
-                                                                                                                                                                        if (t118) goto L117;
-                                                                                                                                                                        l2 = l2 + 1ull;
-                                                                                                                                                                        l35 = l34 - 1u;
-                                                                                                                                                                        l3 = l8 + 1ull;
-                                                                                                                                                                        l8 = l8 - 8ull;
-                                                                                                                                                                        const u32 t119 = load8(l3);
-                                                                                                                                                                        if ((t119 & 248u) == 48u) goto L116;
-                                                                                                                                                                    }
-                                                                                                                                                                    L117:;
-                                                                                                                                                                }
-                                                                                                                                                                store32(l7 + 152u, l37);
-                                                                                                                                                                store32(l7 + 148u, l34);
-                                                                                                                                                                store32(l7 + 144u, 2u);
-                                                                                                                                                                functions_bit_strings_give_bits(e, l7 + 184ull, l9, l39, l34, l7 + 144ull);
-                                                                                                                                                                const u32 t120 = load16(l7 + 184u);
-                                                                                                                                                                store16(l7 + 120u, (u16)t120);
-                                                                                                                                                                const u32 t121 = load32(l7 + 188u);
-                                                                                                                                                                store32(l7 + 124u, t121);
-                                                                                                                                                                goto L52;
+                                                                                                                                                                L107:;
+                                                                                                                                                                functions_bit_strings_rotate(e, l7 + 120ull, l9, l7 + 128ull);
+                                                                                                                                                                goto L53;
                                                                                                                                                             }
-                                                                                                                                                            L105:;
-                                                                                                                                                            functions_bit_strings_shift(e, l7 + 120ull, l9, l7 + 128ull);
-                                                                                                                                                            goto L52;
+                                                                                                                                                            L106:;
+                                                                                                                                                            functions_form_parts_call_segment(e, l7 + 120ull, l9, l7 + 128ull);
+                                                                                                                                                            goto L53;
                                                                                                                                                         }
-                                                                                                                                                        L104:;
-                                                                                                                                                        functions_bit_strings_rotate(e, l7 + 120ull, l9, l7 + 128ull);
-                                                                                                                                                        goto L52;
+                                                                                                                                                        L105:;
+                                                                                                                                                        functions_form_parts_call_character(e, l7 + 120ull, l9, l7 + 128ull);
+                                                                                                                                                        goto L53;
                                                                                                                                                     }
-                                                                                                                                                    L103:;
-                                                                                                                                                    functions_form_parts_call_segment(e, l7 + 120ull, l9, l7 + 128ull);
-                                                                                                                                                    goto L52;
+                                                                                                                                                    L104:;
+                                                                                                                                                    functions_form_parts_call_number(e, l7 + 120ull, l9, l7 + 128ull);
+                                                                                                                                                    goto L53;
                                                                                                                                                 }
-                                                                                                                                                L102:;
-                                                                                                                                                functions_form_parts_call_character(e, l7 + 120ull, l9, l7 + 128ull);
-                                                                                                                                                goto L52;
+                                                                                                                                                L103:;
+                                                                                                                                                functions_form_parts_initial_part(e, l7 + 120ull, l9, l7 + 128ull);
+                                                                                                                                                goto L53;
                                                                                                                                             }
-                                                                                                                                            L101:;
-                                                                                                                                            functions_form_parts_call_number(e, l7 + 120ull, l9, l7 + 128ull);
-                                                                                                                                            goto L52;
+                                                                                                                                            L102:;
+                                                                                                                                            functions_form_parts_call_restore(e, l7 + 120ull, l9, l7 + 128ull);
+                                                                                                                                            goto L53;
                                                                                                                                         }
-                                                                                                                                        L100:;
-                                                                                                                                        functions_form_parts_initial_part(e, l7 + 120ull, l9, l7 + 128ull);
-                                                                                                                                        goto L52;
+                                                                                                                                        L101:;
+                                                                                                                                        functions_form_calls_define_string(e, l7 + 120ull, l9, l7 + 128ull);
+                                                                                                                                        goto L53;
                                                                                                                                     }
-                                                                                                                                    L99:;
-                                                                                                                                    functions_form_parts_call_restore(e, l7 + 120ull, l9, l7 + 128ull);
-                                                                                                                                    goto L52;
+                                                                                                                                    L100:;
+                                                                                                                                    functions_form_calls_segment_string(e, l7 + 120ull, l9, l7 + 128ull);
+                                                                                                                                    goto L53;
                                                                                                                                 }
-                                                                                                                                L98:;
-                                                                                                                                functions_form_calls_define_string(e, l7 + 120ull, l9, l7 + 128ull);
-                                                                                                                                goto L52;
-                                                                                                                            }
-                                                                                                                            L97:;
-                                                                                                                            functions_form_calls_segment_string(e, l7 + 120ull, l9, l7 + 128ull);
-                                                                                                                            goto L52;
-                                                                                                                        }
-                                                                                                                        L96:;
-                                                                                                                        const u64 t122 = load64(l7 + 136u);
-                                                                                                                        store64(l7 + 152u, t122);
-                                                                                                                        const u64 t123 = load64(l7 + 128u);
-                                                                                                                        store64(l7 + 144u, t123);
-                                                                                                                        const u32 t124 = load8(l7 + 156u);
-                                                                                                                        l37 = t124;
-                                                                                                                        functions_arguments_Arguments_next(e, l7 + 48ull, l7 + 144ull, l9);
-                                                                                                                        const u32 t125 = load32(l7 + 52u);
-                                                                                                                        l34 = t125;
-                                                                                                                        const u32 t126 = load32(l7 + 48u);
-                                                                                                                        l35 = t126;
-                                                                                                                        u32 v127;
-                                                                                                                        {
-                                                                                                                            const u32 t128 = load32(l9 + 40ull);
-                                                                                                                            l39 = t128;
-                                                                                                                            if (l39 >= 8u) {
-                                                                                                                                forms_work_Work_find_among_more(e, l7 + 32ull, l9, l35, l34);
-                                                                                                                                const u32 t130 = load32(l7 + 36u);
-                                                                                                                                l43 = t130;
-                                                                                                                                const u32 t131 = load8(l7 + 32u);
-                                                                                                                                v127 = t131; goto L127;
-                                                                                                                            }
-                                                                                                                            {
-                                                                                                                                if (l39 == 0) goto L132;
-                                                                                                                                const u64 t133 = load32(l8 + 4ull);
-                                                                                                                                l3 = (u64)(l34 + l36);
-                                                                                                                                l2 = (u64)(l35 + l36);
-                                                                                                                                if (t133 != (l3 - l2)) goto L132;
-                                                                                                                                l11 = 17ull - (l2 << 3);
-                                                                                                                                l2 = (l3 ^ 18446744073709551615ull) + l2;
-                                                                                                                                l8 = l8 + (l3 << 3);
-                                                                                                                                L134:;
+                                                                                                                                L99:;
+                                                                                                                                const u64 t125 = load64(l7 + 136u);
+                                                                                                                                store64(l7 + 152u, t125);
+                                                                                                                                const u64 t126 = load64(l7 + 128u);
+                                                                                                                                store64(l7 + 144u, t126);
+                                                                                                                                const u32 t127 = load8(l7 + 156u);
+                                                                                                                                l37 = t127;
+                                                                                                                                functions_arguments_Arguments_next(e, l7 + 48ull, l7 + 144ull, l9);
+                                                                                                                                const u32 t128 = load32(l7 + 52u);
+                                                                                                                                l34 = t128;
+                                                                                                                                const u32 t129 = load32(l7 + 48u);
+                                                                                                                                l35 = t129;
+                                                                                                                                u32 v130;
                                                                                                                                 {
-                                                                                                                                    l2 = l2 + 1ull;
-                                                                                                                                    if (l2 == 0) goto L55;
-                                                                                                                                    l3 = l8 - 7ull;
-                                                                                                                                    l4 = l8 + l11;
-                                                                                                                                    l8 = l8 - 8ull;
-                                                                                                                                    const u32 t135 = load8(l4);
-                                                                                                                                    const u32 t136 = load8(l3);
-                                                                                                                                    if (t135 == t136) goto L134;
+                                                                                                                                    const u32 t131 = load32(l9 + 40ull);
+                                                                                                                                    l38 = t131;
+                                                                                                                                    if (l38 >= 8u) {
+                                                                                                                                        forms_work_Work_find_among_more(e, l7 + 32ull, l9, l35, l34);
+                                                                                                                                        const u32 t133 = load32(l7 + 36u);
+                                                                                                                                        l44 = t133;
+                                                                                                                                        const u32 t134 = load8(l7 + 32u);
+                                                                                                                                        v130 = t134; goto L130;
+                                                                                                                                    }
+                                                                                                                                    {
+                                                                                                                                        if (l38 == 0) goto L135;
+                                                                                                                                        const u64 t136 = load32(l8 + 4ull);
+                                                                                                                                        l3 = (u64)(l34 + l36);
+                                                                                                                                        l2 = (u64)(l35 + l36);
+                                                                                                                                        if (t136 != (l3 - l2)) goto L135;
+                                                                                                                                        l11 = 17ull - (l2 << 3);
+                                                                                                                                        l2 = (l3 ^ 18446744073709551615ull) + l2;
+                                                                                                                                        l8 = l8 + (l3 << 3);
+                                                                                                                                        L137:;
+                                                                                                                                        {
+                                                                                                                                            l2 = l2 + 1ull;
+                                                                                                                                            if (l2 == 0) goto L56;
+                                                                                                                                            l3 = l8 - 7ull;
+                                                                                                                                            l4 = l8 + l11;
+                                                                                                                                            l8 = l8 - 8ull;
+                                                                                                                                            const u32 t138 = load8(l4);
+                                                                                                                                            const u32 t139 = load8(l3);
+                                                                                                                                            if (t138 == t139) goto L137;
+                                                                                                                                        }
+                                                                                                                                    }
+                                                                                                                                    L135:;
+                                                                                                                                    forms_work_Work_find_among_few(e, l7 + 40ull, l9, l35, l34);
+                                                                                                                                    const u32 t140 = load32(l7 + 44u);
+                                                                                                                                    l44 = t140;
+                                                                                                                                    const u32 t141 = load8(l7 + 40u);
+                                                                                                                                    v130 = t141;
                                                                                                                                 }
+                                                                                                                                L130:;
+                                                                                                                                if ((v130 & 255u) != 1u) goto L55;
+                                                                                                                                goto L54;
                                                                                                                             }
-                                                                                                                            L132:;
-                                                                                                                            forms_work_Work_find_among_few(e, l7 + 40ull, l9, l35, l34);
-                                                                                                                            const u32 t137 = load32(l7 + 44u);
-                                                                                                                            l43 = t137;
-                                                                                                                            const u32 t138 = load8(l7 + 40u);
-                                                                                                                            v127 = t138;
+                                                                                                                            L98:;
+                                                                                                                            functions_form_calls_delete_definition(e, l7 + 120ull, l9, l7 + 128ull);
+                                                                                                                            goto L53;
                                                                                                                         }
-                                                                                                                        L127:;
-                                                                                                                        if ((v127 & 255u) != 1u) goto L54;
+                                                                                                                        L97:;
+                                                                                                                        functions_form_calls_delete_all(e, l7 + 120ull, l9);
                                                                                                                         goto L53;
                                                                                                                     }
-                                                                                                                    L95:;
-                                                                                                                    functions_form_calls_delete_definition(e, l7 + 120ull, l9, l7 + 128ull);
-                                                                                                                    goto L52;
+                                                                                                                    L96:;
+                                                                                                                    functions_form_calls_list_names(e, l7 + 120ull, l9, l7 + 128ull);
+                                                                                                                    goto L53;
                                                                                                                 }
-                                                                                                                L94:;
-                                                                                                                functions_form_calls_delete_all(e, l7 + 120ull, l9);
-                                                                                                                goto L52;
+                                                                                                                L95:;
+                                                                                                                store8(l7 + 120u, (u8)1u);
+                                                                                                                goto L53;
                                                                                                             }
-                                                                                                            L93:;
-                                                                                                            functions_form_calls_list_names(e, l7 + 120ull, l9, l7 + 128ull);
-                                                                                                            goto L52;
+                                                                                                            L62:;
+                                                                                                            const u32 t142 = load8(l18);
+                                                                                                            core_input_output_read_string(e, l7 + 112ull, l9, t142, l13);
                                                                                                         }
-                                                                                                        L92:;
-                                                                                                        store8(l7 + 120u, (u8)1u);
-                                                                                                        goto L52;
+                                                                                                        L61:;
+                                                                                                        const u32 t143 = load8(l7 + 113u);
+                                                                                                        l37 = t143;
+                                                                                                        const u32 t144 = load8(l7 + 112u);
+                                                                                                        l35 = t144;
+                                                                                                        goto L48;
                                                                                                     }
                                                                                                     L57:;
-                                                                                                    const u32 t139 = load8(l18);
-                                                                                                    core_input_output_read_string(e, l7 + 112ull, l9, t139, l13);
+                                                                                                    l34 = 0u;
+                                                                                                    goto L47;
                                                                                                 }
                                                                                                 L56:;
-                                                                                                const u32 t140 = load8(l7 + 112u);
-                                                                                                l35 = t140;
-                                                                                                goto L49;
+                                                                                                store64(l9 + 44ull, 0ull);
+                                                                                                l44 = 0u;
+                                                                                                goto L54;
                                                                                             }
                                                                                             L55:;
-                                                                                            store64(l9 + 44ull, 0ull);
-                                                                                            l43 = 0u;
+                                                                                            store32(l7 + 124u, 0u);
+                                                                                            store16(l7 + 120u, (u16)1u);
                                                                                             goto L53;
                                                                                         }
                                                                                         L54:;
-                                                                                        store32(l7 + 124u, 0u);
-                                                                                        store16(l7 + 120u, (u16)1u);
-                                                                                        goto L52;
-                                                                                    }
-                                                                                    L53:;
-                                                                                    const u32 t141 = load32(l7 + 148u);
-                                                                                    l48 = t141;
-                                                                                    const u32 t142 = load32(l7 + 144u);
-                                                                                    l49 = t142;
-                                                                                    {
-                                                                                        if ((l37 & 1u) == 0) goto L143;
-                                                                                        if (l48 >= l49) goto L143;
-                                                                                        const u32 t144 = load32(l9 + 48ull);
-                                                                                        l34 = t144;
+                                                                                        const u32 t145 = load32(l7 + 148u);
+                                                                                        l48 = t145;
+                                                                                        const u32 t146 = load32(l7 + 144u);
+                                                                                        l49 = t146;
                                                                                         {
-                                                                                            const u32 t146 = load32(l9 + 44ull);
-                                                                                            l35 = t146;
-                                                                                            if (l43 == l35) goto L145;
-                                                                                            if (l35 < l43) {
-                                                                                                l39 = l43 - l35;
-                                                                                                const u32 t148 = load32(l9 + 16ull);
-                                                                                                l42 = t148;
-                                                                                                L149:;
+                                                                                            if ((l37 & 1u) == 0) goto L147;
+                                                                                            if (l48 >= l49) goto L147;
+                                                                                            const u32 t148 = load32(l9 + 48ull);
+                                                                                            l34 = t148;
+                                                                                            {
+                                                                                                const u32 t150 = load32(l9 + 44ull);
+                                                                                                l35 = t150;
+                                                                                                if (l44 == l35) goto L149;
+                                                                                                if (l35 < l44) {
+                                                                                                    l38 = l44 - l35;
+                                                                                                    const u32 t152 = load32(l9 + 16ull);
+                                                                                                    l42 = t152;
+                                                                                                    L153:;
+                                                                                                    {
+                                                                                                        l35 = 3u;
+                                                                                                        if (l34 < l42) {
+                                                                                                            const u64 t155 = load64(l9);
+                                                                                                            l8 = t155 + ((u64)l34 << 3);
+                                                                                                            const u32 t156 = load32(l8 + 4ull);
+                                                                                                            const u32 t157 = load8(l8);
+                                                                                                            l35 = (t157 == 4u) ? (t156 + 3u) : 3u;
+                                                                                                        }
+                                                                                                        l43 = l34 + 1u;
+                                                                                                        u32 v158;
+                                                                                                        if (l42 > l43) {
+                                                                                                            const u64 t159 = load64(l9);
+                                                                                                            l8 = t159 + ((u64)l43 << 3);
+                                                                                                            const u32 t160 = load32(l8 + 4ull);
+                                                                                                            const u32 t161 = load8(l8);
+                                                                                                            v158 = (t161 == 4u) ? t160 : 0u;
+                                                                                                        } else {
+                                                                                                            v158 = 0u;
+                                                                                                        }
+                                                                                                        l34 = v158 + (l34 + l35);
+                                                                                                        l38 = l38 - 1u;
+                                                                                                        if (l38) goto L153;
+                                                                                                    }
+                                                                                                    goto L149;
+                                                                                                }
+                                                                                                if (l44 == 0) {
+                                                                                                    l34 = 0u;
+                                                                                                    goto L149;
+                                                                                                }
+                                                                                                const u32 t163 = load32(l9 + 16ull);
+                                                                                                l38 = t163;
+                                                                                                l34 = 0u;
+                                                                                                l42 = l44;
+                                                                                                L164:;
                                                                                                 {
                                                                                                     l35 = 3u;
-                                                                                                    if (l34 < l42) {
-                                                                                                        const u64 t151 = load64(l9);
-                                                                                                        l8 = t151 + ((u64)l34 << 3);
-                                                                                                        const u32 t152 = load32(l8 + 4ull);
-                                                                                                        const u32 t153 = load8(l8);
-                                                                                                        l35 = (t153 == 4u) ? (t152 + 3u) : 3u;
+                                                                                                    if (l34 < l38) {
+                                                                                                        const u64 t166 = load64(l9);
+                                                                                                        l8 = t166 + ((u64)l34 << 3);
+                                                                                                        const u32 t167 = load32(l8 + 4ull);
+                                                                                                        const u32 t168 = load8(l8);
+                                                                                                        l35 = (t168 == 4u) ? (t167 + 3u) : 3u;
                                                                                                     }
-                                                                                                    l44 = l34 + 1u;
-                                                                                                    u32 v154;
-                                                                                                    if (l42 > l44) {
-                                                                                                        const u64 t155 = load64(l9);
-                                                                                                        l8 = t155 + ((u64)l44 << 3);
-                                                                                                        const u32 t156 = load32(l8 + 4ull);
-                                                                                                        const u32 t157 = load8(l8);
-                                                                                                        v154 = (t157 == 4u) ? t156 : 0u;
+                                                                                                    l43 = l34 + 1u;
+                                                                                                    u32 v169;
+                                                                                                    if (l38 > l43) {
+                                                                                                        const u64 t170 = load64(l9);
+                                                                                                        l8 = t170 + ((u64)l43 << 3);
+                                                                                                        const u32 t171 = load32(l8 + 4ull);
+                                                                                                        const u32 t172 = load8(l8);
+                                                                                                        v169 = (t172 == 4u) ? t171 : 0u;
                                                                                                     } else {
-                                                                                                        v154 = 0u;
+                                                                                                        v169 = 0u;
                                                                                                     }
-                                                                                                    l34 = v154 + (l34 + l35);
-                                                                                                    l39 = l39 - 1u;
-                                                                                                    if (l39) goto L149;
+                                                                                                    l34 = v169 + (l34 + l35);
+                                                                                                    l42 = l42 - 1u;
+                                                                                                    if (l42) goto L164;
                                                                                                 }
-                                                                                                goto L145;
                                                                                             }
-                                                                                            if (l43 == 0) {
-                                                                                                l34 = 0u;
-                                                                                                goto L145;
-                                                                                            }
-                                                                                            const u32 t159 = load32(l9 + 16ull);
-                                                                                            l39 = t159;
-                                                                                            l34 = 0u;
-                                                                                            l42 = l43;
-                                                                                            L160:;
-                                                                                            {
-                                                                                                l35 = 3u;
-                                                                                                if (l34 < l39) {
-                                                                                                    const u64 t162 = load64(l9);
-                                                                                                    l8 = t162 + ((u64)l34 << 3);
-                                                                                                    const u32 t163 = load32(l8 + 4ull);
-                                                                                                    const u32 t164 = load8(l8);
-                                                                                                    l35 = (t164 == 4u) ? (t163 + 3u) : 3u;
-                                                                                                }
-                                                                                                l44 = l34 + 1u;
-                                                                                                u32 v165;
-                                                                                                if (l39 > l44) {
-                                                                                                    const u64 t166 = load64(l9);
-                                                                                                    l8 = t166 + ((u64)l44 << 3);
-                                                                                                    const u32 t167 = load32(l8 + 4ull);
-                                                                                                    const u32 t168 = load8(l8);
-                                                                                                    v165 = (t168 == 4u) ? t167 : 0u;
-                                                                                                } else {
-                                                                                                    v165 = 0u;
-                                                                                                }
-                                                                                                l34 = v165 + (l34 + l35);
-                                                                                                l42 = l42 - 1u;
-                                                                                                if (l42) goto L160;
-                                                                                            }
-                                                                                        }
-                                                                                        L145:;
-                                                                                        l35 = 0u;
-                                                                                        const u64 t169 = load64(l9);
-                                                                                        l3 = t169;
-                                                                                        l8 = l3 + ((u64)l34 << 3);
-                                                                                        const u32 t170 = load32(l8 + 12ull);
-                                                                                        l39 = t170;
-                                                                                        const u32 t171 = load32(l8 + 20ull);
-                                                                                        l37 = t171;
-                                                                                        if (l39 != l37) {
-                                                                                            const u32 t173 = load32(l8 + 4ull);
-                                                                                            l42 = (l34 + t173) + 3u;
-                                                                                            l35 = l42 + l37;
-                                                                                            u32 v174;
-                                                                                            {
-                                                                                                l34 = l39 - l37;
-                                                                                                const u32 t175 = load32(l9 + 28ull);
-                                                                                                l47 = t175;
-                                                                                                const u32 t176 = load32(l9 + 20ull);
-                                                                                                const u32 t177 = load32(l9 + 24ull);
-                                                                                                l44 = t177;
-                                                                                                const u32 t178 = load32(l9 + 16ull);
-                                                                                                if (l34 > (l47 - (t176 + (l44 + t178)))) {
-                                                                                                    store_fill_load_items_in_way(e, l7 + 24ull, l9, l35, l39 + l42);
-                                                                                                    const u32 t180 = load8(l7 + 24u);
-                                                                                                    l37 = t180;
-                                                                                                    const u32 t181 = load32(l7 + 28u);
-                                                                                                    v174 = t181; goto L174;
-                                                                                                }
-                                                                                                l1 = (u64)l34;
-                                                                                                l11 = (u64)l35;
+                                                                                            L149:;
+                                                                                            l35 = 0u;
+                                                                                            const u64 t173 = load64(l9);
+                                                                                            l3 = t173;
+                                                                                            l8 = l3 + ((u64)l34 << 3);
+                                                                                            const u32 t174 = load32(l8 + 12ull);
+                                                                                            l38 = t174;
+                                                                                            const u32 t175 = load32(l8 + 20ull);
+                                                                                            l37 = t175;
+                                                                                            if (l38 != l37) {
+                                                                                                const u32 t177 = load32(l8 + 4ull);
+                                                                                                l42 = (l34 + t177) + 3u;
+                                                                                                l35 = l42 + l37;
+                                                                                                u32 v178;
                                                                                                 {
+                                                                                                    l34 = l38 - l37;
+                                                                                                    const u32 t179 = load32(l9 + 28ull);
+                                                                                                    l47 = t179;
+                                                                                                    const u32 t180 = load32(l9 + 20ull);
+                                                                                                    const u32 t181 = load32(l9 + 24ull);
+                                                                                                    l43 = t181;
+                                                                                                    const u32 t182 = load32(l9 + 16ull);
+                                                                                                    if (l34 > (l47 - (t180 + (l43 + t182)))) {
+                                                                                                        store_fill_load_items_in_way(e, l7 + 24ull, l9, l35, l38 + l42);
+                                                                                                        const u32 t184 = load8(l7 + 24u);
+                                                                                                        l37 = t184;
+                                                                                                        const u32 t185 = load32(l7 + 28u);
+                                                                                                        v178 = t185; goto L178;
+                                                                                                    }
+                                                                                                    l1 = (u64)l34;
+                                                                                                    l11 = (u64)l35;
                                                                                                     {
                                                                                                         {
                                                                                                             {
                                                                                                                 {
                                                                                                                     {
-                                                                                                                        if (l34 >= 8u) {
-                                                                                                                            if (l34 == 8u) goto L186;
+                                                                                                                        {
+                                                                                                                            if (l34 >= 8u) {
+                                                                                                                                if (l34 == 8u) goto L190;
+                                                                                                                                l8 = l3 + (l11 << 3);
+                                                                                                                                l2 = l1;
+                                                                                                                                goto L191;
+                                                                                                                            }
+                                                                                                                            if (l34 >= 4u) {
+                                                                                                                                l37 = 0u;
+                                                                                                                                l8 = l3 + (l11 << 3);
+                                                                                                                                const u32 t194 = load8(l8 + 24ull);
+                                                                                                                                const u32 t195 = load8(l8 + 16ull);
+                                                                                                                                const u32 t196 = load8(l8 + 8ull);
+                                                                                                                                const u32 t197 = load8(l8);
+                                                                                                                                if (((t194 + t195) | (t196 + t197)) & 255u) { v178 = 0u; goto L178; }
+                                                                                                                                l2 = l1 + l11;
+                                                                                                                                l8 = l3 + (l2 << 3);
+                                                                                                                                const u32 t198 = load8(l8 - 8ull);
+                                                                                                                                const u32 t199 = load8(l8 - 16ull);
+                                                                                                                                const u32 t200 = load8(l8 - 24ull);
+                                                                                                                                const u32 t201 = load8(l8 - 32ull);
+                                                                                                                                if (((t198 + t199) | (t200 + t201)) & 255u) { v178 = 0u; goto L178; }
+                                                                                                                                l37 = l34 + l43;
+                                                                                                                                l8 = (u64)(l47 - l37);
+                                                                                                                                core_slice_edits_slice_T_copy_from_slice(e, l3 + (l8 << 3), l3 + (l11 << 3), 4ull);
+                                                                                                                                const u64 t202 = l8 - l11;
+                                                                                                                                l8 = l2 - 4ull;
+                                                                                                                                core_slice_edits_slice_T_copy_from_slice(e, l3 + ((t202 + l8) << 3), l3 + (l8 << 3), 4ull);
+                                                                                                                                goto L187;
+                                                                                                                            }
                                                                                                                             l8 = l3 + (l11 << 3);
-                                                                                                                            l2 = l1;
-                                                                                                                            goto L187;
-                                                                                                                        }
-                                                                                                                        if (l34 >= 4u) {
+                                                                                                                            const u32 t203 = load8(l8);
+                                                                                                                            l38 = t203;
+                                                                                                                            if (l34 < 2u) goto L189;
                                                                                                                             l37 = 0u;
-                                                                                                                            l8 = l3 + (l11 << 3);
-                                                                                                                            const u32 t190 = load8(l8 + 24ull);
-                                                                                                                            const u32 t191 = load8(l8 + 16ull);
-                                                                                                                            const u32 t192 = load8(l8 + 8ull);
-                                                                                                                            const u32 t193 = load8(l8);
-                                                                                                                            if (((t190 + t191) | (t192 + t193)) & 255u) { v174 = 0u; goto L174; }
+                                                                                                                            const u32 t204 = load8(l8 + 8ull);
+                                                                                                                            if (t204 | (l38 & 255u)) { v178 = 0u; goto L178; }
                                                                                                                             l2 = l1 + l11;
                                                                                                                             l8 = l3 + (l2 << 3);
-                                                                                                                            const u32 t194 = load8(l8 - 8ull);
-                                                                                                                            const u32 t195 = load8(l8 - 16ull);
-                                                                                                                            const u32 t196 = load8(l8 - 24ull);
-                                                                                                                            const u32 t197 = load8(l8 - 32ull);
-                                                                                                                            if (((t194 + t195) | (t196 + t197)) & 255u) { v174 = 0u; goto L174; }
-                                                                                                                            l37 = l34 + l44;
+                                                                                                                            const u32 t205 = load8(l8 - 8ull);
+                                                                                                                            const u32 t206 = load8(l8 - 16ull);
+                                                                                                                            if (t205 | t206) { v178 = 0u; goto L178; }
+                                                                                                                            l37 = l34 + l43;
                                                                                                                             l8 = (u64)(l47 - l37);
-                                                                                                                            core_slice_edits_slice_T_copy_from_slice(e, l3 + (l8 << 3), l3 + (l11 << 3), 4ull);
-                                                                                                                            const u64 t198 = l8 - l11;
-                                                                                                                            l8 = l2 - 4ull;
-                                                                                                                            core_slice_edits_slice_T_copy_from_slice(e, l3 + ((t198 + l8) << 3), l3 + (l8 << 3), 4ull);
-                                                                                                                            goto L183;
+                                                                                                                            core_slice_edits_slice_T_copy_from_slice(e, l3 + (l8 << 3), l3 + (l11 << 3), 2ull);
+                                                                                                                            const u64 t207 = l8 - l11;
+                                                                                                                            l8 = l2 - 2ull;
+                                                                                                                            core_slice_edits_slice_T_copy_from_slice(e, l3 + ((t207 + l8) << 3), l3 + (l8 << 3), 2ull);
+                                                                                                                            goto L187;
                                                                                                                         }
-                                                                                                                        l8 = l3 + (l11 << 3);
-                                                                                                                        const u32 t199 = load8(l8);
-                                                                                                                        l39 = t199;
-                                                                                                                        if (l34 < 2u) goto L185;
-                                                                                                                        l37 = 0u;
-                                                                                                                        const u32 t200 = load8(l8 + 8ull);
-                                                                                                                        if (t200 | (l39 & 255u)) { v174 = 0u; goto L174; }
-                                                                                                                        l2 = l1 + l11;
-                                                                                                                        l8 = l3 + (l2 << 3);
-                                                                                                                        const u32 t201 = load8(l8 - 8ull);
-                                                                                                                        const u32 t202 = load8(l8 - 16ull);
-                                                                                                                        if (t201 | t202) { v174 = 0u; goto L174; }
-                                                                                                                        l37 = l34 + l44;
-                                                                                                                        l8 = (u64)(l47 - l37);
-                                                                                                                        core_slice_edits_slice_T_copy_from_slice(e, l3 + (l8 << 3), l3 + (l11 << 3), 2ull);
-                                                                                                                        const u64 t203 = l8 - l11;
-                                                                                                                        l8 = l2 - 2ull;
-                                                                                                                        core_slice_edits_slice_T_copy_from_slice(e, l3 + ((t203 + l8) << 3), l3 + (l8 << 3), 2ull);
-                                                                                                                        goto L183;
-                                                                                                                    }
-                                                                                                                    L187:;
-                                                                                                                    L204:;
-                                                                                                                    {
-                                                                                                                        const u32 t205 = load8(l8 + 56ull);
-                                                                                                                        const u32 t206 = load8(l8 + 48ull);
-                                                                                                                        const u32 t207 = load8(l8 + 40ull);
-                                                                                                                        const u32 t208 = load8(l8 + 32ull);
-                                                                                                                        const u32 t209 = load8(l8 + 24ull);
-                                                                                                                        const u32 t210 = load8(l8 + 16ull);
-                                                                                                                        const u32 t211 = load8(l8 + 8ull);
-                                                                                                                        const u32 t212 = load8(l8);
-                                                                                                                        if ((t205 | ((t206 + (t207 + (t208 + (t209 + (t210 + (t211 + t212)))))) & 255u)) == 0) {
-                                                                                                                            l8 = l8 + 64ull;
-                                                                                                                            l2 = l2 - 8ull;
-                                                                                                                            if (l2 >= 9ull) goto L204;
-                                                                                                                            goto L186;
-                                                                                                                        }
-                                                                                                                    }
-                                                                                                                    l37 = 0u;
-                                                                                                                    v174 = 0u; goto L174;
-                                                                                                                }
-                                                                                                                L186:;
-                                                                                                                l37 = 0u;
-                                                                                                                l2 = l1 + l11;
-                                                                                                                l8 = l3 + (l2 << 3);
-                                                                                                                const u32 t214 = load8(l8 - 56ull);
-                                                                                                                const u32 t215 = load8(l8 - 64ull);
-                                                                                                                const u32 t216 = load8(l8 - 48ull);
-                                                                                                                const u32 t217 = load8(l8 - 40ull);
-                                                                                                                const u32 t218 = load8(l8 - 32ull);
-                                                                                                                const u32 t219 = load8(l8 - 24ull);
-                                                                                                                const u32 t220 = load8(l8 - 16ull);
-                                                                                                                const u32 t221 = load8(l8 - 8ull);
-                                                                                                                if ((((((((t214 + t215) + t216) + t217) + t218) + t219) + t220) & 255u) | t221) { v174 = 0u; goto L174; }
-                                                                                                                l37 = l34 + l44;
-                                                                                                                l17 = (u64)(l47 - l37);
-                                                                                                                if (l34 > 24u) goto L184;
-                                                                                                                if (l34 != 8u) {
-                                                                                                                    l24 = l17 << 3;
-                                                                                                                    l25 = l11 << 3;
-                                                                                                                    l26 = (l17 - l11) & 2305843009213693944ull;
-                                                                                                                    l6 = l1;
-                                                                                                                    l4 = l3;
-                                                                                                                    L223:;
-                                                                                                                    {
-                                                                                                                        l8 = l4 + l25;
-                                                                                                                        l2 = l4 + l24;
+                                                                                                                        L191:;
+                                                                                                                        L208:;
                                                                                                                         {
-                                                                                                                            if (l26 == 0) {
-                                                                                                                                const u32 t226 = load8(l8);
-                                                                                                                                store8(l2, (u8)t226);
-                                                                                                                                const u32 t227 = load8(l8 + 1ull);
-                                                                                                                                store8(l2 + 1ull, (u8)t227);
-                                                                                                                                const u32 t228 = load32(l8 + 4ull);
-                                                                                                                                store32(l2 + 4ull, t228);
-                                                                                                                                const u32 t229 = load16(l8 + 8ull);
-                                                                                                                                store16(l2 + 8ull, (u16)t229);
-                                                                                                                                const u32 t230 = load32(l8 + 12ull);
-                                                                                                                                store32(l2 + 12ull, t230);
-                                                                                                                                const u32 t231 = load16(l8 + 16ull);
-                                                                                                                                store16(l2 + 16ull, (u16)t231);
-                                                                                                                                const u32 t232 = load32(l8 + 20ull);
-                                                                                                                                store32(l2 + 20ull, t232);
-                                                                                                                                const u32 t233 = load16(l8 + 24ull);
-                                                                                                                                store16(l2 + 24ull, (u16)t233);
-                                                                                                                                const u32 t234 = load32(l8 + 28ull);
-                                                                                                                                store32(l2 + 28ull, t234);
-                                                                                                                                const u32 t235 = load16(l8 + 32ull);
-                                                                                                                                store16(l2 + 32ull, (u16)t235);
-                                                                                                                                const u32 t236 = load32(l8 + 36ull);
-                                                                                                                                store32(l2 + 36ull, t236);
-                                                                                                                                const u32 t237 = load16(l8 + 40ull);
-                                                                                                                                store16(l2 + 40ull, (u16)t237);
-                                                                                                                                const u32 t238 = load32(l8 + 44ull);
-                                                                                                                                store32(l2 + 44ull, t238);
-                                                                                                                                const u32 t239 = load16(l8 + 48ull);
-                                                                                                                                store16(l2 + 48ull, (u16)t239);
-                                                                                                                                const u32 t240 = load32(l8 + 52ull);
-                                                                                                                                store32(l2 + 52ull, t240);
-                                                                                                                                const u32 t241 = load16(l8 + 56ull);
-                                                                                                                                l35 = t241;
-                                                                                                                                const u32 t242 = load32(l8 + 60ull);
-                                                                                                                                store32(l2 + 60ull, t242);
-                                                                                                                                store16(l2 + 56ull, (u16)l35);
-                                                                                                                                goto L224;
+                                                                                                                            const u32 t209 = load8(l8 + 56ull);
+                                                                                                                            const u32 t210 = load8(l8 + 48ull);
+                                                                                                                            const u32 t211 = load8(l8 + 40ull);
+                                                                                                                            const u32 t212 = load8(l8 + 32ull);
+                                                                                                                            const u32 t213 = load8(l8 + 24ull);
+                                                                                                                            const u32 t214 = load8(l8 + 16ull);
+                                                                                                                            const u32 t215 = load8(l8 + 8ull);
+                                                                                                                            const u32 t216 = load8(l8);
+                                                                                                                            if ((t209 | ((t210 + (t211 + (t212 + (t213 + (t214 + (t215 + t216)))))) & 255u)) == 0) {
+                                                                                                                                l8 = l8 + 64ull;
+                                                                                                                                l2 = l2 - 8ull;
+                                                                                                                                if (l2 >= 9ull) goto L208;
+                                                                                                                                goto L190;
                                                                                                                             }
-                                                                                                                            const u64 t243 = load64(l8);
-                                                                                                                            l27 = t243;
-                                                                                                                            const u64 t244 = load64(l8 + 8u);
-                                                                                                                            l28 = t244;
-                                                                                                                            const u64 t245 = load64(l8 + 16u);
-                                                                                                                            l29 = t245;
-                                                                                                                            const u64 t246 = load64(l8 + 24u);
-                                                                                                                            l30 = t246;
-                                                                                                                            const u64 t247 = load64(l8 + 32u);
-                                                                                                                            l31 = t247;
-                                                                                                                            const u64 t248 = load64(l8 + 40u);
-                                                                                                                            l32 = t248;
-                                                                                                                            const u64 t249 = load64(l8 + 48u);
-                                                                                                                            l33 = t249;
-                                                                                                                            const u64 t250 = load64(l8 + 56u);
-                                                                                                                            store64(l2 + 56u, t250);
-                                                                                                                            store64(l2 + 48u, l33);
-                                                                                                                            store64(l2 + 40u, l32);
-                                                                                                                            store64(l2 + 32u, l31);
-                                                                                                                            store64(l2 + 24u, l30);
-                                                                                                                            store64(l2 + 16u, l29);
-                                                                                                                            store64(l2 + 8u, l28);
-                                                                                                                            store64(l2, l27);
                                                                                                                         }
-                                                                                                                        L224:;
-                                                                                                                        l4 = l4 + 64ull;
-                                                                                                                        l6 = l6 - 8ull;
-                                                                                                                        if (l6 > 8ull) goto L223;
+                                                                                                                        l37 = 0u;
+                                                                                                                        v178 = 0u; goto L178;
                                                                                                                     }
+                                                                                                                    L190:;
+                                                                                                                    l37 = 0u;
+                                                                                                                    l2 = l1 + l11;
+                                                                                                                    l8 = l3 + (l2 << 3);
+                                                                                                                    const u32 t218 = load8(l8 - 56ull);
+                                                                                                                    const u32 t219 = load8(l8 - 64ull);
+                                                                                                                    const u32 t220 = load8(l8 - 48ull);
+                                                                                                                    const u32 t221 = load8(l8 - 40ull);
+                                                                                                                    const u32 t222 = load8(l8 - 32ull);
+                                                                                                                    const u32 t223 = load8(l8 - 24ull);
+                                                                                                                    const u32 t224 = load8(l8 - 16ull);
+                                                                                                                    const u32 t225 = load8(l8 - 8ull);
+                                                                                                                    if ((((((((t218 + t219) + t220) + t221) + t222) + t223) + t224) & 255u) | t225) { v178 = 0u; goto L178; }
+                                                                                                                    l37 = l34 + l43;
+                                                                                                                    l17 = (u64)(l47 - l37);
+                                                                                                                    if (l34 > 24u) goto L188;
+                                                                                                                    if (l34 != 8u) {
+                                                                                                                        l24 = l17 << 3;
+                                                                                                                        l25 = l11 << 3;
+                                                                                                                        l26 = (l17 - l11) & 2305843009213693944ull;
+                                                                                                                        l6 = l1;
+                                                                                                                        l4 = l3;
+                                                                                                                        L227:;
+                                                                                                                        {
+                                                                                                                            l8 = l4 + l25;
+                                                                                                                            l2 = l4 + l24;
+                                                                                                                            {
+                                                                                                                                if (l26 == 0) {
+                                                                                                                                    const u32 t230 = load8(l8);
+                                                                                                                                    store8(l2, (u8)t230);
+                                                                                                                                    const u32 t231 = load8(l8 + 1ull);
+                                                                                                                                    store8(l2 + 1ull, (u8)t231);
+                                                                                                                                    const u32 t232 = load32(l8 + 4ull);
+                                                                                                                                    store32(l2 + 4ull, t232);
+                                                                                                                                    const u32 t233 = load16(l8 + 8ull);
+                                                                                                                                    store16(l2 + 8ull, (u16)t233);
+                                                                                                                                    const u32 t234 = load32(l8 + 12ull);
+                                                                                                                                    store32(l2 + 12ull, t234);
+                                                                                                                                    const u32 t235 = load16(l8 + 16ull);
+                                                                                                                                    store16(l2 + 16ull, (u16)t235);
+                                                                                                                                    const u32 t236 = load32(l8 + 20ull);
+                                                                                                                                    store32(l2 + 20ull, t236);
+                                                                                                                                    const u32 t237 = load16(l8 + 24ull);
+                                                                                                                                    store16(l2 + 24ull, (u16)t237);
+                                                                                                                                    const u32 t238 = load32(l8 + 28ull);
+                                                                                                                                    store32(l2 + 28ull, t238);
+                                                                                                                                    const u32 t239 = load16(l8 + 32ull);
+                                                                                                                                    store16(l2 + 32ull, (u16)t239);
+                                                                                                                                    const u32 t240 = load32(l8 + 36ull);
+                                                                                                                                    store32(l2 + 36ull, t240);
+                                                                                                                                    const u32 t241 = load16(l8 + 40ull);
+                                                                                                                                    store16(l2 + 40ull, (u16)t241);
+                                                                                                                                    const u32 t242 = load32(l8 + 44ull);
+                                                                                                                                    store32(l2 + 44ull, t242);
+                                                                                                                                    const u32 t243 = load16(l8 + 48ull);
+                                                                                                                                    store16(l2 + 48ull, (u16)t243);
+                                                                                                                                    const u32 t244 = load32(l8 + 52ull);
+                                                                                                                                    store32(l2 + 52ull, t244);
+                                                                                                                                    const u32 t245 = load16(l8 + 56ull);
+                                                                                                                                    l35 = t245;
+                                                                                                                                    const u32 t246 = load32(l8 + 60ull);
+                                                                                                                                    store32(l2 + 60ull, t246);
+                                                                                                                                    store16(l2 + 56ull, (u16)l35);
+                                                                                                                                    goto L228;
+                                                                                                                                }
+                                                                                                                                const u64 t247 = load64(l8);
+                                                                                                                                l27 = t247;
+                                                                                                                                const u64 t248 = load64(l8 + 8u);
+                                                                                                                                l28 = t248;
+                                                                                                                                const u64 t249 = load64(l8 + 16u);
+                                                                                                                                l29 = t249;
+                                                                                                                                const u64 t250 = load64(l8 + 24u);
+                                                                                                                                l30 = t250;
+                                                                                                                                const u64 t251 = load64(l8 + 32u);
+                                                                                                                                l31 = t251;
+                                                                                                                                const u64 t252 = load64(l8 + 40u);
+                                                                                                                                l32 = t252;
+                                                                                                                                const u64 t253 = load64(l8 + 48u);
+                                                                                                                                l33 = t253;
+                                                                                                                                const u64 t254 = load64(l8 + 56u);
+                                                                                                                                store64(l2 + 56u, t254);
+                                                                                                                                store64(l2 + 48u, l33);
+                                                                                                                                store64(l2 + 40u, l32);
+                                                                                                                                store64(l2 + 32u, l31);
+                                                                                                                                store64(l2 + 24u, l30);
+                                                                                                                                store64(l2 + 16u, l29);
+                                                                                                                                store64(l2 + 8u, l28);
+                                                                                                                                store64(l2, l27);
+                                                                                                                            }
+                                                                                                                            L228:;
+                                                                                                                            l4 = l4 + 64ull;
+                                                                                                                            l6 = l6 - 8ull;
+                                                                                                                            if (l6 > 8ull) goto L227;
+                                                                                                                        }
+                                                                                                                    }
+                                                                                                                    l8 = l1 - 8ull;
+                                                                                                                    core_slice_edits_slice_T_copy_from_slice(e, l3 + ((l8 + l17) << 3), l3 + ((l8 + l11) << 3), 8ull);
+                                                                                                                    store32(l9 + 24ull, l37);
+                                                                                                                    goto L186;
                                                                                                                 }
-                                                                                                                l8 = l1 - 8ull;
-                                                                                                                core_slice_edits_slice_T_copy_from_slice(e, l3 + ((l8 + l17) << 3), l3 + ((l8 + l11) << 3), 8ull);
-                                                                                                                store32(l9 + 24ull, l37);
-                                                                                                                goto L182;
+                                                                                                                L189:;
+                                                                                                                l37 = 0u;
+                                                                                                                if (l38 & 255u) { v178 = 0u; goto L178; }
+                                                                                                                l37 = l34 + l43;
+                                                                                                                if (l34 != 1u) goto L187;
+                                                                                                                l8 = l3 + ((u64)(l47 - l37) << 3);
+                                                                                                                l2 = l3 + (l11 << 3);
+                                                                                                                const u32 t255 = load16(l2);
+                                                                                                                store16(l8, (u16)t255);
+                                                                                                                const u32 t256 = load32(l2 + 4ull);
+                                                                                                                store32(l8 + 4ull, t256);
+                                                                                                                goto L187;
                                                                                                             }
-                                                                                                            L185:;
-                                                                                                            l37 = 0u;
-                                                                                                            if (l39 & 255u) { v174 = 0u; goto L174; }
-                                                                                                            l37 = l34 + l44;
-                                                                                                            if (l34 != 1u) goto L183;
-                                                                                                            l8 = l3 + ((u64)(l47 - l37) << 3);
-                                                                                                            l2 = l3 + (l11 << 3);
-                                                                                                            const u32 t251 = load16(l2);
-                                                                                                            store16(l8, (u16)t251);
-                                                                                                            const u32 t252 = load32(l2 + 4ull);
-                                                                                                            store32(l8 + 4ull, t252);
-                                                                                                            goto L183;
+                                                                                                            L188:;
+                                                                                                            space_copies_copy_long(e, l3, l11, l2, l17);
                                                                                                         }
-                                                                                                        L184:;
-                                                                                                        space_copies_copy_long(e, l3, l11, l2, l17);
+                                                                                                        L187:;
+                                                                                                        store32(l9 + 24ull, l37);
                                                                                                     }
-                                                                                                    L183:;
-                                                                                                    store32(l9 + 24ull, l37);
+                                                                                                    L186:;
+                                                                                                    l37 = 1u;
+                                                                                                    v178 = l34;
                                                                                                 }
-                                                                                                L182:;
-                                                                                                l37 = 1u;
-                                                                                                v174 = l34;
+                                                                                                L178:;
+                                                                                                l35 = v178;
+                                                                                                if ((l37 & 255u) != 1u) goto L147;
                                                                                             }
-                                                                                            L174:;
-                                                                                            l35 = v174;
-                                                                                            if ((l37 & 255u) != 1u) goto L143;
+                                                                                            store32(l7 + 124u, l35);
+                                                                                            store16(l7 + 120u, (u16)2u);
+                                                                                            goto L53;
                                                                                         }
-                                                                                        store32(l7 + 124u, l35);
-                                                                                        store16(l7 + 120u, (u16)2u);
-                                                                                        goto L52;
+                                                                                        L147:;
+                                                                                        const u32 t257 = forms_work_Work_fill_body(e, l9, l44, l49, l48);
+                                                                                        l34 = t257;
+                                                                                        store32(l7 + 124u, 0u);
+                                                                                        store8(l7 + 121u, (u8)0u);
+                                                                                        store8(l7 + 120u, (u8)l34);
                                                                                     }
-                                                                                    L143:;
-                                                                                    const u32 t253 = forms_work_Work_fill_body(e, l9, l43, l49, l48);
-                                                                                    l34 = t253;
-                                                                                    store32(l7 + 124u, 0u);
-                                                                                    store8(l7 + 121u, (u8)0u);
-                                                                                    store8(l7 + 120u, (u8)l34);
+                                                                                    L53:;
+                                                                                    const u32 t258 = load32(l7 + 124u);
+                                                                                    l43 = t258;
+                                                                                    const u32 t259 = load8(l7 + 121u);
+                                                                                    l37 = t259;
+                                                                                    const u32 t260 = load8(l7 + 120u);
+                                                                                    l35 = t260;
                                                                                 }
                                                                                 L52:;
-                                                                                const u32 t254 = load32(l7 + 124u);
-                                                                                store32(l7 + 116u, t254);
-                                                                                const u32 t255 = load8(l7 + 121u);
-                                                                                store8(l7 + 113u, (u8)t255);
-                                                                                const u32 t256 = load8(l7 + 120u);
-                                                                                l35 = t256;
-                                                                                store8(l7 + 112u, (u8)l35);
+                                                                                store32(l7 + 116u, l43);
                                                                                 goto L49;
                                                                             }
                                                                             L51:;
-                                                                            l35 = 1u;
-                                                                            v50 = 0u;
+                                                                            l37 = 0u;
+                                                                            v50 = 1u;
                                                                         }
                                                                         L50:;
-                                                                        l34 = v50;
+                                                                        l35 = v50;
                                                                         store32(l7 + 116u, 0u);
-                                                                        store8(l7 + 113u, (u8)l34);
-                                                                        store8(l7 + 112u, (u8)l35);
                                                                     }
                                                                     L49:;
-                                                                    const u32 t257 = load32(l7 + 116u);
-                                                                    l34 = t257;
-                                                                    switch ((u32)(((u64)l35 & 255ull)) - 1u) {
-                                                                    case 0: goto L27;
-                                                                    case 1: goto L24;
-                                                                    case 2: goto L24;
-                                                                    case 3: goto L29;
-                                                                    default: goto L30;
-                                                                    }
+                                                                    store8(l7 + 113u, (u8)l37);
+                                                                    store8(l7 + 112u, (u8)l35);
                                                                 }
-                                                                L30:;
-                                                                l9 = l16 - l12;
-                                                                l36 = 2u;
-                                                                goto L25;
+                                                                L48:;
+                                                                const u32 t261 = load32(l7 + 116u);
+                                                                l34 = t261;
+                                                                switch ((u32)(((u64)l35 & 255ull)) - 1u) {
+                                                                case 0: goto L26;
+                                                                case 1: goto L47;
+                                                                case 2: goto L47;
+                                                                case 3: goto L27;
+                                                                default: goto L28;
+                                                                }
                                                             }
-                                                            L29:;
-                                                            const u32 t258 = load8(l7 + 113u);
-                                                            v28 = t258;
+                                                            L47:;
+                                                            l46 = l45 + l46;
+                                                            const u64 t262 = load64(l9);
+                                                            const u32 t263 = load32(l9 + 16ull);
+                                                            l45 = t263;
+                                                            l8 = t262 + ((u64)l45 << 3);
+                                                            {
+                                                                {
+                                                                    const u32 t266 = load32(l9 + 32ull);
+                                                                    l36 = t266;
+                                                                    l41 = l36 <= l39;
+                                                                    if (l41) goto L265;
+                                                                    if ((l36 - l39) != 1u) goto L265;
+                                                                    const u32 t267 = load32((l8 + ((l15 << 3) & 34359738360ull)) + 4ull);
+                                                                    l36 = t267;
+                                                                    l41 = l36 ? (l50 - l36) : 0u;
+                                                                    goto L264;
+                                                                }
+                                                                L265:;
+                                                                if (l41) {
+                                                                    l41 = l36;
+                                                                    goto L264;
+                                                                }
+                                                                L269:;
+                                                                {
+                                                                    const u32 t270 = load32((l8 + ((u64)(l36 - 1u) << 3)) + 4ull);
+                                                                    l41 = t270;
+                                                                    l36 = l36 - l41;
+                                                                    l41 = l41 ? l36 : 0u;
+                                                                    if (l41 > l39) goto L269;
+                                                                }
+                                                            }
+                                                            L264:;
+                                                            store32(l9 + 20ull, l39);
+                                                            store32(l9 + 32ull, l41);
+                                                            l36 = l34 + l46;
+                                                            goto L25;
                                                         }
                                                         L28:;
-                                                        l36 = v28;
-                                                        const u32 t259 = load32(l9 + 24ull);
-                                                        const u32 t260 = load32(l9 + 20ull);
-                                                        const u32 t261 = load32(l9 + 16ull);
-                                                        l38 = t259 + (t260 + t261);
                                                         l9 = l16 - l12;
-                                                        l40 = 1u << (l36 & 31);
-                                                        if (l40 & 3u) goto L26;
-                                                        if (l40 & 12u) goto L25;
-                                                        l41 = (l38 > l41) ? l38 : l41;
-                                                        goto L25;
+                                                        l37 = 2u;
+                                                        goto L10;
                                                     }
                                                     L27:;
-                                                    l8 = l9 + 20ull;
-                                                    const u32 t262 = load32(l8);
-                                                    l46 = t262;
-                                                    core_delivery_deliver(e, l9, l38, l40);
-                                                    l36 = l46 + (l36 + l45);
-                                                    const u32 t263 = load32(l8);
-                                                    l38 = t263;
-                                                    const u32 t264 = load32(l9 + 16ull);
-                                                    l45 = t264;
-                                                    goto L23;
+                                                    const u32 t271 = load32(l9 + 24ull);
+                                                    const u32 t272 = load32(l9 + 20ull);
+                                                    const u32 t273 = load32(l9 + 16ull);
+                                                    l36 = t271 + (t272 + t273);
+                                                    l9 = l16 - l12;
+                                                    l39 = 1u << (l37 & 31);
+                                                    if (l39 & 3u) goto L15;
+                                                    if (l39 & 12u) goto L10;
+                                                    l40 = (l36 > l40) ? l36 : l40;
+                                                    goto L10;
                                                 }
                                                 L26:;
-                                                l41 = (l38 > l41) ? l38 : l41;
-                                                l9 = l9 + 1ull;
+                                                l8 = l9 + 20ull;
+                                                const u32 t274 = load32(l8);
+                                                l46 = t274;
+                                                core_delivery_deliver(e, l9, l39, l41);
+                                                l36 = l46 + (l36 + l45);
+                                                const u32 t275 = load32(l8);
+                                                l39 = t275;
+                                                const u32 t276 = load32(l9 + 16ull);
+                                                l45 = t276;
                                             }
                                             L25:;
-                                            store32(l14 + 20u, 0u);
-                                            store32(l14 + 16u, l41);
-                                            store64(l14 + 8u, l9);
-                                            store64(l14, (u64)l36 & 255ull);
-                                            goto L9;
+                                            store32(l7 + 72u, 0u);
+                                            store32(l7 + 76u, l39);
+                                            const u32 t277 = load32(l9 + 24ull);
+                                            l39 = t277 + (l39 + l45);
+                                            l40 = (l36 > l40) ? l36 : l40;
+                                            v21 = l12 - 1ull;
                                         }
-                                        L24:;
-                                        l46 = l45 + l46;
-                                        const u64 t265 = load64(l9);
-                                        const u32 t266 = load32(l9 + 16ull);
-                                        l45 = t266;
-                                        l8 = t265 + ((u64)l45 << 3);
-                                        {
-                                            {
-                                                const u32 t269 = load32(l9 + 32ull);
-                                                l36 = t269;
-                                                l40 = l36 <= l38;
-                                                if (l40) goto L268;
-                                                if ((l36 - l38) != 1u) goto L268;
-                                                const u32 t270 = load32((l8 + ((l15 << 3) & 34359738360ull)) + 4ull);
-                                                l36 = t270;
-                                                l40 = l36 ? (l50 - l36) : 0u;
-                                                goto L267;
-                                            }
-                                            L268:;
-                                            if (l40) {
-                                                l40 = l36;
-                                                goto L267;
-                                            }
-                                            L272:;
-                                            {
-                                                const u32 t273 = load32((l8 + ((u64)(l36 - 1u) << 3)) + 4ull);
-                                                l40 = t273;
-                                                l36 = l36 - l40;
-                                                l40 = l40 ? l36 : 0u;
-                                                if (l40 > l38) goto L272;
-                                            }
-                                        }
-                                        L267:;
-                                        store32(l9 + 20ull, l38);
-                                        store32(l9 + 32ull, l40);
-                                        l36 = l34 + l46;
+                                        L21:;
+                                        l12 = v21;
+                                        if (l12 != 0ull) goto L20;
                                     }
-                                    L23:;
-                                    store32(l7 + 72u, 0u);
-                                    store32(l7 + 76u, l38);
-                                    const u32 t274 = load32(l9 + 24ull);
-                                    l38 = t274 + (l38 + l45);
-                                    l41 = (l36 > l41) ? l36 : l41;
-                                    v19 = l12 - 1ull;
                                 }
-                                L19:;
-                                l12 = v19;
-                                if (l12 != 0ull) goto L18;
+                                store32(l14 + 20u, 0u);
+                                store32(l14 + 16u, l40);
+                                store64(l14 + 8u, l16);
+                                store64(l14, 3ull);
+                                goto L9;
                             }
+                            L15:;
+                            l40 = (l36 > l40) ? l36 : l40;
+                            l9 = l9 + 1ull;
+                            goto L10;
                         }
-                        store32(l14 + 20u, 0u);
-                        store32(l14 + 16u, l41);
-                        store64(l14 + 8u, l16);
-                        store64(l14, 3ull);
-                        goto L9;
+                        trap();
                     }
-                    trap();
+                    L10:;
+                    store32(l14 + 20u, 0u);
+                    store32(l14 + 16u, l40);
+                    store64(l14 + 8u, l9);
+                    store64(l14, (u64)l37 & 255ull);
                 }
                 L9:;
                 e->stack_pointer = l7 + 192ull;
-                const u32 t275 = load8(l10 + 160u);
-                l35 = t275;
-                const u32 t276 = load32(l10 + 176u);
-                l34 = t276;
-                const u64 t277 = load64(l10 + 168u);
-                l8 = t277;
-                const u64 t278 = load64(l10 + 24u);
-                l6 = t278;
-                const u64 t279 = load64(l10 + 48u);
-                l4 = t279;
+                const u32 t278 = load8(l10 + 160u);
+                l35 = t278;
+                const u32 t279 = load32(l10 + 176u);
+                l34 = t279;
+                const u64 t280 = load64(l10 + 168u);
+                l8 = t280;
+                const u64 t281 = load64(l10 + 24u);
+                l6 = t281;
+                const u64 t282 = load64(l10 + 48u);
+                l4 = t282;
                 store64(l0 + 32u, 0ull);
                 l4 = l5 - l4;
                 store64(l0 + 24u, (l4 > l5) ? 0ull : l4);
@@ -19134,6 +18817,310 @@ static void engine_run(struct engine *e, u64 l0, u64 l1, u64 l2, u64 l3, u64 l4,
         trap();
     }
     L1:;
+}
+
+static u64 engine_form_codes(struct engine *e, u64 l0, u64 l1, u64 l2, u64 l3) {
+    u64 l4 = 0;
+    u64 l5 = 0;
+    u64 l6 = 0;
+    u64 l7 = 0;
+    u32 l8 = 0;
+    u32 l9 = 0;
+    u64 v1;
+    {
+        l5 = l0;
+        l0 = e->stack_pointer - 48ull;
+        e->stack_pointer = l0;
+        l4 = l0;
+        if ((i64)(l4 - e->stack) >= (i64)16ull) {
+            if (l1 <= 4294967295ull) {
+                forms_work_Work_form(e, l4, l5, (u32)l1);
+            }
+            u64 v4;
+            {
+                const u64 t5 = load32(l5 + 40ull);
+                if (t5 <= l1) { v4 = 0ull; goto L4; }
+                store64(l4 + 40u, 0ull);
+                store64(l4 + 32u, 0ull);
+                store64(l4 + 24u, 0ull);
+                store64(l4 + 16u, 0ull);
+                store64(l4 + 8u, 0ull);
+                forms_work_Work_stored(e, l4 + 8ull, l5, (u32)l1);
+                const u64 t6 = load64(l4 + 32u);
+                l7 = t6;
+                l6 = l7 & 4294967295ull;
+                if (l6 == 0) { v4 = 0ull; goto L4; }
+                l0 = l2 + ((l2 == 0) ? 4096ull : 0ull);
+                const u64 t7 = load64(l4 + 24u);
+                l5 = t7;
+                l1 = 0ull;
+                L8:;
+                {
+                    {
+                        if (l1 >= l7) {
+                            l8 = 0u;
+                            goto L9;
+                        }
+                        l8 = 255u;
+                        {
+                            {
+                                const u64 t13 = load8(l5);
+                                switch ((u32)t13 - 1u) {
+                                case 0: goto L9;
+                                case 1: goto L9;
+                                case 2: goto L12;
+                                case 3: goto L9;
+                                default: goto L11;
+                                }
+                            }
+                            L12:;
+                            const u32 t14 = load32(l5 + 4ull);
+                            l8 = t14;
+                            l9 = l8 + 255u;
+                            l8 = (l8 > l9) ? 4294967295u : l9;
+                            goto L9;
+                        }
+                        L11:;
+                        const u32 t15 = load8(l5 + 1ull);
+                        l8 = t15;
+                    }
+                    L9:;
+                    if (l1 < l3) {
+                        store32(l0, l8);
+                    }
+                    l5 = l5 + 8ull;
+                    l0 = l0 + 4ull;
+                    l1 = l1 + 1ull;
+                    if (l6 != l1) goto L8;
+                }
+                v4 = l6;
+            }
+            L4:;
+            l0 = v4;
+            e->stack_pointer = l4 + 48ull;
+            v1 = l0; goto L1;
+        }
+        trap();
+    }
+    L1:;
+    l3 = v1;
+    return l3;
+}
+
+static u64 engine_form_name(struct engine *e, u64 l0, u64 l1, u64 l2, u64 l3) {
+    u64 l4 = 0;
+    u64 l5 = 0;
+    u64 l6 = 0;
+    u64 l7 = 0;
+    u64 l8 = 0;
+    u64 v1;
+    {
+        l6 = l0;
+        l5 = e->stack_pointer - 48ull;
+        e->stack_pointer = l5;
+        l4 = l5;
+        if ((i64)(l4 - e->stack) >= (i64)16ull) {
+            if (l1 <= 4294967295ull) {
+                forms_work_Work_form(e, l4, l6, (u32)l1);
+            }
+            {
+                const u64 t5 = load32(l6 + 40ull);
+                if (t5 <= l1) goto L4;
+                l5 = 0ull;
+                store64(l4 + 40u, 0ull);
+                store64(l4 + 32u, 0ull);
+                store64(l4 + 24u, 0ull);
+                store64(l4 + 16u, 0ull);
+                store64(l4 + 8u, 0ull);
+                forms_work_Work_stored(e, l4 + 8ull, l6, (u32)l1);
+                const u64 t6 = load64(l4 + 16u);
+                l7 = t6;
+                l1 = (l3 < l7) ? l3 : l7;
+                if (l1 == 0) goto L4;
+                l3 = l2 + ((l2 == 0) ? 4096ull : 0ull);
+                const u64 t7 = load64(l4 + 8u);
+                l0 = t7;
+                if (l1 != 1ull) {
+                    l8 = l1 & 1ull;
+                    l2 = l1 & 18446744073709551614ull;
+                    l1 = l0;
+                    L9:;
+                    {
+                        l6 = l3 + l5;
+                        const u32 t10 = load8(l1);
+                        const u64 t11 = l6;
+                        u32 v12;
+                        if (t10) {
+                            v12 = 0u;
+                        } else {
+                            const u32 t13 = load8(l1 + 1ull);
+                            v12 = t13;
+                        }
+                        store8(t11, (u8)v12);
+                        const u32 t14 = load8(l1 + 8ull);
+                        const u64 t15 = l6 + 1ull;
+                        u32 v16;
+                        if (t14) {
+                            v16 = 0u;
+                        } else {
+                            const u32 t17 = load8(l1 + 9ull);
+                            v16 = t17;
+                        }
+                        store8(t15, (u8)v16);
+                        l1 = l1 + 16ull;
+                        l5 = l5 + 2ull;
+                        if (l2 != l5) goto L9;
+                    }
+                    if (l8 == 0) goto L4;
+                }
+                l1 = l0 + (l5 << 3);
+                const u32 t18 = load8(l1);
+                const u64 t19 = l3 + l5;
+                u32 v20;
+                if (t18) {
+                    v20 = 0u;
+                } else {
+                    const u32 t21 = load8(l1 + 1ull);
+                    v20 = t21;
+                }
+                store8(t19, (u8)v20);
+            }
+            L4:;
+            e->stack_pointer = l4 + 48ull;
+            v1 = l7; goto L1;
+        }
+        trap();
+    }
+    L1:;
+    l3 = v1;
+    return l3;
+}
+
+static u64 engine_form_pointer(struct engine *e, u64 l0, u64 l1) {
+    u64 l2 = 0;
+    l2 = e->stack_pointer - 48ull;
+    e->stack_pointer = l2;
+    u64 v1;
+    {
+        {
+            if ((i64)(l2 - e->stack) >= (i64)16ull) {
+                if (l1 <= 4294967295ull) {
+                    forms_work_Work_form(e, l2, l0, (u32)l1);
+                }
+                const u64 t5 = load32(l0 + 40ull);
+                if (l1 < t5) goto L2;
+                v1 = 0ull; goto L1;
+            }
+            trap();
+        }
+        L2:;
+        store64(l2 + 40u, 0ull);
+        store64(l2 + 32u, 0ull);
+        store64(l2 + 24u, 0ull);
+        store64(l2 + 16u, 0ull);
+        store64(l2 + 8u, 0ull);
+        forms_work_Work_stored(e, l2 + 8ull, l0, (u32)l1);
+        const u64 t6 = load32(l2 + 40u);
+        v1 = t6;
+    }
+    L1:;
+    l1 = v1;
+    e->stack_pointer = l2 + 48ull;
+    return l1;
+}
+
+static u64 engine_form_text(struct engine *e, u64 l0, u64 l1, u64 l2, u64 l3) {
+    u64 l4 = 0;
+    u64 l5 = 0;
+    u64 l6 = 0;
+    u32 l7 = 0;
+    u32 l8 = 0;
+    u64 v1;
+    {
+        l5 = l1;
+        l1 = e->stack_pointer - 112ull;
+        e->stack_pointer = l1;
+        l4 = l1;
+        if ((i64)(l4 - e->stack) >= (i64)16ull) {
+            if (l5 <= 4294967295ull) {
+                forms_work_Work_form(e, l4 + 24ull, l0, (u32)l5);
+            }
+            l1 = 0ull;
+            const u64 t4 = load32(l0 + 40ull);
+            if (t4 > l5) {
+                l6 = l2 + ((l2 == 0) ? 4096ull : 0ull);
+                store64(l4 + 64u, 0ull);
+                store64(l4 + 56u, 0ull);
+                store64(l4 + 48u, 0ull);
+                store64(l4 + 40u, 0ull);
+                store64(l4 + 32u, 0ull);
+                forms_work_Work_stored(e, l4 + 32ull, l0, (u32)l5);
+                const u64 t6 = load64(l4 + 56u);
+                l0 = t6;
+                l2 = l0 & 4294967295ull;
+                u64 v7;
+                if (l2 == 0) {
+                    v7 = 3ull;
+                } else {
+                    const u64 t8 = load64(l4 + 48u);
+                    l5 = t8;
+                    l8 = 3u;
+                    L9:;
+                    {
+                        u32 v10;
+                        {
+                            {
+                                {
+                                    {
+                                        if (l0 > l1) {
+                                            l7 = 0u;
+                                            const u64 t15 = load8(l5);
+                                            switch ((u32)t15 - 1u) {
+                                            case 0: goto L11;
+                                            case 1: goto L11;
+                                            case 2: goto L12;
+                                            case 3: goto L11;
+                                            default: goto L13;
+                                            }
+                                        }
+                                        v10 = 0u; goto L10;
+                                    }
+                                    L13:;
+                                    v10 = 1u; goto L10;
+                                }
+                                L12:;
+                                const u32 t16 = load32(l5 + 4ull);
+                                l7 = t16;
+                            }
+                            L11:;
+                            itoa_Buffer_format(e, l4 + 8ull, l4 + 72ull, l7);
+                            const u32 t17 = load32(l4 + 16u);
+                            v10 = t17 + 2u;
+                        }
+                        L10:;
+                        l7 = v10;
+                        l5 = l5 + 8ull;
+                        l8 = l7 + l8;
+                        l1 = l1 + 1ull;
+                        if (l2 != l1) goto L9;
+                    }
+                    v7 = (u64)l8;
+                }
+                l1 = v7;
+                store64(l4 + 96u, 0ull);
+                store64(l4 + 88u, 0ull);
+                store64(l4 + 72u, l6);
+                store64(l4 + 80u, (l1 > l3) ? l3 : l1);
+                (void)core_display_show_form(e, l4 + 32ull, l4 + 72ull);
+            }
+            e->stack_pointer = l4 + 112ull;
+            v1 = l1; goto L1;
+        }
+        trap();
+    }
+    L1:;
+    l3 = v1;
+    return l3;
 }
 
 static void engine_turn(struct engine *e, u64 l0, u64 l1, u64 l2, u64 l3, u64 l4, u64 l5, u32 l6, u64 l7) {
@@ -19154,7 +19141,7 @@ static void engine_turn(struct engine *e, u64 l0, u64 l1, u64 l2, u64 l3, u64 l4
     u32 l22 = 0;
     u32 l23 = 0;
     u32 l24 = 0;
-    u64 l25 = 0;
+    u32 l25 = 0;
     u64 l26 = 0;
     u64 l27 = 0;
     u64 l28 = 0;
@@ -19166,872 +19153,246 @@ static void engine_turn(struct engine *e, u64 l0, u64 l1, u64 l2, u64 l3, u64 l4
     u64 l34 = 0;
     u64 l35 = 0;
     u64 l36 = 0;
-    l29 = l0;
-    l26 = l1;
-    l28 = l2;
-    l22 = l6;
-    l25 = e->stack_pointer - 192ull;
-    e->stack_pointer = l25;
+    u64 l37 = 0;
+    u64 l38 = 0;
+    u64 l39 = 0;
+    u64 l40 = 0;
+    u64 l41 = 0;
+    u64 l42 = 0;
+    u64 l43 = 0;
+    u64 l44 = 0;
+    u64 l45 = 0;
+    u64 l46 = 0;
+    u64 l47 = 0;
+    u64 l48 = 0;
+    l36 = l0;
+    l28 = l1;
+    l32 = l2;
+    l24 = l6;
+    l26 = e->stack_pointer - 208ull;
+    e->stack_pointer = l26;
     {
-        if ((i64)(l25 - e->stack) >= (i64)16ull) {
-            store64(l25 + 80u, 0ull);
-            store64(l25 + 72u, l3);
-            store64(l25 + 88u, 0ull);
-            store64(l25 + 48u, 0ull);
-            store64(l25 + 40u, l5);
-            store64(l25 + 56u, 0ull);
-            store64(l25 + 64u, l28 + ((l28 == 0) ? 4096ull : 0ull));
-            store64(l25 + 32u, l4 + ((l4 == 0) ? 4096ull : 0ull));
-            u64 v3;
+        if ((i64)(l26 - e->stack) >= (i64)16ull) {
+            store64(l26 + 88u, 0ull);
+            store64(l26 + 80u, l3);
+            store64(l26 + 96u, 0ull);
+            store64(l26 + 56u, 0ull);
+            store64(l26 + 48u, l5);
+            store64(l26 + 64u, 0ull);
+            store64(l26 + 72u, l32 + ((l32 == 0) ? 4096ull : 0ull));
+            store64(l26 + 40u, l4 + ((l4 == 0) ? 4096ull : 0ull));
             {
-                if (l7 == 0) { v3 = 0ull; goto L3; }
-                l31 = l26 + 56ull;
-                l32 = l25 + 141ull;
-                l33 = l25 + 125ull;
-                l34 = l25 + 109ull;
-                l35 = l25 + 173ull;
+                if (l7 == 0) goto L3;
+                l40 = l28 + 56ull;
+                l43 = l26 + 181ull;
+                l44 = l26 + 165ull;
+                l45 = l26 + 117ull;
+                l4 = 0ull;
+                L4:;
                 {
-                    L5:;
-                    {
-                        {
-                            if (l22) goto L6;
-                            const u64 t7 = load64(l25 + 72u);
-                            l27 = t7;
-                            const u64 t8 = load64(l25 + 64u);
-                            l2 = t8;
-                            {
-                                {
-                                    {
-                                        const u32 t12 = core_machine_Machine_awaits(e, l26);
-                                        switch ((t12 & 255u) - 1u) {
-                                        case 0: goto L11;
-                                        case 1: goto L10;
-                                        default: goto L6;
-                                        }
-                                    }
-                                    L11:;
-                                    const u32 t13 = load8(l31);
-                                    l9 = t13;
-                                    {
-                                        if (l27 <= 3ull) {
-                                            if (l27 == 0) goto L14;
-                                            l8 = l9 & 255u;
-                                            const u32 t16 = load8(l2);
-                                            if (l8 == t16) goto L6;
-                                            const u32 t17 = load8(l2 + (l27 >> 1));
-                                            if (t17 == l8) goto L6;
-                                            const u32 t18 = load8((l2 + l27) - 1ull);
-                                            if (t18 == (l9 & 255u)) goto L6;
-                                            goto L14;
-                                        }
-                                        if (l27 <= 8ull) {
-                                            l8 = l9 & 255u;
-                                            const u32 t20 = load8(l2);
-                                            if (l8 == t20) goto L6;
-                                            const u32 t21 = load8(l2 + 1ull);
-                                            if (t21 == l8) goto L6;
-                                            l8 = l9 & 255u;
-                                            const u32 t22 = load8(l2 + 2ull);
-                                            if (l8 == t22) goto L6;
-                                            const u32 t23 = load8(l2 + 3ull);
-                                            if (t23 == l8) goto L6;
-                                            l8 = l9 & 255u;
-                                            l4 = l2 + l27;
-                                            const u32 t24 = load8(l4 - 4ull);
-                                            if (l8 == t24) goto L6;
-                                            const u32 t25 = load8(l4 - 3ull);
-                                            if (t25 == l8) goto L6;
-                                            l8 = l9 & 255u;
-                                            const u32 t26 = load8(l4 - 2ull);
-                                            if (l8 == t26) goto L6;
-                                            const u32 t27 = load8(l4 - 1ull);
-                                            if (t27 == l8) goto L6;
-                                            goto L14;
-                                        }
-                                        if (l27 <= 32ull) {
-                                            l8 = l9 & 255u;
-                                            const u32 t29 = load8(l2);
-                                            if (l8 == t29) goto L6;
-                                            const u32 t30 = load8(l2 + 1ull);
-                                            if (t30 == l8) goto L6;
-                                            l8 = l9 & 255u;
-                                            const u32 t31 = load8(l2 + 2ull);
-                                            if (l8 == t31) goto L6;
-                                            const u32 t32 = load8(l2 + 3ull);
-                                            if (t32 == l8) goto L6;
-                                            l8 = l9 & 255u;
-                                            const u32 t33 = load8(l2 + 4ull);
-                                            if (l8 == t33) goto L6;
-                                            const u32 t34 = load8(l2 + 5ull);
-                                            if (t34 == l8) goto L6;
-                                            l8 = l9 & 255u;
-                                            const u32 t35 = load8(l2 + 6ull);
-                                            if (l8 == t35) goto L6;
-                                            const u32 t36 = load8(l2 + 7ull);
-                                            if (t36 == l8) goto L6;
-                                            l8 = l9 & 255u;
-                                            l28 = l27 - 8ull;
-                                            l4 = l2 + ((l28 < 8ull) ? l28 : 8ull);
-                                            const u32 t37 = load8(l4);
-                                            if (l8 == t37) goto L6;
-                                            const u32 t38 = load8(l4 + 1ull);
-                                            if (t38 == l8) goto L6;
-                                            l8 = l9 & 255u;
-                                            const u32 t39 = load8(l4 + 2ull);
-                                            if (l8 == t39) goto L6;
-                                            const u32 t40 = load8(l4 + 3ull);
-                                            if (t40 == l8) goto L6;
-                                            l8 = l9 & 255u;
-                                            const u32 t41 = load8(l4 + 4ull);
-                                            if (l8 == t41) goto L6;
-                                            const u32 t42 = load8(l4 + 5ull);
-                                            if (t42 == l8) goto L6;
-                                            l8 = l9 & 255u;
-                                            const u32 t43 = load8(l4 + 6ull);
-                                            if (l8 == t43) goto L6;
-                                            const u32 t44 = load8(l4 + 7ull);
-                                            if (t44 == l8) goto L6;
-                                            l8 = l9 & 255u;
-                                            l4 = l2 + ((l28 < 16ull) ? l28 : 16ull);
-                                            const u32 t45 = load8(l4);
-                                            if (l8 == t45) goto L6;
-                                            const u32 t46 = load8(l4 + 1ull);
-                                            if (t46 == l8) goto L6;
-                                            l8 = l9 & 255u;
-                                            const u32 t47 = load8(l4 + 2ull);
-                                            if (l8 == t47) goto L6;
-                                            const u32 t48 = load8(l4 + 3ull);
-                                            if (t48 == l8) goto L6;
-                                            l8 = l9 & 255u;
-                                            const u32 t49 = load8(l4 + 4ull);
-                                            if (l8 == t49) goto L6;
-                                            const u32 t50 = load8(l4 + 5ull);
-                                            if (t50 == l8) goto L6;
-                                            l8 = l9 & 255u;
-                                            const u32 t51 = load8(l4 + 6ull);
-                                            if (l8 == t51) goto L6;
-                                            const u32 t52 = load8(l4 + 7ull);
-                                            if (t52 == l8) goto L6;
-                                            l8 = l9 & 255u;
-                                            l4 = l2 + l28;
-                                            const u32 t53 = load8(l4);
-                                            if (l8 == t53) goto L6;
-                                            const u32 t54 = load8(l4 + 1ull);
-                                            if (t54 == l8) goto L6;
-                                            l8 = l9 & 255u;
-                                            const u32 t55 = load8(l4 + 2ull);
-                                            if (l8 == t55) goto L6;
-                                            const u32 t56 = load8(l4 + 3ull);
-                                            if (t56 == l8) goto L6;
-                                            l8 = l9 & 255u;
-                                            const u32 t57 = load8(l4 + 4ull);
-                                            if (l8 == t57) goto L6;
-                                            const u32 t58 = load8(l4 + 5ull);
-                                            if (t58 == l8) goto L6;
-                                            l8 = l9 & 255u;
-                                            const u32 t59 = load8(l4 + 6ull);
-                                            if (l8 == t59) goto L6;
-                                            const u32 t60 = load8(l4 + 7ull);
-                                            if (t60 == l8) goto L6;
-                                            goto L14;
-                                        }
-                                        if (l27 <= 64ull) {
-                                            l8 = l9 & 255u;
-                                            const u32 t62 = load8(l2);
-                                            if (l8 == t62) goto L6;
-                                            const u32 t63 = load8(l2 + 1ull);
-                                            if (t63 == l8) goto L6;
-                                            l8 = l9 & 255u;
-                                            const u32 t64 = load8(l2 + 2ull);
-                                            if (l8 == t64) goto L6;
-                                            const u32 t65 = load8(l2 + 3ull);
-                                            if (t65 == l8) goto L6;
-                                            l8 = l9 & 255u;
-                                            const u32 t66 = load8(l2 + 4ull);
-                                            if (l8 == t66) goto L6;
-                                            const u32 t67 = load8(l2 + 5ull);
-                                            if (t67 == l8) goto L6;
-                                            l8 = l9 & 255u;
-                                            const u32 t68 = load8(l2 + 6ull);
-                                            if (l8 == t68) goto L6;
-                                            const u32 t69 = load8(l2 + 7ull);
-                                            if (t69 == l8) goto L6;
-                                            l8 = l9 & 255u;
-                                            const u32 t70 = load8(l2 + 8ull);
-                                            if (l8 == t70) goto L6;
-                                            const u32 t71 = load8(l2 + 9ull);
-                                            if (t71 == l8) goto L6;
-                                            l8 = l9 & 255u;
-                                            const u32 t72 = load8(l2 + 10ull);
-                                            if (l8 == t72) goto L6;
-                                            const u32 t73 = load8(l2 + 11ull);
-                                            if (t73 == l8) goto L6;
-                                            l8 = l9 & 255u;
-                                            const u32 t74 = load8(l2 + 12ull);
-                                            if (l8 == t74) goto L6;
-                                            const u32 t75 = load8(l2 + 13ull);
-                                            if (t75 == l8) goto L6;
-                                            l8 = l9 & 255u;
-                                            const u32 t76 = load8(l2 + 14ull);
-                                            if (l8 == t76) goto L6;
-                                            const u32 t77 = load8(l2 + 15ull);
-                                            if (t77 == l8) goto L6;
-                                            l8 = l9 & 255u;
-                                            const u32 t78 = load8(l2 + 16ull);
-                                            if (l8 == t78) goto L6;
-                                            const u32 t79 = load8(l2 + 17ull);
-                                            if (t79 == l8) goto L6;
-                                            l8 = l9 & 255u;
-                                            const u32 t80 = load8(l2 + 18ull);
-                                            if (l8 == t80) goto L6;
-                                            const u32 t81 = load8(l2 + 19ull);
-                                            if (t81 == l8) goto L6;
-                                            l8 = l9 & 255u;
-                                            const u32 t82 = load8(l2 + 20ull);
-                                            if (l8 == t82) goto L6;
-                                            const u32 t83 = load8(l2 + 21ull);
-                                            if (t83 == l8) goto L6;
-                                            l8 = l9 & 255u;
-                                            const u32 t84 = load8(l2 + 22ull);
-                                            if (l8 == t84) goto L6;
-                                            const u32 t85 = load8(l2 + 23ull);
-                                            if (t85 == l8) goto L6;
-                                            l8 = l9 & 255u;
-                                            const u32 t86 = load8(l2 + 24ull);
-                                            if (l8 == t86) goto L6;
-                                            const u32 t87 = load8(l2 + 25ull);
-                                            if (t87 == l8) goto L6;
-                                            l8 = l9 & 255u;
-                                            const u32 t88 = load8(l2 + 26ull);
-                                            if (l8 == t88) goto L6;
-                                            const u32 t89 = load8(l2 + 27ull);
-                                            if (t89 == l8) goto L6;
-                                            l8 = l9 & 255u;
-                                            const u32 t90 = load8(l2 + 28ull);
-                                            if (l8 == t90) goto L6;
-                                            const u32 t91 = load8(l2 + 29ull);
-                                            if (t91 == l8) goto L6;
-                                            l8 = l9 & 255u;
-                                            const u32 t92 = load8(l2 + 30ull);
-                                            if (l8 == t92) goto L6;
-                                            const u32 t93 = load8(l2 + 31ull);
-                                            if (t93 == l8) goto L6;
-                                            l8 = l9 & 255u;
-                                            l4 = l2 + l27;
-                                            const u32 t94 = load8(l4 - 32ull);
-                                            if (l8 == t94) goto L6;
-                                            const u32 t95 = load8(l4 - 31ull);
-                                            if (t95 == l8) goto L6;
-                                            l8 = l9 & 255u;
-                                            const u32 t96 = load8(l4 - 30ull);
-                                            if (l8 == t96) goto L6;
-                                            const u32 t97 = load8(l4 - 29ull);
-                                            if (t97 == l8) goto L6;
-                                            l8 = l9 & 255u;
-                                            const u32 t98 = load8(l4 - 28ull);
-                                            if (l8 == t98) goto L6;
-                                            const u32 t99 = load8(l4 - 27ull);
-                                            if (t99 == l8) goto L6;
-                                            l8 = l9 & 255u;
-                                            const u32 t100 = load8(l4 - 26ull);
-                                            if (l8 == t100) goto L6;
-                                            const u32 t101 = load8(l4 - 25ull);
-                                            if (t101 == l8) goto L6;
-                                            l8 = l9 & 255u;
-                                            const u32 t102 = load8(l4 - 24ull);
-                                            if (l8 == t102) goto L6;
-                                            const u32 t103 = load8(l4 - 23ull);
-                                            if (t103 == l8) goto L6;
-                                            l8 = l9 & 255u;
-                                            const u32 t104 = load8(l4 - 22ull);
-                                            if (l8 == t104) goto L6;
-                                            const u32 t105 = load8(l4 - 21ull);
-                                            if (t105 == l8) goto L6;
-                                            l8 = l9 & 255u;
-                                            const u32 t106 = load8(l4 - 20ull);
-                                            if (l8 == t106) goto L6;
-                                            const u32 t107 = load8(l4 - 19ull);
-                                            if (t107 == l8) goto L6;
-                                            l8 = l9 & 255u;
-                                            const u32 t108 = load8(l4 - 18ull);
-                                            if (l8 == t108) goto L6;
-                                            const u32 t109 = load8(l4 - 17ull);
-                                            if (t109 == l8) goto L6;
-                                            l8 = l9 & 255u;
-                                            const u32 t110 = load8(l4 - 16ull);
-                                            if (l8 == t110) goto L6;
-                                            const u32 t111 = load8(l4 - 15ull);
-                                            if (t111 == l8) goto L6;
-                                            l8 = l9 & 255u;
-                                            const u32 t112 = load8(l4 - 14ull);
-                                            if (l8 == t112) goto L6;
-                                            const u32 t113 = load8(l4 - 13ull);
-                                            if (t113 == l8) goto L6;
-                                            l8 = l9 & 255u;
-                                            const u32 t114 = load8(l4 - 12ull);
-                                            if (l8 == t114) goto L6;
-                                            const u32 t115 = load8(l4 - 11ull);
-                                            if (t115 == l8) goto L6;
-                                            l8 = l9 & 255u;
-                                            const u32 t116 = load8(l4 - 10ull);
-                                            if (l8 == t116) goto L6;
-                                            const u32 t117 = load8(l4 - 9ull);
-                                            if (t117 == l8) goto L6;
-                                            l8 = l9 & 255u;
-                                            const u32 t118 = load8(l4 - 8ull);
-                                            if (l8 == t118) goto L6;
-                                            const u32 t119 = load8(l4 - 7ull);
-                                            if (t119 == l8) goto L6;
-                                            l8 = l9 & 255u;
-                                            const u32 t120 = load8(l4 - 6ull);
-                                            if (l8 == t120) goto L6;
-                                            const u32 t121 = load8(l4 - 5ull);
-                                            if (t121 == l8) goto L6;
-                                            l8 = l9 & 255u;
-                                            const u32 t122 = load8(l4 - 4ull);
-                                            if (l8 == t122) goto L6;
-                                            const u32 t123 = load8(l4 - 3ull);
-                                            if (t123 == l8) goto L6;
-                                            l8 = l9 & 255u;
-                                            const u32 t124 = load8(l4 - 2ull);
-                                            if (l8 == t124) goto L6;
-                                            const u32 t125 = load8(l4 - 1ull);
-                                            if (t125 != l8) goto L14;
-                                            goto L6;
-                                        }
-                                        l0 = l27 & 18446744073709551552ull;
-                                        l1 = 0ull;
-                                        l5 = l2;
-                                        {
-                                            L127:;
-                                            {
-                                                l6 = 0u;
-                                                l28 = 0ull;
-                                                L128:;
-                                                {
-                                                    l8 = l9 & 255u;
-                                                    l4 = l5 + l28;
-                                                    const u32 t129 = load8(l4);
-                                                    const u32 t130 = load8(l4 + 1ull);
-                                                    const u32 t131 = load8(l4 + 2ull);
-                                                    const u32 t132 = load8(l4 + 3ull);
-                                                    l6 = (((l6 | (l8 == t129)) | (t130 == l8)) | (t131 == l8)) | (t132 == l8);
-                                                    l28 = l28 + 4ull;
-                                                    if (l28 != 64ull) goto L128;
-                                                }
-                                                if (l6 & 1u) goto L126;
-                                                l5 = l5 + 64ull;
-                                                l1 = l1 + 64ull;
-                                                if ((l27 - l1) > 63ull) goto L127;
-                                            }
-                                            l1 = l0;
-                                        }
-                                        L126:;
-                                        {
-                                            l28 = l27 - l1;
-                                            if (l28 < 32ull) goto L133;
-                                            l4 = l1 + l2;
-                                            L134:;
-                                            {
-                                                {
-                                                    l8 = l9 & 255u;
-                                                    const u32 t136 = load8(l4);
-                                                    if (l8 == t136) goto L135;
-                                                    const u32 t137 = load8(l4 + 1ull);
-                                                    if (t137 == l8) goto L135;
-                                                    l8 = l9 & 255u;
-                                                    const u32 t138 = load8(l4 + 2ull);
-                                                    if (l8 == t138) goto L135;
-                                                    const u32 t139 = load8(l4 + 3ull);
-                                                    if (t139 == l8) goto L135;
-                                                    l8 = l9 & 255u;
-                                                    const u32 t140 = load8(l4 + 4ull);
-                                                    if (l8 == t140) goto L135;
-                                                    const u32 t141 = load8(l4 + 5ull);
-                                                    if (t141 == l8) goto L135;
-                                                    l8 = l9 & 255u;
-                                                    const u32 t142 = load8(l4 + 6ull);
-                                                    if (l8 == t142) goto L135;
-                                                    const u32 t143 = load8(l4 + 7ull);
-                                                    if (t143 == l8) goto L135;
-                                                    l8 = l9 & 255u;
-                                                    const u32 t144 = load8(l4 + 8ull);
-                                                    if (l8 == t144) goto L135;
-                                                    const u32 t145 = load8(l4 + 9ull);
-                                                    if (t145 == l8) goto L135;
-                                                    l8 = l9 & 255u;
-                                                    const u32 t146 = load8(l4 + 10ull);
-                                                    if (l8 == t146) goto L135;
-                                                    const u32 t147 = load8(l4 + 11ull);
-                                                    if (t147 == l8) goto L135;
-                                                    l8 = l9 & 255u;
-                                                    const u32 t148 = load8(l4 + 12ull);
-                                                    if (l8 == t148) goto L135;
-                                                    const u32 t149 = load8(l4 + 13ull);
-                                                    if (t149 == l8) goto L135;
-                                                    l8 = l9 & 255u;
-                                                    const u32 t150 = load8(l4 + 14ull);
-                                                    if (l8 == t150) goto L135;
-                                                    const u32 t151 = load8(l4 + 15ull);
-                                                    if (t151 == l8) goto L135;
-                                                    l8 = l9 & 255u;
-                                                    const u32 t152 = load8(l4 + 16ull);
-                                                    if (l8 == t152) goto L135;
-                                                    const u32 t153 = load8(l4 + 17ull);
-                                                    if (t153 == l8) goto L135;
-                                                    l8 = l9 & 255u;
-                                                    const u32 t154 = load8(l4 + 18ull);
-                                                    if (l8 == t154) goto L135;
-                                                    const u32 t155 = load8(l4 + 19ull);
-                                                    if (t155 == l8) goto L135;
-                                                    l8 = l9 & 255u;
-                                                    const u32 t156 = load8(l4 + 20ull);
-                                                    if (l8 == t156) goto L135;
-                                                    const u32 t157 = load8(l4 + 21ull);
-                                                    if (t157 == l8) goto L135;
-                                                    l8 = l9 & 255u;
-                                                    const u32 t158 = load8(l4 + 22ull);
-                                                    if (l8 == t158) goto L135;
-                                                    const u32 t159 = load8(l4 + 23ull);
-                                                    if (t159 == l8) goto L135;
-                                                    l8 = l9 & 255u;
-                                                    const u32 t160 = load8(l4 + 24ull);
-                                                    if (l8 == t160) goto L135;
-                                                    const u32 t161 = load8(l4 + 25ull);
-                                                    if (t161 == l8) goto L135;
-                                                    l8 = l9 & 255u;
-                                                    const u32 t162 = load8(l4 + 26ull);
-                                                    if (l8 == t162) goto L135;
-                                                    const u32 t163 = load8(l4 + 27ull);
-                                                    if (t163 == l8) goto L135;
-                                                    l8 = l9 & 255u;
-                                                    const u32 t164 = load8(l4 + 28ull);
-                                                    if (l8 == t164) goto L135;
-                                                    const u32 t165 = load8(l4 + 29ull);
-                                                    if (t165 == l8) goto L135;
-                                                    l8 = l9 & 255u;
-                                                    const u32 t166 = load8(l4 + 30ull);
-                                                    if (l8 == t166) goto L135;
-                                                    const u32 t167 = load8(l4 + 31ull);
-                                                    if (t167 == l8) goto L135;
-                                                    l4 = l4 + 32ull;
-                                                    l28 = l28 - 32ull;
-                                                    if (l28 > 31ull) goto L134;
-                                                    goto L133;
-                                                }
-                                                L135:;
-                                            }
-                                            if (l28 > 31ull) goto L6;
-                                        }
-                                        L133:;
-                                        l8 = l9 & 255u;
-                                        l4 = l2 + l27;
-                                        const u32 t168 = load8(l4 - 32ull);
-                                        if (l8 == t168) goto L6;
-                                        const u32 t169 = load8(l4 - 31ull);
-                                        if (t169 == l8) goto L6;
-                                        l8 = l9 & 255u;
-                                        const u32 t170 = load8(l4 - 30ull);
-                                        if (l8 == t170) goto L6;
-                                        const u32 t171 = load8(l4 - 29ull);
-                                        if (t171 == l8) goto L6;
-                                        l8 = l9 & 255u;
-                                        const u32 t172 = load8(l4 - 28ull);
-                                        if (l8 == t172) goto L6;
-                                        const u32 t173 = load8(l4 - 27ull);
-                                        if (t173 == l8) goto L6;
-                                        l8 = l9 & 255u;
-                                        const u32 t174 = load8(l4 - 26ull);
-                                        if (l8 == t174) goto L6;
-                                        const u32 t175 = load8(l4 - 25ull);
-                                        if (t175 == l8) goto L6;
-                                        l8 = l9 & 255u;
-                                        const u32 t176 = load8(l4 - 24ull);
-                                        if (l8 == t176) goto L6;
-                                        const u32 t177 = load8(l4 - 23ull);
-                                        if (t177 == l8) goto L6;
-                                        l8 = l9 & 255u;
-                                        const u32 t178 = load8(l4 - 22ull);
-                                        if (l8 == t178) goto L6;
-                                        const u32 t179 = load8(l4 - 21ull);
-                                        if (t179 == l8) goto L6;
-                                        l8 = l9 & 255u;
-                                        const u32 t180 = load8(l4 - 20ull);
-                                        if (l8 == t180) goto L6;
-                                        const u32 t181 = load8(l4 - 19ull);
-                                        if (t181 == l8) goto L6;
-                                        l8 = l9 & 255u;
-                                        const u32 t182 = load8(l4 - 18ull);
-                                        if (l8 == t182) goto L6;
-                                        const u32 t183 = load8(l4 - 17ull);
-                                        if (t183 == l8) goto L6;
-                                        l8 = l9 & 255u;
-                                        const u32 t184 = load8(l4 - 16ull);
-                                        if (l8 == t184) goto L6;
-                                        const u32 t185 = load8(l4 - 15ull);
-                                        if (t185 == l8) goto L6;
-                                        l8 = l9 & 255u;
-                                        const u32 t186 = load8(l4 - 14ull);
-                                        if (l8 == t186) goto L6;
-                                        const u32 t187 = load8(l4 - 13ull);
-                                        if (t187 == l8) goto L6;
-                                        l8 = l9 & 255u;
-                                        const u32 t188 = load8(l4 - 12ull);
-                                        if (l8 == t188) goto L6;
-                                        const u32 t189 = load8(l4 - 11ull);
-                                        if (t189 == l8) goto L6;
-                                        l8 = l9 & 255u;
-                                        const u32 t190 = load8(l4 - 10ull);
-                                        if (l8 == t190) goto L6;
-                                        const u32 t191 = load8(l4 - 9ull);
-                                        if (t191 == l8) goto L6;
-                                        l8 = l9 & 255u;
-                                        const u32 t192 = load8(l4 - 8ull);
-                                        if (l8 == t192) goto L6;
-                                        const u32 t193 = load8(l4 - 7ull);
-                                        if (t193 == l8) goto L6;
-                                        l8 = l9 & 255u;
-                                        const u32 t194 = load8(l4 - 6ull);
-                                        if (l8 == t194) goto L6;
-                                        const u32 t195 = load8(l4 - 5ull);
-                                        if (t195 == l8) goto L6;
-                                        l8 = l9 & 255u;
-                                        const u32 t196 = load8(l4 - 4ull);
-                                        if (l8 == t196) goto L6;
-                                        const u32 t197 = load8(l4 - 3ull);
-                                        if (t197 == l8) goto L6;
-                                        l8 = l9 & 255u;
-                                        const u32 t198 = load8(l4 - 2ull);
-                                        if (l8 == t198) goto L6;
-                                        const u32 t199 = load8(l4 - 1ull);
-                                        if (t199 == l8) goto L6;
-                                    }
-                                    L14:;
-                                    const u32 t200 = load32(l26 + 24ull);
-                                    const u32 t201 = load32(l26 + 20ull);
-                                    const u32 t202 = load32(l26 + 16ull);
-                                    const u64 t203 = load32(l26 + 8ull);
-                                    if ((l27 + (u64)((t200 + (t201 + t202)))) > (t203 + 1ull)) goto L6;
-                                    goto L9;
-                                }
-                                L10:;
-                                if ((l27 == 0) == 0) goto L6;
-                            }
-                            L9:;
-                            l20 = 7u;
-                            v3 = 0ull; goto L3;
-                        }
-                        L6:;
+                    store64(l26 + 144u, 0ull);
+                    store64(l26 + 104u, 0ull);
+                    store64(l26 + 112u, 0ull);
+                    store64(l26 + 120u, 0ull);
+                    l5 = l28 + 84ull;
+                    const u32 t5 = load8(l5);
+                    u64 v6;
+                    if (t5 != 1u) {
+                        l32 = l28 + 80ull;
+                        const u32 t7 = load32(l32);
+                        store32(l26 + 144u, t7);
+                        l41 = l28 + 72ull;
+                        const u64 t8 = load64(l41);
+                        store64(l26 + 136u, t8);
+                        const u64 t9 = load64(l28 + 64ull);
+                        store64(l26 + 128u, t9);
+                        l34 = l26 + 104ull;
+                        l1 = l28;
+                        l30 = l26 + 128ull;
+                        l29 = l7 - l4;
+                        l27 = e->stack_pointer - 160ull;
+                        e->stack_pointer = l27;
                         {
                             {
                                 {
-                                    {
-                                        u32 v208;
-                                        {
+                                    if ((i64)(l27 - e->stack) >= (i64)16ull) {
+                                        const u64 t14 = load64(l30 + 8u);
+                                        l37 = t14;
+                                        store64(l27 + 56u, 0ull);
+                                        store64(l27 + 64u, 0ull);
+                                        store32(l27 + 76u, 0u);
+                                        const u32 t15 = load32(l1 + 20ull);
+                                        l8 = t15;
+                                        store32(l27 + 80u, l8);
+                                        const u32 t16 = load32(l30 + 16u);
+                                        l13 = t16;
+                                        const u64 t17 = load64(l30);
+                                        l30 = t17 - l37;
+                                        l35 = (l29 > l30) ? l30 : l29;
+                                        if ((l35 == 0) == 0) {
+                                            const u32 t19 = load32(l1 + 24ull);
+                                            const u32 t20 = load32(l1 + 16ull);
+                                            l9 = t19 + (l8 + t20);
+                                            l46 = l27 + 125ull;
+                                            l47 = l27 + 109ull;
+                                            l30 = l35;
+                                            L21:;
                                             {
-                                                u32 v210;
+                                                core_scan_pass(e, l27 + 56ull, l1, l30, l27 + 80ull, l27 + 76ull);
+                                                u64 v22;
                                                 {
+                                                    const u32 t23 = load8(l27 + 56u);
+                                                    if (t23 == 0) {
+                                                        l13 = (l9 > l13) ? l9 : l13;
+                                                        const u64 t25 = load64(l27 + 64u);
+                                                        v22 = l30 - t25; goto L22;
+                                                    }
+                                                    u32 v26;
                                                     {
+                                                        const u32 t27 = load8(l27 + 60u);
+                                                        if (t27 == 0) {
+                                                            store32(l1 + 32ull, 0u);
+                                                            l29 = l1 + 20ull;
+                                                            store32(l29, 0u);
+                                                            const u32 t29 = load32(l1 + 28ull);
+                                                            l9 = t29;
+                                                            l2 = l1 + 24ull;
+                                                            const u32 t30 = load32(l2);
+                                                            l8 = t30;
+                                                            l38 = l1 + 16ull;
+                                                            const u32 t31 = load32(l38);
+                                                            if ((l9 - (l8 + t31)) <= 10u) {
+                                                                const u32 t33 = space_space_Space_find_way(e, l1, 11ull);
+                                                                if (t33 == 0) goto L12;
+                                                                const u32 t34 = load32(l1 + 28ull);
+                                                                l9 = t34;
+                                                                const u32 t35 = load32(l1 + 24ull);
+                                                                l8 = t35;
+                                                            }
+                                                            const u64 t36 = load64(l1);
+                                                            l8 = l8 + 11u;
+                                                            space_space_write_bytes(e, t36 + ((u64)(l9 - l8) << 3), TABLES + 768u, 11ull);
+                                                            store32(l2, l8);
+                                                            const u32 t37 = load32(l29);
+                                                            const u32 t38 = load32(l38);
+                                                            v26 = t37 + (t38 + l8); goto L26;
+                                                        }
+                                                        const u64 t39 = load64(l1);
+                                                        l2 = t39;
+                                                        const u32 t40 = load32(l1 + 16ull);
+                                                        l8 = t40;
+                                                        const u64 t41 = load64(l27 + 64u);
+                                                        l38 = t41;
+                                                        l17 = (u32)l38;
+                                                        const u32 t42 = load8((l2 + ((u64)(l8 + l17) << 3)) + 1ull);
+                                                        l15 = t42;
+                                                        const u32 t43 = load32(l1 + 20ull);
+                                                        l9 = t43;
+                                                        store8(l27 + 114u, (u8)0u);
+                                                        store16(l27 + 112u, (u16)0u);
                                                         {
                                                             {
                                                                 {
-                                                                    const u64 t215 = load64(l25 + 40u);
-                                                                    const u64 t216 = load64(l25 + 48u);
-                                                                    const u32 t217 = core_machine_Machine_prints(e, l26);
-                                                                    if ((t215 - t216) >= (u64)t217) {
-                                                                        l8 = 1u;
-                                                                        const u32 t219 = load8(l26 + 84ull);
-                                                                        if (t219 == 1u) {
-                                                                            const u32 t221 = load8(l26 + 85ull);
-                                                                            l6 = t221;
-                                                                            goto L204;
-                                                                        }
-                                                                        const u64 t222 = load64(l26 + 72ull);
-                                                                        const u64 t223 = load64(l26 + 64ull);
-                                                                        if (t222 == t223) {
-                                                                            store16(l26 + 84ull, (u16)769u);
-                                                                            l6 = 3u;
-                                                                            goto L204;
-                                                                        }
-                                                                        const u32 t225 = load32(l26 + 24ull);
-                                                                        l8 = t225;
-                                                                        const u32 t226 = load32(l26 + 16ull);
-                                                                        l9 = t226;
-                                                                        const u32 t227 = load32(l26 + 20ull);
-                                                                        l16 = t227;
-                                                                        store32(l25 + 160u, l16);
-                                                                        l6 = 0u;
-                                                                        store32(l25 + 128u, 0u);
-                                                                        store64(l25 + 184u, 0ull);
-                                                                        store64(l25 + 176u, 0ull);
-                                                                        core_scan_pass(e, l25 + 176ull, l26, 1ull, l25 + 160ull, l25 + 128ull);
-                                                                        const u32 t228 = load8(l25 + 176u);
-                                                                        if (t228 == 1u) {
-                                                                            const u32 t230 = load8(l25 + 180u);
-                                                                            if (t230 == 0) {
-                                                                                l9 = 0u;
-                                                                                store32(l26 + 32ull, 0u);
-                                                                                l4 = l26 + 20ull;
-                                                                                store32(l4, 0u);
-                                                                                const u32 t232 = load32(l26 + 28ull);
-                                                                                l6 = t232;
-                                                                                l5 = l26 + 24ull;
-                                                                                const u32 t233 = load32(l5);
-                                                                                l8 = t233;
-                                                                                l28 = l26 + 16ull;
-                                                                                const u32 t234 = load32(l28);
-                                                                                if ((l6 - (l8 + t234)) <= 10u) {
-                                                                                    const u32 t236 = space_space_Space_find_way(e, l26, 11ull);
-                                                                                    if (t236 == 0) {
-                                                                                        l6 = 2u;
-                                                                                        goto L205;
-                                                                                    }
-                                                                                    const u32 t238 = load32(l26 + 24ull);
-                                                                                    l8 = t238;
-                                                                                    const u32 t239 = load32(l26 + 28ull);
-                                                                                    l6 = t239;
-                                                                                }
-                                                                                const u64 t240 = load64(l26);
-                                                                                l8 = l8 + 11u;
-                                                                                space_space_write_bytes(e, t240 + ((u64)(l6 - l8) << 3), TABLES + 968u, 11ull);
-                                                                                store32(l5, l8);
-                                                                                const u32 t241 = load32(l4);
-                                                                                const u32 t242 = load32(l28);
-                                                                                l16 = t241 + (t242 + l8);
-                                                                                l6 = 0u;
-                                                                                goto L206;
-                                                                            }
-                                                                            const u64 t243 = load64(l25 + 184u);
-                                                                            l28 = t243;
-                                                                            l4 = l26 + 24ull;
-                                                                            const u32 t244 = load32(l4);
-                                                                            l21 = t244 - 1u;
-                                                                            store32(l4, l21);
-                                                                            const u32 t245 = load32(l26 + 20ull);
-                                                                            l19 = t245;
-                                                                            const u32 t246 = load32(l26 + 16ull);
-                                                                            l8 = t246;
-                                                                            store64(l25 + 144u, 0ull);
-                                                                            store64(l25 + 128u, 0ull);
-                                                                            store64(l25 + 136u, 0ull);
-                                                                            store64(l25 + 112u, 0ull);
-                                                                            store64(l25 + 120u, 0ull);
-                                                                            store64(l25 + 96u, 0ull);
-                                                                            store64(l25 + 104u, 0ull);
-                                                                            const u64 t247 = load64(l26);
-                                                                            l4 = t247;
-                                                                            l9 = (u32)l28;
-                                                                            const u32 t248 = load8((l4 + ((u64)(l8 + l9) << 3)) + 1ull);
-                                                                            l11 = t248;
-                                                                            store8(l25 + 178u, (u8)0u);
-                                                                            store16(l25 + 176u, (u16)0u);
-                                                                            l6 = l8 + l19;
-                                                                            l16 = l6 + l21;
+                                                                    {
+                                                                        {
                                                                             {
                                                                                 {
-                                                                                    l23 = l9 + 1u;
-                                                                                    l5 = (u64)(l8 + l23);
-                                                                                    l27 = (u64)l6 - l5;
-                                                                                    if (l27 < 2ull) goto L250;
-                                                                                    l5 = l4 + (l5 << 3);
-                                                                                    if (l27 != 2ull) {
-                                                                                        const u32 t252 = load8(l5 + 16ull);
-                                                                                        if (t252 != 2u) goto L250;
-                                                                                    }
-                                                                                    functions_function_function_of(e, l25 + 176ull, l5, l5 + 8ull);
-                                                                                    const u32 t253 = load8(l25 + 176u);
-                                                                                    if (t253 != 1u) goto L250;
-                                                                                    l6 = (u32)(l28 >> 32);
-                                                                                    l11 = l11 == 0;
-                                                                                    l10 = l9 + 4u;
                                                                                     {
                                                                                         {
                                                                                             {
                                                                                                 {
                                                                                                     {
-                                                                                                        {
-                                                                                                            {
-                                                                                                                const u32 t261 = load8(l25 + 177u);
-                                                                                                                l13 = t261;
-                                                                                                                switch (l13 - 1u) {
-                                                                                                                case 0: goto L260;
-                                                                                                                case 1: goto L257;
-                                                                                                                case 2: goto L259;
-                                                                                                                case 3: goto L249;
-                                                                                                                case 4: goto L256;
-                                                                                                                case 5: goto L256;
-                                                                                                                case 6: goto L256;
-                                                                                                                case 7: goto L256;
-                                                                                                                case 8: goto L256;
-                                                                                                                case 9: goto L258;
-                                                                                                                case 10: goto L256;
-                                                                                                                case 11: goto L256;
-                                                                                                                case 12: goto L256;
-                                                                                                                case 13: goto L256;
-                                                                                                                case 14: goto L256;
-                                                                                                                case 15: goto L256;
-                                                                                                                case 16: goto L256;
-                                                                                                                case 17: goto L256;
-                                                                                                                case 18: goto L256;
-                                                                                                                case 19: goto L256;
-                                                                                                                case 20: goto L256;
-                                                                                                                case 21: goto L256;
-                                                                                                                case 22: goto L256;
-                                                                                                                case 23: goto L256;
-                                                                                                                default: goto L255;
-                                                                                                                }
-                                                                                                            }
-                                                                                                            L260:;
-                                                                                                            l5 = l25 + 144ull;
-                                                                                                            l0 = l26;
-                                                                                                            l1 = l25 + 64ull;
-                                                                                                            l4 = e->stack_pointer - 16ull;
-                                                                                                            e->stack_pointer = l4;
-                                                                                                            u32 v262;
-                                                                                                            {
-                                                                                                                {
-                                                                                                                    if ((i64)(l4 - e->stack) >= (i64)16ull) {
-                                                                                                                        l6 = 4u;
-                                                                                                                        const u32 t265 = load8(l1 + 17ull);
-                                                                                                                        if (t265) { v262 = 1u; goto L262; }
-                                                                                                                        {
-                                                                                                                            const u64 t267 = load64(l1 + 8u);
-                                                                                                                            l2 = t267;
-                                                                                                                            if (l2 == 0) {
-                                                                                                                                const u32 t269 = load8(l1 + 16ull);
-                                                                                                                                if (t269) goto L266;
-                                                                                                                                store8(l1 + 17ull, (u8)1u);
-                                                                                                                                v262 = 1u; goto L262;
-                                                                                                                            }
-                                                                                                                            store64(l1 + 8u, l2 - 1ull);
-                                                                                                                            const u64 t270 = load64(l1);
-                                                                                                                            l2 = t270;
-                                                                                                                            store64(l1, l2 + 1ull);
-                                                                                                                            const u32 t271 = load8(l2);
-                                                                                                                            l6 = t271;
-                                                                                                                            store64(l4 + 8u, 0ull);
-                                                                                                                            store8(l4 + 9u, (u8)l6);
-                                                                                                                            const u32 t272 = load32(l0 + 28ull);
-                                                                                                                            l1 = l0 + 20ull;
-                                                                                                                            const u32 t273 = load32(l1);
-                                                                                                                            l13 = t273;
-                                                                                                                            const u32 t274 = load32(l0 + 16ull);
-                                                                                                                            l11 = l13 + t274;
-                                                                                                                            const u32 t275 = load32(l0 + 24ull);
-                                                                                                                            if (t272 != (l11 + t275)) {
-                                                                                                                                l2 = l0 + 32ull;
-                                                                                                                                const u32 t277 = load32(l2);
-                                                                                                                                l10 = t277;
-                                                                                                                                const u64 t278 = load64(l0);
-                                                                                                                                l0 = t278 + ((u64)l11 << 3);
-                                                                                                                                store8(l0, (u8)0u);
-                                                                                                                                store32(l0 + 4ull, 0u);
-                                                                                                                                store8(l0 + 1ull, (u8)l6);
-                                                                                                                                store32(l1, l13 + 1u);
-                                                                                                                                store32(l2, l10);
-                                                                                                                                goto L263;
-                                                                                                                            }
-                                                                                                                            const u32 t279 = space_space_Space_push_in_way(e, l0, l4 + 8ull);
-                                                                                                                            if (t279) goto L263;
-                                                                                                                            l6 = 0u;
-                                                                                                                            v262 = 0u; goto L262;
-                                                                                                                        }
-                                                                                                                        L266:;
-                                                                                                                        l1 = l1 + 24ull;
-                                                                                                                        const u64 t280 = load64(l1);
-                                                                                                                        store64(l1, t280 + 1ull);
-                                                                                                                        v262 = 4u; goto L262;
-                                                                                                                    }
-                                                                                                                    trap();
-                                                                                                                }
-                                                                                                                L263:;
-                                                                                                                l6 = 1u;
-                                                                                                                v262 = 0u;
-                                                                                                            }
-                                                                                                            L262:;
-                                                                                                            l13 = v262;
-                                                                                                            store8(l5, (u8)l6);
-                                                                                                            store32(l5 + 4ull, 0u);
-                                                                                                            store8(l5 + 1ull, (u8)l13);
-                                                                                                            e->stack_pointer = l4 + 16ull;
-                                                                                                            goto L254;
+                                                                                                        l6 = l8 + l9;
+                                                                                                        l16 = l17 + 1u;
+                                                                                                        l29 = (u64)(l8 + l16);
+                                                                                                        l31 = (u64)l6 - l29;
+                                                                                                        if (l31 < 2ull) goto L55;
+                                                                                                        l29 = l2 + (l29 << 3);
+                                                                                                        if (l31 != 2ull) {
+                                                                                                            const u32 t57 = load8(l29 + 16ull);
+                                                                                                            if (t57 != 2u) goto L55;
                                                                                                         }
-                                                                                                        L259:;
-                                                                                                        store16(l32, (u16)0u);
-                                                                                                        store8(l32 + 2u, (u8)0u);
-                                                                                                        store8(l25 + 140u, (u8)l11);
-                                                                                                        store32(l25 + 136u, l6);
-                                                                                                        store32(l25 + 132u, l19);
-                                                                                                        store32(l25 + 128u, l10);
-                                                                                                        core_input_output_print_string(e, l25 + 144ull, l26, l25 + 128ull, l25 + 32ull);
-                                                                                                        goto L254;
+                                                                                                        functions_function_function_of(e, l27 + 112ull, l29, l29 + 8ull);
+                                                                                                        const u32 t58 = load8(l27 + 112u);
+                                                                                                        if (t58 == 1u) goto L54;
                                                                                                     }
-                                                                                                    L258:;
-                                                                                                    store16(l33, (u16)0u);
-                                                                                                    store8(l33 + 2u, (u8)0u);
-                                                                                                    store8(l25 + 124u, (u8)l11);
-                                                                                                    store32(l25 + 120u, l6);
-                                                                                                    store32(l25 + 116u, l19);
-                                                                                                    store32(l25 + 112u, l10);
-                                                                                                    core_display_print_form(e, l25 + 144ull, l26, l25 + 112ull, l25 + 32ull);
-                                                                                                    goto L254;
+                                                                                                    L55:;
+                                                                                                    l14 = 0u;
+                                                                                                    store8(l27 + 86u, (u8)0u);
+                                                                                                    store16(l27 + 84u, (u16)0u);
+                                                                                                    l11 = 1u;
+                                                                                                    l10 = 0u;
+                                                                                                    l12 = l16;
+                                                                                                    goto L53;
                                                                                                 }
-                                                                                                L257:;
-                                                                                                store16(l34, (u16)0u);
-                                                                                                store8(l34 + 2u, (u8)0u);
-                                                                                                store8(l25 + 108u, (u8)l11);
-                                                                                                store32(l25 + 104u, l6);
-                                                                                                store32(l25 + 100u, l19);
-                                                                                                store32(l25 + 96u, l10);
-                                                                                                l2 = l25 + 144ull;
-                                                                                                l1 = l25 + 96ull;
-                                                                                                l0 = e->stack_pointer - 32ull;
-                                                                                                e->stack_pointer = l0;
-                                                                                                {
-                                                                                                    if ((i64)(l0 - e->stack) >= (i64)16ull) {
-                                                                                                        const u64 t283 = load64(l1 + 8u);
-                                                                                                        store64(l0 + 24u, t283);
-                                                                                                        const u64 t284 = load64(l1);
-                                                                                                        store64(l0 + 16u, t284);
-                                                                                                        functions_arguments_Arguments_next(e, l0 + 8ull, l0 + 16ull, l26);
-                                                                                                        const u32 t285 = load32(l0 + 8u);
-                                                                                                        l6 = t285;
-                                                                                                        const u32 t286 = load32(l0 + 12u);
-                                                                                                        if (l6 != t286) {
-                                                                                                            const u64 t288 = load64(l26);
-                                                                                                            const u32 t289 = load32(l26 + 16ull);
-                                                                                                            l1 = t288 + ((u64)(t289 + l6) << 3);
-                                                                                                            const u32 t290 = load8(l1);
-                                                                                                            const u64 t291 = l31;
-                                                                                                            u32 v292;
-                                                                                                            if (t290) {
-                                                                                                                v292 = 0u;
-                                                                                                            } else {
-                                                                                                                const u32 t293 = load8(l1 + 1ull);
-                                                                                                                v292 = t293;
-                                                                                                            }
-                                                                                                            store8(t291, (u8)v292);
-                                                                                                        }
-                                                                                                        store16(l2, (u16)3u);
-                                                                                                        store32(l2 + 4ull, 0u);
-                                                                                                        e->stack_pointer = l0 + 32ull;
-                                                                                                        goto L281;
-                                                                                                    }
-                                                                                                    trap();
-                                                                                                }
-                                                                                                L281:;
-                                                                                                goto L254;
+                                                                                                L54:;
+                                                                                                const u32 t59 = load8(l27 + 114u);
+                                                                                                l14 = t59;
+                                                                                                const u32 t60 = load8(l27 + 113u);
+                                                                                                l10 = t60;
+                                                                                                l11 = 0u;
+                                                                                                store8(l27 + 86u, (u8)0u);
+                                                                                                store16(l27 + 84u, (u16)0u);
+                                                                                                l12 = l17 + 4u;
+                                                                                                if ((l10 - 11u) < 14u) goto L53;
+                                                                                                if (((1u << (l10 & 31)) & 1012u) == 0) goto L52;
                                                                                             }
-                                                                                            L256:;
-                                                                                            const u32 t294 = load8(l25 + 178u);
-                                                                                            l15 = t294;
-                                                                                            store16(l35, (u16)0u);
-                                                                                            store8(l35 + 2u, (u8)0u);
-                                                                                            store8(l25 + 172u, (u8)l11);
-                                                                                            store32(l25 + 168u, l6);
-                                                                                            store32(l25 + 164u, l19);
-                                                                                            store32(l25 + 160u, l10);
-                                                                                            store64(l25 + 152u, 0ull);
+                                                                                            L53:;
+                                                                                            l29 = l1 + 24ull;
+                                                                                            const u32 t61 = load32(l29);
+                                                                                            l22 = t61 - 1u;
+                                                                                            store32(l29, l22);
+                                                                                            l18 = l6 + l22;
+                                                                                            l6 = 0u;
+                                                                                            if (l11) goto L44;
+                                                                                            l11 = (u32)(l38 >> 32);
+                                                                                            l15 = l15 == 0;
+                                                                                            {
+                                                                                                if ((l10 - 5u) < 20u) goto L62;
+                                                                                                {
+                                                                                                    switch (l10 - 2u) {
+                                                                                                    case 0: goto L63;
+                                                                                                    case 2: goto L51;
+                                                                                                    default: goto L62;
+                                                                                                    }
+                                                                                                }
+                                                                                                L63:;
+                                                                                                const u32 t64 = load16(l27 + 84u);
+                                                                                                store16(l46, (u16)t64);
+                                                                                                const u32 t65 = load8(l27 + 86u);
+                                                                                                store8(l46 + 2u, (u8)t65);
+                                                                                                store8(l27 + 124u, (u8)l15);
+                                                                                                store32(l27 + 120u, l11);
+                                                                                                store32(l27 + 116u, l9);
+                                                                                                store32(l27 + 112u, l12);
+                                                                                                functions_arguments_Arguments_next(e, l27 + 8ull, l27 + 112ull, l1);
+                                                                                                const u32 t66 = load32(l27 + 8u);
+                                                                                                l9 = t66;
+                                                                                                const u32 t67 = load32(l27 + 12u);
+                                                                                                if (l9 == t67) goto L44;
+                                                                                                l29 = l2 + ((u64)(l8 + l9) << 3);
+                                                                                                const u32 t68 = load8(l29);
+                                                                                                const u64 t69 = l40;
+                                                                                                u32 v70;
+                                                                                                if (t68) {
+                                                                                                    v70 = 0u;
+                                                                                                } else {
+                                                                                                    const u32 t71 = load8(l29 + 1ull);
+                                                                                                    v70 = t71;
+                                                                                                }
+                                                                                                store8(t69, (u8)v70);
+                                                                                                goto L44;
+                                                                                            }
+                                                                                            L62:;
+                                                                                            const u32 t72 = load16(l27 + 84u);
+                                                                                            store16(l47, (u16)t72);
+                                                                                            const u32 t73 = load8(l27 + 86u);
+                                                                                            store8(l47 + 2u, (u8)t73);
+                                                                                            store8(l27 + 108u, (u8)l15);
+                                                                                            store32(l27 + 104u, l11);
+                                                                                            store32(l27 + 100u, l9);
+                                                                                            store32(l27 + 96u, l12);
+                                                                                            store64(l27 + 88u, 0ull);
                                                                                             {
                                                                                                 {
                                                                                                     {
@@ -20051,658 +19412,1966 @@ static void engine_turn(struct engine *e, u64 l0, u64 l1, u64 l2, u64 l3, u64 l4
                                                                                                                                                             {
                                                                                                                                                                 {
                                                                                                                                                                     {
-                                                                                                                                                                        {
-                                                                                                                                                                            switch (l13 - 6u) {
-                                                                                                                                                                            case 0: goto L300;
-                                                                                                                                                                            case 1: goto L298;
-                                                                                                                                                                            case 2: goto L297;
-                                                                                                                                                                            case 3: goto L296;
-                                                                                                                                                                            case 4: goto L295;
-                                                                                                                                                                            case 5: goto L299;
-                                                                                                                                                                            case 6: goto L306;
-                                                                                                                                                                            case 7: goto L305;
-                                                                                                                                                                            case 8: goto L304;
-                                                                                                                                                                            case 9: goto L303;
-                                                                                                                                                                            case 10: goto L302;
-                                                                                                                                                                            case 11: goto L314;
-                                                                                                                                                                            case 12: goto L313;
-                                                                                                                                                                            case 13: goto L312;
-                                                                                                                                                                            case 14: goto L311;
-                                                                                                                                                                            case 15: goto L310;
-                                                                                                                                                                            case 16: goto L309;
-                                                                                                                                                                            case 17: goto L308;
-                                                                                                                                                                            case 18: goto L307;
-                                                                                                                                                                            default: goto L301;
-                                                                                                                                                                            }
+                                                                                                                                                                        switch (l10 - 5u) {
+                                                                                                                                                                        case 0: goto L80;
+                                                                                                                                                                        case 1: goto L79;
+                                                                                                                                                                        case 2: goto L77;
+                                                                                                                                                                        case 3: goto L76;
+                                                                                                                                                                        case 4: goto L75;
+                                                                                                                                                                        case 6: goto L78;
+                                                                                                                                                                        case 7: goto L85;
+                                                                                                                                                                        case 8: goto L84;
+                                                                                                                                                                        case 9: goto L83;
+                                                                                                                                                                        case 10: goto L82;
+                                                                                                                                                                        case 11: goto L81;
+                                                                                                                                                                        case 12: goto L74;
+                                                                                                                                                                        case 13: goto L92;
+                                                                                                                                                                        case 14: goto L91;
+                                                                                                                                                                        case 15: goto L90;
+                                                                                                                                                                        case 16: goto L89;
+                                                                                                                                                                        case 17: goto L88;
+                                                                                                                                                                        case 18: goto L87;
+                                                                                                                                                                        case 19: goto L86;
+                                                                                                                                                                        default: goto L45;
                                                                                                                                                                         }
-                                                                                                                                                                        L314:;
-                                                                                                                                                                        functions_comparing_equal(e, l25 + 152ull, l26, l25 + 160ull);
-                                                                                                                                                                        goto L211;
                                                                                                                                                                     }
-                                                                                                                                                                    L313:;
-                                                                                                                                                                    functions_comparing_greater(e, l25 + 152ull, l26, l25 + 160ull);
-                                                                                                                                                                    goto L211;
+                                                                                                                                                                    L92:;
+                                                                                                                                                                    functions_comparing_greater(e, l27 + 88ull, l1, l27 + 96ull);
+                                                                                                                                                                    goto L47;
                                                                                                                                                                 }
-                                                                                                                                                                L312:;
-                                                                                                                                                                functions_arithmetic_arithmetic(e, l25 + 152ull, l26, l15, l25 + 160ull);
-                                                                                                                                                                goto L211;
+                                                                                                                                                                L91:;
+                                                                                                                                                                functions_arithmetic_arithmetic(e, l27 + 88ull, l1, l14, l27 + 96ull);
+                                                                                                                                                                goto L47;
                                                                                                                                                             }
-                                                                                                                                                            L311:;
-                                                                                                                                                            functions_bit_strings_union(e, l25 + 152ull, l26, l25 + 160ull);
-                                                                                                                                                            goto L211;
+                                                                                                                                                            L90:;
+                                                                                                                                                            functions_bit_strings_union(e, l27 + 88ull, l1, l27 + 96ull);
+                                                                                                                                                            goto L47;
                                                                                                                                                         }
-                                                                                                                                                        L310:;
-                                                                                                                                                        functions_bit_strings_intersection(e, l25 + 152ull, l26, l25 + 160ull);
-                                                                                                                                                        goto L211;
+                                                                                                                                                        L89:;
+                                                                                                                                                        functions_bit_strings_intersection(e, l27 + 88ull, l1, l27 + 96ull);
+                                                                                                                                                        goto L47;
                                                                                                                                                     }
-                                                                                                                                                    L309:;
-                                                                                                                                                    l4 = l25 + 152ull;
-                                                                                                                                                    l2 = l25 + 160ull;
-                                                                                                                                                    l1 = e->stack_pointer - 64ull;
-                                                                                                                                                    e->stack_pointer = l1;
+                                                                                                                                                    L88:;
+                                                                                                                                                    store64(l27 + 152u, 0ull);
+                                                                                                                                                    const u64 t93 = load64(l27 + 96u);
+                                                                                                                                                    store64(l27 + 136u, t93);
+                                                                                                                                                    const u64 t94 = load64(l27 + 104u);
+                                                                                                                                                    store64(l27 + 144u, t94);
+                                                                                                                                                    store64(l27 + 124u, 0ull);
+                                                                                                                                                    functions_arguments_Arguments_next(e, l27 + 16ull, l27 + 136ull, l1);
+                                                                                                                                                    const u32 t95 = load32(l27 + 16u);
+                                                                                                                                                    l15 = t95;
+                                                                                                                                                    const u32 t96 = load32(l27 + 20u);
+                                                                                                                                                    l11 = t96;
+                                                                                                                                                    l29 = (u64)(l11 + l8);
+                                                                                                                                                    l31 = (u64)(l15 + l8) - l29;
+                                                                                                                                                    l29 = (l2 + (l29 << 3)) - 8ull;
+                                                                                                                                                    l6 = l11;
+                                                                                                                                                    L97:;
                                                                                                                                                     {
-                                                                                                                                                        l0 = l1;
-                                                                                                                                                        if ((i64)(l0 - e->stack) >= (i64)16ull) {
-                                                                                                                                                            store64(l0 + 32u, 0ull);
-                                                                                                                                                            store64(l0 + 56u, 0ull);
-                                                                                                                                                            const u64 t317 = load64(l2);
-                                                                                                                                                            store64(l0 + 40u, t317);
-                                                                                                                                                            const u64 t318 = load64(l2 + 8u);
-                                                                                                                                                            store64(l0 + 48u, t318);
-                                                                                                                                                            functions_arguments_Arguments_next(e, l0 + 8ull, l0 + 40ull, l26);
-                                                                                                                                                            const u32 t319 = load32(l26 + 16ull);
-                                                                                                                                                            l13 = t319;
-                                                                                                                                                            const u32 t320 = load32(l0 + 8u);
-                                                                                                                                                            l10 = t320;
-                                                                                                                                                            const u32 t321 = load32(l0 + 12u);
-                                                                                                                                                            l11 = t321;
-                                                                                                                                                            l2 = (u64)(l13 + l11);
-                                                                                                                                                            l1 = (u64)(l13 + l10) - l2;
-                                                                                                                                                            const u64 t322 = load64(l26);
-                                                                                                                                                            l2 = (t322 + (l2 << 3)) - 8ull;
-                                                                                                                                                            l6 = l11;
-                                                                                                                                                            L323:;
-                                                                                                                                                            {
-                                                                                                                                                                {
-                                                                                                                                                                    l13 = l6;
-                                                                                                                                                                    if (l1 == 0) goto L324;
-                                                                                                                                                                    const u32 t325 = load8(l2);
-                                                                                                                                                                    if (t325) goto L324;
-                                                                                                                                                                    l1 = l1 + 1ull;
-                                                                                                                                                                    l6 = l13 - 1u;
-                                                                                                                                                                    l5 = l2 + 1ull;
-                                                                                                                                                                    l2 = l2 - 8ull;
-                                                                                                                                                                    const u32 t326 = load8(l5);
-                                                                                                                                                                    if ((t326 & 248u) == 48u) goto L323;
-                                                                                                                                                                }
-                                                                                                                                                                L324:;
-                                                                                                                                                            }
-                                                                                                                                                            store32(l0 + 28u, l11);
-                                                                                                                                                            store32(l0 + 24u, l13);
-                                                                                                                                                            store32(l0 + 20u, 2u);
-                                                                                                                                                            functions_bit_strings_give_bits(e, l0 + 56ull, l26, l10, l13, l0 + 20ull);
-                                                                                                                                                            const u32 t327 = load16(l0 + 56u);
-                                                                                                                                                            store16(l4, (u16)t327);
-                                                                                                                                                            const u32 t328 = load32(l0 + 60u);
-                                                                                                                                                            store32(l4 + 4ull, t328);
-                                                                                                                                                            e->stack_pointer = l0 + 64ull;
-                                                                                                                                                            goto L315;
+                                                                                                                                                        {
+                                                                                                                                                            l10 = l6;
+                                                                                                                                                            if (l31 == 0) goto L98;
+                                                                                                                                                            const u32 t99 = load8(l29);
+                                                                                                                                                            if (t99) goto L98;
+                                                                                                                                                            l31 = l31 + 1ull;
+                                                                                                                                                            l6 = l10 - 1u;
+                                                                                                                                                            l2 = l29 + 1ull;
+                                                                                                                                                            l29 = l29 - 8ull;
+                                                                                                                                                            const u32 t100 = load8(l2);
+                                                                                                                                                            if ((t100 & 248u) == 48u) goto L97;
                                                                                                                                                         }
-                                                                                                                                                        trap();
+                                                                                                                                                        L98:;
                                                                                                                                                     }
-                                                                                                                                                    L315:;
-                                                                                                                                                    goto L211;
+                                                                                                                                                    store32(l27 + 120u, l11);
+                                                                                                                                                    store32(l27 + 116u, l10);
+                                                                                                                                                    store32(l27 + 112u, 2u);
+                                                                                                                                                    functions_bit_strings_give_bits(e, l27 + 152ull, l1, l15, l10, l27 + 112ull);
+                                                                                                                                                    const u32 t101 = load16(l27 + 152u);
+                                                                                                                                                    store16(l27 + 88u, (u16)t101);
+                                                                                                                                                    const u32 t102 = load32(l27 + 156u);
+                                                                                                                                                    store32(l27 + 92u, t102);
+                                                                                                                                                    goto L47;
                                                                                                                                                 }
-                                                                                                                                                L308:;
-                                                                                                                                                functions_bit_strings_shift(e, l25 + 152ull, l26, l25 + 160ull);
-                                                                                                                                                goto L211;
+                                                                                                                                                L87:;
+                                                                                                                                                functions_bit_strings_shift(e, l27 + 88ull, l1, l27 + 96ull);
+                                                                                                                                                goto L47;
                                                                                                                                             }
-                                                                                                                                            L307:;
-                                                                                                                                            functions_bit_strings_rotate(e, l25 + 152ull, l26, l25 + 160ull);
-                                                                                                                                            goto L211;
+                                                                                                                                            L86:;
+                                                                                                                                            functions_bit_strings_rotate(e, l27 + 88ull, l1, l27 + 96ull);
+                                                                                                                                            goto L47;
                                                                                                                                         }
-                                                                                                                                        L306:;
-                                                                                                                                        functions_form_parts_call_segment(e, l25 + 152ull, l26, l25 + 160ull);
-                                                                                                                                        goto L211;
+                                                                                                                                        L85:;
+                                                                                                                                        functions_form_parts_call_segment(e, l27 + 88ull, l1, l27 + 96ull);
+                                                                                                                                        goto L47;
                                                                                                                                     }
-                                                                                                                                    L305:;
-                                                                                                                                    functions_form_parts_call_character(e, l25 + 152ull, l26, l25 + 160ull);
-                                                                                                                                    goto L211;
+                                                                                                                                    L84:;
+                                                                                                                                    functions_form_parts_call_character(e, l27 + 88ull, l1, l27 + 96ull);
+                                                                                                                                    goto L47;
                                                                                                                                 }
-                                                                                                                                L304:;
-                                                                                                                                functions_form_parts_call_number(e, l25 + 152ull, l26, l25 + 160ull);
-                                                                                                                                goto L211;
+                                                                                                                                L83:;
+                                                                                                                                functions_form_parts_call_number(e, l27 + 88ull, l1, l27 + 96ull);
+                                                                                                                                goto L47;
                                                                                                                             }
-                                                                                                                            L303:;
-                                                                                                                            functions_form_parts_initial_part(e, l25 + 152ull, l26, l25 + 160ull);
-                                                                                                                            goto L211;
+                                                                                                                            L82:;
+                                                                                                                            functions_form_parts_initial_part(e, l27 + 88ull, l1, l27 + 96ull);
+                                                                                                                            goto L47;
                                                                                                                         }
-                                                                                                                        L302:;
-                                                                                                                        functions_form_parts_call_restore(e, l25 + 152ull, l26, l25 + 160ull);
-                                                                                                                        goto L211;
+                                                                                                                        L81:;
+                                                                                                                        functions_form_parts_call_restore(e, l27 + 88ull, l1, l27 + 96ull);
+                                                                                                                        goto L47;
                                                                                                                     }
-                                                                                                                    L301:;
-                                                                                                                    functions_form_calls_define_string(e, l25 + 152ull, l26, l25 + 160ull);
-                                                                                                                    goto L211;
+                                                                                                                    L80:;
+                                                                                                                    functions_form_calls_define_string(e, l27 + 88ull, l1, l27 + 96ull);
+                                                                                                                    goto L47;
                                                                                                                 }
-                                                                                                                L300:;
-                                                                                                                functions_form_calls_segment_string(e, l25 + 152ull, l26, l25 + 160ull);
-                                                                                                                goto L211;
+                                                                                                                L79:;
+                                                                                                                functions_form_calls_segment_string(e, l27 + 88ull, l1, l27 + 96ull);
+                                                                                                                goto L47;
                                                                                                             }
-                                                                                                            L299:;
-                                                                                                            const u64 t329 = load64(l25 + 168u);
-                                                                                                            store64(l25 + 184u, t329);
-                                                                                                            const u64 t330 = load64(l25 + 160u);
-                                                                                                            store64(l25 + 176u, t330);
-                                                                                                            const u32 t331 = load8(l25 + 188u);
-                                                                                                            l10 = t331;
-                                                                                                            functions_arguments_Arguments_next(e, l25 + 24ull, l25 + 176ull, l26);
-                                                                                                            const u32 t332 = load32(l25 + 28u);
-                                                                                                            l6 = t332;
-                                                                                                            const u32 t333 = load32(l25 + 24u);
-                                                                                                            l11 = t333;
-                                                                                                            u32 v334;
+                                                                                                            L78:;
+                                                                                                            const u64 t103 = load64(l27 + 104u);
+                                                                                                            store64(l27 + 120u, t103);
+                                                                                                            const u64 t104 = load64(l27 + 96u);
+                                                                                                            store64(l27 + 112u, t104);
+                                                                                                            const u32 t105 = load8(l27 + 124u);
+                                                                                                            l11 = t105;
+                                                                                                            functions_arguments_Arguments_next(e, l27 + 48ull, l27 + 112ull, l1);
+                                                                                                            const u32 t106 = load32(l27 + 52u);
+                                                                                                            l10 = t106;
+                                                                                                            const u32 t107 = load32(l27 + 48u);
+                                                                                                            l6 = t107;
+                                                                                                            u32 v108;
                                                                                                             {
-                                                                                                                const u32 t335 = load32(l26 + 40ull);
-                                                                                                                l13 = t335;
-                                                                                                                if (l13 >= 8u) {
-                                                                                                                    forms_work_Work_find_among_more(e, l25 + 8ull, l26, l11, l6);
-                                                                                                                    const u32 t337 = load32(l25 + 12u);
-                                                                                                                    l11 = t337;
-                                                                                                                    const u32 t338 = load8(l25 + 8u);
-                                                                                                                    v334 = t338; goto L334;
+                                                                                                                const u32 t109 = load32(l1 + 40ull);
+                                                                                                                l15 = t109;
+                                                                                                                if (l15 >= 8u) {
+                                                                                                                    forms_work_Work_find_among_more(e, l27 + 32ull, l1, l6, l10);
+                                                                                                                    const u32 t111 = load8(l27 + 32u);
+                                                                                                                    l10 = t111;
+                                                                                                                    const u32 t112 = load32(l27 + 36u);
+                                                                                                                    v108 = t112; goto L108;
                                                                                                                 }
                                                                                                                 {
-                                                                                                                    if (l13 == 0) goto L339;
-                                                                                                                    const u64 t340 = load32(l4 + 4ull);
-                                                                                                                    l27 = (u64)(l6 + l8);
-                                                                                                                    l5 = (u64)(l8 + l11);
-                                                                                                                    if (t340 != (l27 - l5)) goto L339;
-                                                                                                                    l1 = 17ull - (l5 << 3);
-                                                                                                                    l5 = (l27 ^ 18446744073709551615ull) + l5;
-                                                                                                                    l4 = l4 + (l27 << 3);
-                                                                                                                    L341:;
+                                                                                                                    if (l15 == 0) goto L113;
+                                                                                                                    const u64 t114 = load32(l2 + 4ull);
+                                                                                                                    l29 = (u64)(l8 + l10);
+                                                                                                                    l31 = (u64)(l6 + l8);
+                                                                                                                    if (t114 != (l29 - l31)) goto L113;
+                                                                                                                    l39 = 17ull - (l31 << 3);
+                                                                                                                    l31 = (l29 ^ 18446744073709551615ull) + l31;
+                                                                                                                    l29 = l2 + (l29 << 3);
+                                                                                                                    L115:;
                                                                                                                     {
-                                                                                                                        l5 = l5 + 1ull;
-                                                                                                                        if (l5 == 0) goto L214;
-                                                                                                                        l27 = l4 - 7ull;
-                                                                                                                        l2 = l1 + l4;
-                                                                                                                        l4 = l4 - 8ull;
-                                                                                                                        const u32 t342 = load8(l2);
-                                                                                                                        const u32 t343 = load8(l27);
-                                                                                                                        if (t342 == t343) goto L341;
+                                                                                                                        l31 = l31 + 1ull;
+                                                                                                                        if (l31 == 0) goto L50;
+                                                                                                                        l2 = l29 - 7ull;
+                                                                                                                        l33 = l29 + l39;
+                                                                                                                        l29 = l29 - 8ull;
+                                                                                                                        const u32 t116 = load8(l33);
+                                                                                                                        const u32 t117 = load8(l2);
+                                                                                                                        if (t116 == t117) goto L115;
                                                                                                                     }
                                                                                                                 }
-                                                                                                                L339:;
-                                                                                                                forms_work_Work_find_among_few(e, l25 + 16ull, l26, l11, l6);
-                                                                                                                const u32 t344 = load32(l25 + 20u);
-                                                                                                                l11 = t344;
-                                                                                                                const u32 t345 = load8(l25 + 16u);
-                                                                                                                v334 = t345;
+                                                                                                                L113:;
+                                                                                                                forms_work_Work_find_among_few(e, l27 + 40ull, l1, l6, l10);
+                                                                                                                const u32 t118 = load8(l27 + 40u);
+                                                                                                                l10 = t118;
+                                                                                                                const u32 t119 = load32(l27 + 44u);
+                                                                                                                v108 = t119;
                                                                                                             }
-                                                                                                            L334:;
-                                                                                                            if ((v334 & 255u) != 1u) goto L213;
-                                                                                                            goto L212;
+                                                                                                            L108:;
+                                                                                                            l6 = v108;
+                                                                                                            if ((l10 & 255u) != 1u) goto L49;
+                                                                                                            goto L48;
                                                                                                         }
-                                                                                                        L298:;
-                                                                                                        functions_form_calls_delete_definition(e, l25 + 152ull, l26, l25 + 160ull);
-                                                                                                        goto L211;
+                                                                                                        L77:;
+                                                                                                        functions_form_calls_delete_definition(e, l27 + 88ull, l1, l27 + 96ull);
+                                                                                                        goto L47;
                                                                                                     }
-                                                                                                    L297:;
-                                                                                                    functions_form_calls_delete_all(e, l25 + 152ull, l26);
-                                                                                                    goto L211;
+                                                                                                    L76:;
+                                                                                                    functions_form_calls_delete_all(e, l27 + 88ull, l1);
+                                                                                                    goto L47;
                                                                                                 }
-                                                                                                L296:;
-                                                                                                functions_form_calls_list_names(e, l25 + 152ull, l26, l25 + 160ull);
-                                                                                                goto L211;
+                                                                                                L75:;
+                                                                                                functions_form_calls_list_names(e, l27 + 88ull, l1, l27 + 96ull);
+                                                                                                goto L47;
                                                                                             }
-                                                                                            L295:;
-                                                                                            store8(l25 + 152u, (u8)1u);
-                                                                                            goto L211;
+                                                                                            L74:;
+                                                                                            functions_comparing_equal(e, l27 + 88ull, l1, l27 + 96ull);
+                                                                                            goto L47;
                                                                                         }
-                                                                                        L255:;
-                                                                                        const u32 t346 = load8(l26 + 56ull);
-                                                                                        core_input_output_read_string(e, l25 + 144ull, l26, t346, l25 + 64ull);
+                                                                                        L52:;
+                                                                                        store32(l34 + 20u, 0u);
+                                                                                        store32(l34 + 16u, l13);
+                                                                                        l1 = l35 - l30;
+                                                                                        store64(l34, l1);
+                                                                                        store64(l34 + 8u, l1 + l37);
+                                                                                        goto L10;
                                                                                     }
-                                                                                    L254:;
-                                                                                    const u32 t347 = load32(l25 + 148u);
-                                                                                    l11 = t347;
-                                                                                    const u32 t348 = load8(l25 + 144u);
-                                                                                    l10 = t348;
-                                                                                    const u32 t349 = load8(l25 + 145u);
-                                                                                    v210 = t349; goto L210;
+                                                                                    L51:;
+                                                                                    l30 = l35 - l30;
+                                                                                    l1 = l30 + l37;
+                                                                                    l8 = 0u;
+                                                                                    goto L46;
                                                                                 }
-                                                                                L250:;
-                                                                                l11 = 0u;
-                                                                                goto L209;
+                                                                                L50:;
+                                                                                store64(l1 + 44ull, 0ull);
+                                                                                l6 = 0u;
+                                                                                goto L48;
                                                                             }
-                                                                            L249:;
-                                                                            l6 = 0u;
-                                                                            l9 = 1u;
-                                                                            goto L206;
+                                                                            L49:;
+                                                                            store32(l27 + 92u, 0u);
+                                                                            store16(l27 + 88u, (u16)1u);
+                                                                            goto L47;
                                                                         }
-                                                                        l4 = l26 + 72ull;
-                                                                        const u64 t350 = load64(l4);
-                                                                        store64(l4, t350 + 1ull);
-                                                                        l4 = l26 + 80ull;
-                                                                        l8 = (l9 + l16) + l8;
-                                                                        const u32 t351 = load32(l4);
-                                                                        l9 = t351;
-                                                                        store32(l4, (l8 > l9) ? l8 : l9);
-                                                                        l8 = 0u;
-                                                                        goto L204;
-                                                                    }
-                                                                    l20 = 8u;
-                                                                    const u32 t352 = core_machine_Machine_prints(e, l26);
-                                                                    v3 = (u64)t352; goto L3;
-                                                                }
-                                                                L214:;
-                                                                store64(l26 + 44ull, 0ull);
-                                                                l11 = 0u;
-                                                                goto L212;
-                                                            }
-                                                            L213:;
-                                                            store32(l25 + 156u, 0u);
-                                                            store16(l25 + 152u, (u16)1u);
-                                                            goto L211;
-                                                        }
-                                                        L212:;
-                                                        const u32 t353 = load32(l25 + 180u);
-                                                        l6 = t353;
-                                                        const u32 t354 = load32(l25 + 176u);
-                                                        l13 = t354;
-                                                        {
-                                                            if ((l10 & 1u) == 0) goto L355;
-                                                            if (l6 >= l13) goto L355;
-                                                            l15 = 0u;
-                                                            const u64 t356 = load64(l26);
-                                                            l27 = t356;
-                                                            const u64 t357 = l27;
-                                                            u32 v358;
-                                                            {
-                                                                const u32 t359 = load32(l26 + 44ull);
-                                                                l14 = t359;
-                                                                const u32 t360 = load32(l26 + 48ull);
-                                                                l12 = t360;
-                                                                l10 = l11;
-                                                                if ((i64)(e->stack_pointer - e->stack) >= (i64)16ull) {
-                                                                    {
-                                                                        if (l10 == l14) goto L362;
-                                                                        if (l10 > l14) {
-                                                                            l14 = l10 - l14;
-                                                                            const u32 t364 = load32(l26 + 16ull);
-                                                                            l17 = t364;
-                                                                            L365:;
-                                                                            {
-                                                                                l10 = 3u;
-                                                                                if (l12 < l17) {
-                                                                                    const u64 t367 = load64(l26);
-                                                                                    l0 = t367 + ((u64)l12 << 3);
-                                                                                    const u32 t368 = load32(l0 + 4ull);
-                                                                                    const u32 t369 = load8(l0);
-                                                                                    l10 = (t369 == 4u) ? (t368 + 3u) : 3u;
-                                                                                }
-                                                                                l18 = l12 + 1u;
-                                                                                u32 v370;
-                                                                                if (l17 > l18) {
-                                                                                    const u64 t371 = load64(l26);
-                                                                                    l0 = t371 + ((u64)l18 << 3);
-                                                                                    const u32 t372 = load32(l0 + 4ull);
-                                                                                    const u32 t373 = load8(l0);
-                                                                                    v370 = (t373 == 4u) ? t372 : 0u;
-                                                                                } else {
-                                                                                    v370 = 0u;
-                                                                                }
-                                                                                l12 = v370 + (l10 + l12);
-                                                                                l14 = l14 - 1u;
-                                                                                if (l14) goto L365;
-                                                                            }
-                                                                            goto L362;
-                                                                        }
-                                                                        if (l10 == 0) { v358 = 0u; goto L358; }
-                                                                        const u32 t374 = load32(l26 + 16ull);
-                                                                        l17 = t374;
-                                                                        l12 = 0u;
-                                                                        L375:;
+                                                                        L48:;
+                                                                        const u32 t120 = load32(l27 + 116u);
+                                                                        l10 = t120;
+                                                                        const u32 t121 = load32(l27 + 112u);
+                                                                        l15 = t121;
                                                                         {
-                                                                            l14 = 3u;
-                                                                            if (l12 < l17) {
-                                                                                const u64 t377 = load64(l26);
-                                                                                l0 = t377 + ((u64)l12 << 3);
-                                                                                const u32 t378 = load32(l0 + 4ull);
-                                                                                const u32 t379 = load8(l0);
-                                                                                l14 = (t379 == 4u) ? (t378 + 3u) : 3u;
+                                                                            if ((l11 & 1u) == 0) goto L122;
+                                                                            if (l10 >= l15) goto L122;
+                                                                            const u32 t123 = load32(l1 + 44ull);
+                                                                            const u32 t124 = load32(l1 + 48ull);
+                                                                            const u32 t125 = store_store_place_of(e, l1, t123, t124, l6);
+                                                                            l11 = t125;
+                                                                            l12 = 0u;
+                                                                            const u64 t126 = load64(l1);
+                                                                            l31 = t126;
+                                                                            l29 = l31 + ((u64)l11 << 3);
+                                                                            const u32 t127 = load32(l29 + 12ull);
+                                                                            l19 = t127;
+                                                                            const u32 t128 = load32(l29 + 20ull);
+                                                                            l14 = t128;
+                                                                            if (l19 != l14) {
+                                                                                const u32 t130 = load32(l29 + 4ull);
+                                                                                l25 = (l11 + t130) + 3u;
+                                                                                l12 = l25 + l14;
+                                                                                u32 v131;
+                                                                                {
+                                                                                    l11 = l19 - l14;
+                                                                                    const u32 t132 = load32(l1 + 28ull);
+                                                                                    l20 = t132;
+                                                                                    const u32 t133 = load32(l1 + 20ull);
+                                                                                    const u32 t134 = load32(l1 + 24ull);
+                                                                                    l21 = t134;
+                                                                                    const u32 t135 = load32(l1 + 16ull);
+                                                                                    if (l11 > (l20 - (t133 + (l21 + t135)))) {
+                                                                                        store_fill_load_items_in_way(e, l27 + 24ull, l1, l12, l19 + l25);
+                                                                                        const u32 t137 = load8(l27 + 24u);
+                                                                                        l14 = t137;
+                                                                                        const u32 t138 = load32(l27 + 28u);
+                                                                                        v131 = t138; goto L131;
+                                                                                    }
+                                                                                    l0 = (u64)l11;
+                                                                                    l33 = (u64)l12;
+                                                                                    {
+                                                                                        {
+                                                                                            {
+                                                                                                {
+                                                                                                    {
+                                                                                                        {
+                                                                                                            if (l11 >= 8u) {
+                                                                                                                if (l11 == 8u) goto L143;
+                                                                                                                l29 = l31 + (l33 << 3);
+                                                                                                                l2 = l0;
+                                                                                                                goto L144;
+                                                                                                            }
+                                                                                                            if (l11 >= 4u) {
+                                                                                                                l14 = 0u;
+                                                                                                                l29 = l31 + (l33 << 3);
+                                                                                                                const u32 t147 = load8(l29 + 24ull);
+                                                                                                                const u32 t148 = load8(l29 + 16ull);
+                                                                                                                const u32 t149 = load8(l29 + 8ull);
+                                                                                                                const u32 t150 = load8(l29);
+                                                                                                                if (((t147 + t148) | (t149 + t150)) & 255u) { v131 = 0u; goto L131; }
+                                                                                                                l2 = l0 + l33;
+                                                                                                                l29 = l31 + (l2 << 3);
+                                                                                                                const u32 t151 = load8(l29 - 8ull);
+                                                                                                                const u32 t152 = load8(l29 - 16ull);
+                                                                                                                const u32 t153 = load8(l29 - 24ull);
+                                                                                                                const u32 t154 = load8(l29 - 32ull);
+                                                                                                                if (((t151 + t152) | (t153 + t154)) & 255u) { v131 = 0u; goto L131; }
+                                                                                                                l12 = l11 + l21;
+                                                                                                                l29 = (u64)(l20 - l12);
+                                                                                                                core_slice_edits_slice_T_copy_from_slice(e, l31 + (l29 << 3), l31 + (l33 << 3), 4ull);
+                                                                                                                const u64 t155 = l29 - l33;
+                                                                                                                l29 = l2 - 4ull;
+                                                                                                                core_slice_edits_slice_T_copy_from_slice(e, l31 + ((t155 + l29) << 3), l31 + (l29 << 3), 4ull);
+                                                                                                                goto L140;
+                                                                                                            }
+                                                                                                            l29 = l31 + (l33 << 3);
+                                                                                                            const u32 t156 = load8(l29);
+                                                                                                            l19 = t156;
+                                                                                                            if (l11 < 2u) goto L142;
+                                                                                                            l14 = 0u;
+                                                                                                            const u32 t157 = load8(l29 + 8ull);
+                                                                                                            if (t157 | (l19 & 255u)) { v131 = 0u; goto L131; }
+                                                                                                            l2 = l0 + l33;
+                                                                                                            l29 = l31 + (l2 << 3);
+                                                                                                            const u32 t158 = load8(l29 - 8ull);
+                                                                                                            const u32 t159 = load8(l29 - 16ull);
+                                                                                                            if (t158 | t159) { v131 = 0u; goto L131; }
+                                                                                                            l12 = l11 + l21;
+                                                                                                            l29 = (u64)(l20 - l12);
+                                                                                                            core_slice_edits_slice_T_copy_from_slice(e, l31 + (l29 << 3), l31 + (l33 << 3), 2ull);
+                                                                                                            const u64 t160 = l29 - l33;
+                                                                                                            l29 = l2 - 2ull;
+                                                                                                            core_slice_edits_slice_T_copy_from_slice(e, l31 + ((t160 + l29) << 3), l31 + (l29 << 3), 2ull);
+                                                                                                            goto L140;
+                                                                                                        }
+                                                                                                        L144:;
+                                                                                                        L161:;
+                                                                                                        {
+                                                                                                            const u32 t162 = load8(l29 + 56ull);
+                                                                                                            const u32 t163 = load8(l29 + 48ull);
+                                                                                                            const u32 t164 = load8(l29 + 40ull);
+                                                                                                            const u32 t165 = load8(l29 + 32ull);
+                                                                                                            const u32 t166 = load8(l29 + 24ull);
+                                                                                                            const u32 t167 = load8(l29 + 16ull);
+                                                                                                            const u32 t168 = load8(l29 + 8ull);
+                                                                                                            const u32 t169 = load8(l29);
+                                                                                                            if ((t162 | ((t163 + (t164 + (t165 + (t166 + (t167 + (t168 + t169)))))) & 255u)) == 0) {
+                                                                                                                l29 = l29 + 64ull;
+                                                                                                                l2 = l2 - 8ull;
+                                                                                                                if (l2 >= 9ull) goto L161;
+                                                                                                                goto L143;
+                                                                                                            }
+                                                                                                        }
+                                                                                                        l14 = 0u;
+                                                                                                        v131 = 0u; goto L131;
+                                                                                                    }
+                                                                                                    L143:;
+                                                                                                    l14 = 0u;
+                                                                                                    l2 = l0 + l33;
+                                                                                                    l29 = l31 + (l2 << 3);
+                                                                                                    const u32 t171 = load8(l29 - 56ull);
+                                                                                                    const u32 t172 = load8(l29 - 64ull);
+                                                                                                    const u32 t173 = load8(l29 - 48ull);
+                                                                                                    const u32 t174 = load8(l29 - 40ull);
+                                                                                                    const u32 t175 = load8(l29 - 32ull);
+                                                                                                    const u32 t176 = load8(l29 - 24ull);
+                                                                                                    const u32 t177 = load8(l29 - 16ull);
+                                                                                                    const u32 t178 = load8(l29 - 8ull);
+                                                                                                    if ((((((((t171 + t172) + t173) + t174) + t175) + t176) + t177) & 255u) | t178) { v131 = 0u; goto L131; }
+                                                                                                    l12 = l11 + l21;
+                                                                                                    l42 = (u64)(l20 - l12);
+                                                                                                    if (l11 > 24u) goto L141;
+                                                                                                    if (l11 != 8u) {
+                                                                                                        l29 = l31 + (l42 << 3);
+                                                                                                        l2 = l31 + (l33 << 3);
+                                                                                                        l39 = l0;
+                                                                                                        L180:;
+                                                                                                        {
+                                                                                                            core_slice_edits_slice_T_copy_from_slice(e, l29, l2, 8ull);
+                                                                                                            l29 = l29 + 64ull;
+                                                                                                            l2 = l2 + 64ull;
+                                                                                                            l39 = l39 - 8ull;
+                                                                                                            if (l39 > 8ull) goto L180;
+                                                                                                        }
+                                                                                                    }
+                                                                                                    l29 = l0 - 8ull;
+                                                                                                    core_slice_edits_slice_T_copy_from_slice(e, l31 + ((l29 + l42) << 3), l31 + ((l29 + l33) << 3), 8ull);
+                                                                                                    store32(l1 + 24ull, l12);
+                                                                                                    goto L139;
+                                                                                                }
+                                                                                                L142:;
+                                                                                                l14 = 0u;
+                                                                                                if (l19 & 255u) { v131 = 0u; goto L131; }
+                                                                                                l12 = l11 + l21;
+                                                                                                if (l11 != 1u) goto L140;
+                                                                                                l29 = l31 + ((u64)(l20 - l12) << 3);
+                                                                                                l2 = l31 + (l33 << 3);
+                                                                                                const u32 t181 = load16(l2);
+                                                                                                store16(l29, (u16)t181);
+                                                                                                const u32 t182 = load32(l2 + 4ull);
+                                                                                                store32(l29 + 4ull, t182);
+                                                                                                goto L140;
+                                                                                            }
+                                                                                            L141:;
+                                                                                            space_copies_copy_long(e, l31, l33, l2, l42);
+                                                                                        }
+                                                                                        L140:;
+                                                                                        store32(l1 + 24ull, l12);
+                                                                                    }
+                                                                                    L139:;
+                                                                                    l14 = 1u;
+                                                                                    v131 = l11;
+                                                                                }
+                                                                                L131:;
+                                                                                l12 = v131;
+                                                                                if ((l14 & 255u) != 1u) goto L122;
                                                                             }
-                                                                            l18 = l12 + 1u;
-                                                                            u32 v380;
-                                                                            if (l17 > l18) {
-                                                                                const u64 t381 = load64(l26);
-                                                                                l0 = t381 + ((u64)l18 << 3);
-                                                                                const u32 t382 = load32(l0 + 4ull);
-                                                                                const u32 t383 = load8(l0);
-                                                                                v380 = (t383 == 4u) ? t382 : 0u;
-                                                                            } else {
-                                                                                v380 = 0u;
-                                                                            }
-                                                                            l12 = v380 + (l12 + l14);
-                                                                            l10 = l10 - 1u;
-                                                                            if (l10) goto L375;
+                                                                            store32(l27 + 92u, l12);
+                                                                            store16(l27 + 88u, (u16)2u);
+                                                                            goto L47;
+                                                                        }
+                                                                        L122:;
+                                                                        const u32 t183 = forms_work_Work_fill_body(e, l1, l6, l15, l10);
+                                                                        l10 = t183;
+                                                                        store32(l27 + 92u, 0u);
+                                                                        store8(l27 + 89u, (u8)0u);
+                                                                        store8(l27 + 88u, (u8)l10);
+                                                                    }
+                                                                    L47:;
+                                                                    const u32 t184 = load32(l27 + 92u);
+                                                                    l6 = t184;
+                                                                    {
+                                                                        const u64 t186 = load8(l27 + 88u);
+                                                                        switch ((u32)t186 - 1u) {
+                                                                        case 0: goto L45;
+                                                                        case 1: goto L44;
+                                                                        case 2: goto L44;
+                                                                        case 3: goto L185;
+                                                                        default: goto L12;
                                                                         }
                                                                     }
-                                                                    L362:;
-                                                                    v358 = l12; goto L358;
+                                                                    L185:;
+                                                                    const u32 t187 = load32(l1 + 24ull);
+                                                                    const u32 t188 = load32(l1 + 20ull);
+                                                                    const u32 t189 = load32(l1 + 16ull);
+                                                                    l18 = t187 + (t188 + t189);
+                                                                    l30 = l35 - l30;
+                                                                    l1 = l30 + l37;
+                                                                    const u32 t190 = load8(l27 + 89u);
+                                                                    l8 = t190;
+                                                                    l9 = 1u << (l8 & 31);
+                                                                    if (l9 & 3u) goto L46;
+                                                                    if (l9 & 12u) goto L11;
+                                                                    l13 = (l13 < l18) ? l18 : l13;
+                                                                    goto L11;
                                                                 }
-                                                                trap();
+                                                                L46:;
+                                                                l13 = (l13 < l18) ? l18 : l13;
+                                                                l1 = l1 + 1ull;
+                                                                goto L11;
                                                             }
-                                                            L358:;
-                                                            l10 = v358;
-                                                            l4 = t357 + ((u64)l10 << 3);
-                                                            const u32 t384 = load32(l4 + 12ull);
-                                                            l14 = t384;
-                                                            const u32 t385 = load32(l4 + 20ull);
-                                                            l12 = t385;
-                                                            if (l14 != l12) {
-                                                                const u32 t387 = load32(l4 + 4ull);
-                                                                l24 = (l10 + t387) + 3u;
-                                                                l15 = l24 + l12;
-                                                                u32 v388;
-                                                                {
-                                                                    l10 = l14 - l12;
-                                                                    const u32 t389 = load32(l26 + 28ull);
-                                                                    l17 = t389;
-                                                                    const u32 t390 = load32(l26 + 20ull);
-                                                                    const u32 t391 = load32(l26 + 24ull);
-                                                                    l18 = t391;
-                                                                    const u32 t392 = load32(l26 + 16ull);
-                                                                    if (l10 > (l17 - (t390 + (l18 + t392)))) {
-                                                                        store_fill_load_items_in_way(e, l25, l26, l15, l14 + l24);
-                                                                        const u32 t394 = load8(l25);
-                                                                        l12 = t394;
-                                                                        const u32 t395 = load32(l25 + 4u);
-                                                                        v388 = t395; goto L388;
+                                                            L45:;
+                                                            const u32 t191 = load32(l1 + 20ull);
+                                                            l10 = t191;
+                                                            core_delivery_deliver(e, l1, l17, l9);
+                                                            v26 = l10 + (l8 + l22); goto L26;
+                                                        }
+                                                        L44:;
+                                                        const u64 t192 = load64(l1);
+                                                        const u64 t193 = load32(l1 + 16ull);
+                                                        l29 = t192 + (t193 << 3);
+                                                        {
+                                                            {
+                                                                const u32 t196 = load32(l1 + 32ull);
+                                                                l8 = t196;
+                                                                l9 = l8 <= l17;
+                                                                if (l9) goto L195;
+                                                                if ((l8 - l17) != 1u) goto L195;
+                                                                const u32 t197 = load32((l29 + ((l38 << 3) & 34359738360ull)) + 4ull);
+                                                                l8 = t197;
+                                                                l9 = l8 ? (l16 - l8) : 0u;
+                                                                goto L194;
+                                                            }
+                                                            L195:;
+                                                            if (l9) {
+                                                                l9 = l8;
+                                                                goto L194;
+                                                            }
+                                                            L199:;
+                                                            {
+                                                                const u32 t200 = load32((l29 + ((u64)(l8 - 1u) << 3)) + 4ull);
+                                                                l9 = t200;
+                                                                l8 = l8 - l9;
+                                                                l9 = l9 ? l8 : 0u;
+                                                                if (l9 > l17) goto L199;
+                                                            }
+                                                        }
+                                                        L194:;
+                                                        store32(l1 + 20ull, l17);
+                                                        store32(l1 + 32ull, l9);
+                                                        v26 = l6 + l18;
+                                                    }
+                                                    L26:;
+                                                    l8 = v26;
+                                                    store32(l27 + 76u, 0u);
+                                                    const u32 t201 = load32(l1 + 20ull);
+                                                    l9 = t201;
+                                                    store32(l27 + 80u, l9);
+                                                    const u32 t202 = load32(l1 + 24ull);
+                                                    const u32 t203 = load32(l1 + 16ull);
+                                                    l9 = t202 + (l9 + t203);
+                                                    l13 = (l8 > l13) ? l8 : l13;
+                                                    v22 = l30 - 1ull;
+                                                }
+                                                L22:;
+                                                l30 = v22;
+                                                if (l30 != 0ull) goto L21;
+                                            }
+                                        }
+                                        store32(l34 + 20u, 0u);
+                                        store32(l34 + 16u, l13);
+                                        store64(l34, l35);
+                                        store64(l34 + 8u, l35 + l37);
+                                        goto L10;
+                                    }
+                                    trap();
+                                }
+                                L12:;
+                                l30 = l35 - l30;
+                                l1 = l30 + l37;
+                                l8 = 2u;
+                            }
+                            L11:;
+                            store16(l34 + 22u, (u16)0u);
+                            store8(l34 + 21u, (u8)l8);
+                            store8(l34 + 20u, (u8)1u);
+                            store32(l34 + 16u, l13);
+                            store64(l34 + 8u, l1);
+                            store64(l34, l30);
+                        }
+                        L10:;
+                        e->stack_pointer = l27 + 160ull;
+                        const u64 t204 = load64(l26 + 112u);
+                        store64(l41, t204);
+                        const u32 t205 = load32(l26 + 120u);
+                        store32(l32, t205);
+                        const u32 t206 = load16(l26 + 124u);
+                        store16(l5, (u16)t206);
+                        const u64 t207 = load64(l26 + 104u);
+                        v6 = t207;
+                    } else {
+                        v6 = 0ull;
+                    }
+                    l41 = v6 + l4;
+                    if (l41 == l7) goto L3;
+                    {
+                        if (l24) goto L208;
+                        const u64 t209 = load64(l26 + 80u);
+                        l30 = t209;
+                        const u64 t210 = load64(l26 + 72u);
+                        l2 = t210;
+                        {
+                            {
+                                const u32 t213 = core_machine_Machine_awaits(e, l28);
+                                switch ((t213 & 255u) - 1u) {
+                                case 0: goto L212;
+                                case 1: goto L211;
+                                default: goto L208;
+                                }
+                            }
+                            L212:;
+                            const u32 t214 = load8(l40);
+                            l9 = t214;
+                            {
+                                if (l30 <= 3ull) {
+                                    if (l30 == 0) goto L215;
+                                    l8 = l9 & 255u;
+                                    const u32 t217 = load8(l2);
+                                    if (l8 == t217) goto L208;
+                                    const u32 t218 = load8(l2 + (l30 >> 1));
+                                    if (t218 == l8) goto L208;
+                                    const u32 t219 = load8((l2 + l30) - 1ull);
+                                    if (t219 == (l9 & 255u)) goto L208;
+                                    goto L215;
+                                }
+                                if (l30 <= 8ull) {
+                                    l8 = l9 & 255u;
+                                    const u32 t221 = load8(l2);
+                                    if (l8 == t221) goto L208;
+                                    const u32 t222 = load8(l2 + 1ull);
+                                    if (t222 == l8) goto L208;
+                                    l8 = l9 & 255u;
+                                    const u32 t223 = load8(l2 + 2ull);
+                                    if (l8 == t223) goto L208;
+                                    const u32 t224 = load8(l2 + 3ull);
+                                    if (t224 == l8) goto L208;
+                                    l8 = l9 & 255u;
+                                    l4 = l2 + l30;
+                                    const u32 t225 = load8(l4 - 4ull);
+                                    if (l8 == t225) goto L208;
+                                    const u32 t226 = load8(l4 - 3ull);
+                                    if (t226 == l8) goto L208;
+                                    l8 = l9 & 255u;
+                                    const u32 t227 = load8(l4 - 2ull);
+                                    if (l8 == t227) goto L208;
+                                    const u32 t228 = load8(l4 - 1ull);
+                                    if (t228 == l8) goto L208;
+                                    goto L215;
+                                }
+                                if (l30 <= 32ull) {
+                                    l8 = l9 & 255u;
+                                    const u32 t230 = load8(l2);
+                                    if (l8 == t230) goto L208;
+                                    const u32 t231 = load8(l2 + 1ull);
+                                    if (t231 == l8) goto L208;
+                                    l8 = l9 & 255u;
+                                    const u32 t232 = load8(l2 + 2ull);
+                                    if (l8 == t232) goto L208;
+                                    const u32 t233 = load8(l2 + 3ull);
+                                    if (t233 == l8) goto L208;
+                                    l8 = l9 & 255u;
+                                    const u32 t234 = load8(l2 + 4ull);
+                                    if (l8 == t234) goto L208;
+                                    const u32 t235 = load8(l2 + 5ull);
+                                    if (t235 == l8) goto L208;
+                                    l8 = l9 & 255u;
+                                    const u32 t236 = load8(l2 + 6ull);
+                                    if (l8 == t236) goto L208;
+                                    const u32 t237 = load8(l2 + 7ull);
+                                    if (t237 == l8) goto L208;
+                                    l8 = l9 & 255u;
+                                    l32 = l30 - 8ull;
+                                    l4 = l2 + ((l32 < 8ull) ? l32 : 8ull);
+                                    const u32 t238 = load8(l4);
+                                    if (l8 == t238) goto L208;
+                                    const u32 t239 = load8(l4 + 1ull);
+                                    if (t239 == l8) goto L208;
+                                    l8 = l9 & 255u;
+                                    const u32 t240 = load8(l4 + 2ull);
+                                    if (l8 == t240) goto L208;
+                                    const u32 t241 = load8(l4 + 3ull);
+                                    if (t241 == l8) goto L208;
+                                    l8 = l9 & 255u;
+                                    const u32 t242 = load8(l4 + 4ull);
+                                    if (l8 == t242) goto L208;
+                                    const u32 t243 = load8(l4 + 5ull);
+                                    if (t243 == l8) goto L208;
+                                    l8 = l9 & 255u;
+                                    const u32 t244 = load8(l4 + 6ull);
+                                    if (l8 == t244) goto L208;
+                                    const u32 t245 = load8(l4 + 7ull);
+                                    if (t245 == l8) goto L208;
+                                    l8 = l9 & 255u;
+                                    l4 = l2 + ((l32 < 16ull) ? l32 : 16ull);
+                                    const u32 t246 = load8(l4);
+                                    if (l8 == t246) goto L208;
+                                    const u32 t247 = load8(l4 + 1ull);
+                                    if (t247 == l8) goto L208;
+                                    l8 = l9 & 255u;
+                                    const u32 t248 = load8(l4 + 2ull);
+                                    if (l8 == t248) goto L208;
+                                    const u32 t249 = load8(l4 + 3ull);
+                                    if (t249 == l8) goto L208;
+                                    l8 = l9 & 255u;
+                                    const u32 t250 = load8(l4 + 4ull);
+                                    if (l8 == t250) goto L208;
+                                    const u32 t251 = load8(l4 + 5ull);
+                                    if (t251 == l8) goto L208;
+                                    l8 = l9 & 255u;
+                                    const u32 t252 = load8(l4 + 6ull);
+                                    if (l8 == t252) goto L208;
+                                    const u32 t253 = load8(l4 + 7ull);
+                                    if (t253 == l8) goto L208;
+                                    l8 = l9 & 255u;
+                                    l4 = l2 + l32;
+                                    const u32 t254 = load8(l4);
+                                    if (l8 == t254) goto L208;
+                                    const u32 t255 = load8(l4 + 1ull);
+                                    if (t255 == l8) goto L208;
+                                    l8 = l9 & 255u;
+                                    const u32 t256 = load8(l4 + 2ull);
+                                    if (l8 == t256) goto L208;
+                                    const u32 t257 = load8(l4 + 3ull);
+                                    if (t257 == l8) goto L208;
+                                    l8 = l9 & 255u;
+                                    const u32 t258 = load8(l4 + 4ull);
+                                    if (l8 == t258) goto L208;
+                                    const u32 t259 = load8(l4 + 5ull);
+                                    if (t259 == l8) goto L208;
+                                    l8 = l9 & 255u;
+                                    const u32 t260 = load8(l4 + 6ull);
+                                    if (l8 == t260) goto L208;
+                                    const u32 t261 = load8(l4 + 7ull);
+                                    if (t261 == l8) goto L208;
+                                    goto L215;
+                                }
+                                if (l30 <= 64ull) {
+                                    l8 = l9 & 255u;
+                                    const u32 t263 = load8(l2);
+                                    if (l8 == t263) goto L208;
+                                    const u32 t264 = load8(l2 + 1ull);
+                                    if (t264 == l8) goto L208;
+                                    l8 = l9 & 255u;
+                                    const u32 t265 = load8(l2 + 2ull);
+                                    if (l8 == t265) goto L208;
+                                    const u32 t266 = load8(l2 + 3ull);
+                                    if (t266 == l8) goto L208;
+                                    l8 = l9 & 255u;
+                                    const u32 t267 = load8(l2 + 4ull);
+                                    if (l8 == t267) goto L208;
+                                    const u32 t268 = load8(l2 + 5ull);
+                                    if (t268 == l8) goto L208;
+                                    l8 = l9 & 255u;
+                                    const u32 t269 = load8(l2 + 6ull);
+                                    if (l8 == t269) goto L208;
+                                    const u32 t270 = load8(l2 + 7ull);
+                                    if (t270 == l8) goto L208;
+                                    l8 = l9 & 255u;
+                                    const u32 t271 = load8(l2 + 8ull);
+                                    if (l8 == t271) goto L208;
+                                    const u32 t272 = load8(l2 + 9ull);
+                                    if (t272 == l8) goto L208;
+                                    l8 = l9 & 255u;
+                                    const u32 t273 = load8(l2 + 10ull);
+                                    if (l8 == t273) goto L208;
+                                    const u32 t274 = load8(l2 + 11ull);
+                                    if (t274 == l8) goto L208;
+                                    l8 = l9 & 255u;
+                                    const u32 t275 = load8(l2 + 12ull);
+                                    if (l8 == t275) goto L208;
+                                    const u32 t276 = load8(l2 + 13ull);
+                                    if (t276 == l8) goto L208;
+                                    l8 = l9 & 255u;
+                                    const u32 t277 = load8(l2 + 14ull);
+                                    if (l8 == t277) goto L208;
+                                    const u32 t278 = load8(l2 + 15ull);
+                                    if (t278 == l8) goto L208;
+                                    l8 = l9 & 255u;
+                                    const u32 t279 = load8(l2 + 16ull);
+                                    if (l8 == t279) goto L208;
+                                    const u32 t280 = load8(l2 + 17ull);
+                                    if (t280 == l8) goto L208;
+                                    l8 = l9 & 255u;
+                                    const u32 t281 = load8(l2 + 18ull);
+                                    if (l8 == t281) goto L208;
+                                    const u32 t282 = load8(l2 + 19ull);
+                                    if (t282 == l8) goto L208;
+                                    l8 = l9 & 255u;
+                                    const u32 t283 = load8(l2 + 20ull);
+                                    if (l8 == t283) goto L208;
+                                    const u32 t284 = load8(l2 + 21ull);
+                                    if (t284 == l8) goto L208;
+                                    l8 = l9 & 255u;
+                                    const u32 t285 = load8(l2 + 22ull);
+                                    if (l8 == t285) goto L208;
+                                    const u32 t286 = load8(l2 + 23ull);
+                                    if (t286 == l8) goto L208;
+                                    l8 = l9 & 255u;
+                                    const u32 t287 = load8(l2 + 24ull);
+                                    if (l8 == t287) goto L208;
+                                    const u32 t288 = load8(l2 + 25ull);
+                                    if (t288 == l8) goto L208;
+                                    l8 = l9 & 255u;
+                                    const u32 t289 = load8(l2 + 26ull);
+                                    if (l8 == t289) goto L208;
+                                    const u32 t290 = load8(l2 + 27ull);
+                                    if (t290 == l8) goto L208;
+                                    l8 = l9 & 255u;
+                                    const u32 t291 = load8(l2 + 28ull);
+                                    if (l8 == t291) goto L208;
+                                    const u32 t292 = load8(l2 + 29ull);
+                                    if (t292 == l8) goto L208;
+                                    l8 = l9 & 255u;
+                                    const u32 t293 = load8(l2 + 30ull);
+                                    if (l8 == t293) goto L208;
+                                    const u32 t294 = load8(l2 + 31ull);
+                                    if (t294 == l8) goto L208;
+                                    l8 = l9 & 255u;
+                                    l4 = l2 + l30;
+                                    const u32 t295 = load8(l4 - 32ull);
+                                    if (l8 == t295) goto L208;
+                                    const u32 t296 = load8(l4 - 31ull);
+                                    if (t296 == l8) goto L208;
+                                    l8 = l9 & 255u;
+                                    const u32 t297 = load8(l4 - 30ull);
+                                    if (l8 == t297) goto L208;
+                                    const u32 t298 = load8(l4 - 29ull);
+                                    if (t298 == l8) goto L208;
+                                    l8 = l9 & 255u;
+                                    const u32 t299 = load8(l4 - 28ull);
+                                    if (l8 == t299) goto L208;
+                                    const u32 t300 = load8(l4 - 27ull);
+                                    if (t300 == l8) goto L208;
+                                    l8 = l9 & 255u;
+                                    const u32 t301 = load8(l4 - 26ull);
+                                    if (l8 == t301) goto L208;
+                                    const u32 t302 = load8(l4 - 25ull);
+                                    if (t302 == l8) goto L208;
+                                    l8 = l9 & 255u;
+                                    const u32 t303 = load8(l4 - 24ull);
+                                    if (l8 == t303) goto L208;
+                                    const u32 t304 = load8(l4 - 23ull);
+                                    if (t304 == l8) goto L208;
+                                    l8 = l9 & 255u;
+                                    const u32 t305 = load8(l4 - 22ull);
+                                    if (l8 == t305) goto L208;
+                                    const u32 t306 = load8(l4 - 21ull);
+                                    if (t306 == l8) goto L208;
+                                    l8 = l9 & 255u;
+                                    const u32 t307 = load8(l4 - 20ull);
+                                    if (l8 == t307) goto L208;
+                                    const u32 t308 = load8(l4 - 19ull);
+                                    if (t308 == l8) goto L208;
+                                    l8 = l9 & 255u;
+                                    const u32 t309 = load8(l4 - 18ull);
+                                    if (l8 == t309) goto L208;
+                                    const u32 t310 = load8(l4 - 17ull);
+                                    if (t310 == l8) goto L208;
+                                    l8 = l9 & 255u;
+                                    const u32 t311 = load8(l4 - 16ull);
+                                    if (l8 == t311) goto L208;
+                                    const u32 t312 = load8(l4 - 15ull);
+                                    if (t312 == l8) goto L208;
+                                    l8 = l9 & 255u;
+                                    const u32 t313 = load8(l4 - 14ull);
+                                    if (l8 == t313) goto L208;
+                                    const u32 t314 = load8(l4 - 13ull);
+                                    if (t314 == l8) goto L208;
+                                    l8 = l9 & 255u;
+                                    const u32 t315 = load8(l4 - 12ull);
+                                    if (l8 == t315) goto L208;
+                                    const u32 t316 = load8(l4 - 11ull);
+                                    if (t316 == l8) goto L208;
+                                    l8 = l9 & 255u;
+                                    const u32 t317 = load8(l4 - 10ull);
+                                    if (l8 == t317) goto L208;
+                                    const u32 t318 = load8(l4 - 9ull);
+                                    if (t318 == l8) goto L208;
+                                    l8 = l9 & 255u;
+                                    const u32 t319 = load8(l4 - 8ull);
+                                    if (l8 == t319) goto L208;
+                                    const u32 t320 = load8(l4 - 7ull);
+                                    if (t320 == l8) goto L208;
+                                    l8 = l9 & 255u;
+                                    const u32 t321 = load8(l4 - 6ull);
+                                    if (l8 == t321) goto L208;
+                                    const u32 t322 = load8(l4 - 5ull);
+                                    if (t322 == l8) goto L208;
+                                    l8 = l9 & 255u;
+                                    const u32 t323 = load8(l4 - 4ull);
+                                    if (l8 == t323) goto L208;
+                                    const u32 t324 = load8(l4 - 3ull);
+                                    if (t324 == l8) goto L208;
+                                    l8 = l9 & 255u;
+                                    const u32 t325 = load8(l4 - 2ull);
+                                    if (l8 == t325) goto L208;
+                                    const u32 t326 = load8(l4 - 1ull);
+                                    if (t326 != l8) goto L215;
+                                    goto L208;
+                                }
+                                l0 = l30 & 18446744073709551552ull;
+                                l1 = 0ull;
+                                l5 = l2;
+                                {
+                                    L328:;
+                                    {
+                                        l6 = 0u;
+                                        l32 = 0ull;
+                                        L329:;
+                                        {
+                                            l8 = l9 & 255u;
+                                            l4 = l5 + l32;
+                                            const u32 t330 = load8(l4);
+                                            const u32 t331 = load8(l4 + 1ull);
+                                            const u32 t332 = load8(l4 + 2ull);
+                                            const u32 t333 = load8(l4 + 3ull);
+                                            l6 = (((l6 | (l8 == t330)) | (t331 == l8)) | (t332 == l8)) | (t333 == l8);
+                                            l32 = l32 + 4ull;
+                                            if (l32 != 64ull) goto L329;
+                                        }
+                                        if (l6 & 1u) goto L327;
+                                        l5 = l5 + 64ull;
+                                        l1 = l1 + 64ull;
+                                        if ((l30 - l1) > 63ull) goto L328;
+                                    }
+                                    l1 = l0;
+                                }
+                                L327:;
+                                {
+                                    l32 = l30 - l1;
+                                    if (l32 < 32ull) goto L334;
+                                    l4 = l1 + l2;
+                                    L335:;
+                                    {
+                                        {
+                                            l8 = l9 & 255u;
+                                            const u32 t337 = load8(l4);
+                                            if (l8 == t337) goto L336;
+                                            const u32 t338 = load8(l4 + 1ull);
+                                            if (t338 == l8) goto L336;
+                                            l8 = l9 & 255u;
+                                            const u32 t339 = load8(l4 + 2ull);
+                                            if (l8 == t339) goto L336;
+                                            const u32 t340 = load8(l4 + 3ull);
+                                            if (t340 == l8) goto L336;
+                                            l8 = l9 & 255u;
+                                            const u32 t341 = load8(l4 + 4ull);
+                                            if (l8 == t341) goto L336;
+                                            const u32 t342 = load8(l4 + 5ull);
+                                            if (t342 == l8) goto L336;
+                                            l8 = l9 & 255u;
+                                            const u32 t343 = load8(l4 + 6ull);
+                                            if (l8 == t343) goto L336;
+                                            const u32 t344 = load8(l4 + 7ull);
+                                            if (t344 == l8) goto L336;
+                                            l8 = l9 & 255u;
+                                            const u32 t345 = load8(l4 + 8ull);
+                                            if (l8 == t345) goto L336;
+                                            const u32 t346 = load8(l4 + 9ull);
+                                            if (t346 == l8) goto L336;
+                                            l8 = l9 & 255u;
+                                            const u32 t347 = load8(l4 + 10ull);
+                                            if (l8 == t347) goto L336;
+                                            const u32 t348 = load8(l4 + 11ull);
+                                            if (t348 == l8) goto L336;
+                                            l8 = l9 & 255u;
+                                            const u32 t349 = load8(l4 + 12ull);
+                                            if (l8 == t349) goto L336;
+                                            const u32 t350 = load8(l4 + 13ull);
+                                            if (t350 == l8) goto L336;
+                                            l8 = l9 & 255u;
+                                            const u32 t351 = load8(l4 + 14ull);
+                                            if (l8 == t351) goto L336;
+                                            const u32 t352 = load8(l4 + 15ull);
+                                            if (t352 == l8) goto L336;
+                                            l8 = l9 & 255u;
+                                            const u32 t353 = load8(l4 + 16ull);
+                                            if (l8 == t353) goto L336;
+                                            const u32 t354 = load8(l4 + 17ull);
+                                            if (t354 == l8) goto L336;
+                                            l8 = l9 & 255u;
+                                            const u32 t355 = load8(l4 + 18ull);
+                                            if (l8 == t355) goto L336;
+                                            const u32 t356 = load8(l4 + 19ull);
+                                            if (t356 == l8) goto L336;
+                                            l8 = l9 & 255u;
+                                            const u32 t357 = load8(l4 + 20ull);
+                                            if (l8 == t357) goto L336;
+                                            const u32 t358 = load8(l4 + 21ull);
+                                            if (t358 == l8) goto L336;
+                                            l8 = l9 & 255u;
+                                            const u32 t359 = load8(l4 + 22ull);
+                                            if (l8 == t359) goto L336;
+                                            const u32 t360 = load8(l4 + 23ull);
+                                            if (t360 == l8) goto L336;
+                                            l8 = l9 & 255u;
+                                            const u32 t361 = load8(l4 + 24ull);
+                                            if (l8 == t361) goto L336;
+                                            const u32 t362 = load8(l4 + 25ull);
+                                            if (t362 == l8) goto L336;
+                                            l8 = l9 & 255u;
+                                            const u32 t363 = load8(l4 + 26ull);
+                                            if (l8 == t363) goto L336;
+                                            const u32 t364 = load8(l4 + 27ull);
+                                            if (t364 == l8) goto L336;
+                                            l8 = l9 & 255u;
+                                            const u32 t365 = load8(l4 + 28ull);
+                                            if (l8 == t365) goto L336;
+                                            const u32 t366 = load8(l4 + 29ull);
+                                            if (t366 == l8) goto L336;
+                                            l8 = l9 & 255u;
+                                            const u32 t367 = load8(l4 + 30ull);
+                                            if (l8 == t367) goto L336;
+                                            const u32 t368 = load8(l4 + 31ull);
+                                            if (t368 == l8) goto L336;
+                                            l4 = l4 + 32ull;
+                                            l32 = l32 - 32ull;
+                                            if (l32 > 31ull) goto L335;
+                                            goto L334;
+                                        }
+                                        L336:;
+                                    }
+                                    if (l32 > 31ull) goto L208;
+                                }
+                                L334:;
+                                l8 = l9 & 255u;
+                                l4 = l2 + l30;
+                                const u32 t369 = load8(l4 - 32ull);
+                                if (l8 == t369) goto L208;
+                                const u32 t370 = load8(l4 - 31ull);
+                                if (t370 == l8) goto L208;
+                                l8 = l9 & 255u;
+                                const u32 t371 = load8(l4 - 30ull);
+                                if (l8 == t371) goto L208;
+                                const u32 t372 = load8(l4 - 29ull);
+                                if (t372 == l8) goto L208;
+                                l8 = l9 & 255u;
+                                const u32 t373 = load8(l4 - 28ull);
+                                if (l8 == t373) goto L208;
+                                const u32 t374 = load8(l4 - 27ull);
+                                if (t374 == l8) goto L208;
+                                l8 = l9 & 255u;
+                                const u32 t375 = load8(l4 - 26ull);
+                                if (l8 == t375) goto L208;
+                                const u32 t376 = load8(l4 - 25ull);
+                                if (t376 == l8) goto L208;
+                                l8 = l9 & 255u;
+                                const u32 t377 = load8(l4 - 24ull);
+                                if (l8 == t377) goto L208;
+                                const u32 t378 = load8(l4 - 23ull);
+                                if (t378 == l8) goto L208;
+                                l8 = l9 & 255u;
+                                const u32 t379 = load8(l4 - 22ull);
+                                if (l8 == t379) goto L208;
+                                const u32 t380 = load8(l4 - 21ull);
+                                if (t380 == l8) goto L208;
+                                l8 = l9 & 255u;
+                                const u32 t381 = load8(l4 - 20ull);
+                                if (l8 == t381) goto L208;
+                                const u32 t382 = load8(l4 - 19ull);
+                                if (t382 == l8) goto L208;
+                                l8 = l9 & 255u;
+                                const u32 t383 = load8(l4 - 18ull);
+                                if (l8 == t383) goto L208;
+                                const u32 t384 = load8(l4 - 17ull);
+                                if (t384 == l8) goto L208;
+                                l8 = l9 & 255u;
+                                const u32 t385 = load8(l4 - 16ull);
+                                if (l8 == t385) goto L208;
+                                const u32 t386 = load8(l4 - 15ull);
+                                if (t386 == l8) goto L208;
+                                l8 = l9 & 255u;
+                                const u32 t387 = load8(l4 - 14ull);
+                                if (l8 == t387) goto L208;
+                                const u32 t388 = load8(l4 - 13ull);
+                                if (t388 == l8) goto L208;
+                                l8 = l9 & 255u;
+                                const u32 t389 = load8(l4 - 12ull);
+                                if (l8 == t389) goto L208;
+                                const u32 t390 = load8(l4 - 11ull);
+                                if (t390 == l8) goto L208;
+                                l8 = l9 & 255u;
+                                const u32 t391 = load8(l4 - 10ull);
+                                if (l8 == t391) goto L208;
+                                const u32 t392 = load8(l4 - 9ull);
+                                if (t392 == l8) goto L208;
+                                l8 = l9 & 255u;
+                                const u32 t393 = load8(l4 - 8ull);
+                                if (l8 == t393) goto L208;
+                                const u32 t394 = load8(l4 - 7ull);
+                                if (t394 == l8) goto L208;
+                                l8 = l9 & 255u;
+                                const u32 t395 = load8(l4 - 6ull);
+                                if (l8 == t395) goto L208;
+                                const u32 t396 = load8(l4 - 5ull);
+                                if (t396 == l8) goto L208;
+                                l8 = l9 & 255u;
+                                const u32 t397 = load8(l4 - 4ull);
+                                if (l8 == t397) goto L208;
+                                const u32 t398 = load8(l4 - 3ull);
+                                if (t398 == l8) goto L208;
+                                l8 = l9 & 255u;
+                                const u32 t399 = load8(l4 - 2ull);
+                                if (l8 == t399) goto L208;
+                                const u32 t400 = load8(l4 - 1ull);
+                                if (t400 == l8) goto L208;
+                            }
+                            L215:;
+                            const u32 t401 = load32(l28 + 24ull);
+                            const u32 t402 = load32(l28 + 20ull);
+                            const u32 t403 = load32(l28 + 16ull);
+                            const u64 t404 = load32(l28 + 8ull);
+                            if ((l30 + (u64)((t401 + (t402 + t403)))) > (t404 + 1ull)) goto L208;
+                            l23 = 7u;
+                            goto L3;
+                        }
+                        L211:;
+                        if ((l30 == 0) == 0) goto L208;
+                        l23 = 7u;
+                        goto L3;
+                    }
+                    L208:;
+                    {
+                        {
+                            u32 v407;
+                            {
+                                {
+                                    {
+                                        {
+                                            {
+                                                {
+                                                    {
+                                                        {
+                                                            {
+                                                                const u64 t416 = load64(l26 + 48u);
+                                                                const u64 t417 = load64(l26 + 56u);
+                                                                const u32 t418 = core_machine_Machine_prints(e, l28);
+                                                                if ((t416 - t417) >= (u64)t418) {
+                                                                    l8 = 1u;
+                                                                    const u32 t420 = load8(l28 + 84ull);
+                                                                    if (t420 == 1u) {
+                                                                        const u32 t422 = load8(l28 + 85ull);
+                                                                        l6 = t422;
+                                                                        goto L405;
                                                                     }
-                                                                    l0 = (u64)l10;
-                                                                    l2 = (u64)l15;
+                                                                    const u64 t423 = load64(l28 + 72ull);
+                                                                    const u64 t424 = load64(l28 + 64ull);
+                                                                    if (t423 == t424) {
+                                                                        store16(l28 + 84ull, (u16)769u);
+                                                                        l6 = 3u;
+                                                                        goto L405;
+                                                                    }
+                                                                    const u32 t426 = load32(l28 + 24ull);
+                                                                    l8 = t426;
+                                                                    const u32 t427 = load32(l28 + 16ull);
+                                                                    l9 = t427;
+                                                                    const u32 t428 = load32(l28 + 20ull);
+                                                                    l14 = t428;
+                                                                    store32(l26 + 168u, l14);
+                                                                    l6 = 0u;
+                                                                    store32(l26 + 152u, 0u);
+                                                                    store64(l26 + 136u, 0ull);
+                                                                    store64(l26 + 128u, 0ull);
+                                                                    core_scan_pass(e, l26 + 128ull, l28, 1ull, l26 + 168ull, l26 + 152ull);
+                                                                    const u32 t429 = load8(l26 + 128u);
+                                                                    if (t429 == 1u) {
+                                                                        const u32 t431 = load8(l26 + 132u);
+                                                                        if (t431 == 0) {
+                                                                            l9 = 0u;
+                                                                            store32(l28 + 32ull, 0u);
+                                                                            l4 = l28 + 20ull;
+                                                                            store32(l4, 0u);
+                                                                            const u32 t433 = load32(l28 + 28ull);
+                                                                            l6 = t433;
+                                                                            l5 = l28 + 24ull;
+                                                                            const u32 t434 = load32(l5);
+                                                                            l8 = t434;
+                                                                            l32 = l28 + 16ull;
+                                                                            const u32 t435 = load32(l32);
+                                                                            if ((l6 - (l8 + t435)) <= 10u) {
+                                                                                const u32 t437 = space_space_Space_find_way(e, l28, 11ull);
+                                                                                if (t437 == 0) {
+                                                                                    l6 = 2u;
+                                                                                    goto L406;
+                                                                                }
+                                                                                const u32 t439 = load32(l28 + 24ull);
+                                                                                l8 = t439;
+                                                                                const u32 t440 = load32(l28 + 28ull);
+                                                                                l6 = t440;
+                                                                            }
+                                                                            const u64 t441 = load64(l28);
+                                                                            l8 = l8 + 11u;
+                                                                            space_space_write_bytes(e, t441 + ((u64)(l6 - l8) << 3), TABLES + 768u, 11ull);
+                                                                            store32(l5, l8);
+                                                                            const u32 t442 = load32(l4);
+                                                                            const u32 t443 = load32(l32);
+                                                                            l8 = t442 + (t443 + l8);
+                                                                            goto L408;
+                                                                        }
+                                                                        const u64 t444 = load64(l26 + 136u);
+                                                                        l32 = t444;
+                                                                        l4 = l28 + 24ull;
+                                                                        const u32 t445 = load32(l4);
+                                                                        l19 = t445 - 1u;
+                                                                        store32(l4, l19);
+                                                                        const u32 t446 = load32(l28 + 20ull);
+                                                                        l14 = t446;
+                                                                        const u32 t447 = load32(l28 + 16ull);
+                                                                        l8 = t447;
+                                                                        store64(l26 + 184u, 0ull);
+                                                                        store64(l26 + 168u, 0ull);
+                                                                        store64(l26 + 176u, 0ull);
+                                                                        store64(l26 + 152u, 0ull);
+                                                                        store64(l26 + 160u, 0ull);
+                                                                        const u64 t448 = load64(l28);
+                                                                        l4 = t448;
+                                                                        l9 = (u32)l32;
+                                                                        const u32 t449 = load8((l4 + ((u64)(l8 + l9) << 3)) + 1ull);
+                                                                        l6 = t449;
+                                                                        store8(l26 + 130u, (u8)0u);
+                                                                        store16(l26 + 128u, (u16)0u);
+                                                                        {
+                                                                            l20 = l8 + l14;
+                                                                            l21 = l9 + 1u;
+                                                                            l5 = (u64)(l8 + l21);
+                                                                            l30 = (u64)l20 - l5;
+                                                                            if (l30 < 2ull) goto L450;
+                                                                            l5 = l4 + (l5 << 3);
+                                                                            if (l30 != 2ull) {
+                                                                                const u32 t452 = load8(l5 + 16ull);
+                                                                                if (t452 != 2u) goto L450;
+                                                                            }
+                                                                            functions_function_function_of(e, l26 + 128ull, l5, l5 + 8ull);
+                                                                            const u32 t453 = load8(l26 + 128u);
+                                                                            if (t453 != 1u) goto L450;
+                                                                            l11 = (u32)(l32 >> 32);
+                                                                            l6 = l6 == 0;
+                                                                            l12 = l9 + 4u;
+                                                                            {
+                                                                                {
+                                                                                    {
+                                                                                        {
+                                                                                            {
+                                                                                                {
+                                                                                                    const u32 t460 = load8(l26 + 129u);
+                                                                                                    l10 = t460;
+                                                                                                    switch (l10 - 1u) {
+                                                                                                    case 0: goto L459;
+                                                                                                    case 1: goto L456;
+                                                                                                    case 2: goto L458;
+                                                                                                    case 3: goto L456;
+                                                                                                    case 4: goto L456;
+                                                                                                    case 5: goto L456;
+                                                                                                    case 6: goto L456;
+                                                                                                    case 7: goto L456;
+                                                                                                    case 8: goto L456;
+                                                                                                    case 9: goto L457;
+                                                                                                    case 10: goto L456;
+                                                                                                    case 11: goto L456;
+                                                                                                    case 12: goto L456;
+                                                                                                    case 13: goto L456;
+                                                                                                    case 14: goto L456;
+                                                                                                    case 15: goto L456;
+                                                                                                    case 16: goto L456;
+                                                                                                    case 17: goto L456;
+                                                                                                    case 18: goto L456;
+                                                                                                    case 19: goto L456;
+                                                                                                    case 20: goto L456;
+                                                                                                    case 21: goto L456;
+                                                                                                    case 22: goto L456;
+                                                                                                    case 23: goto L456;
+                                                                                                    default: goto L455;
+                                                                                                    }
+                                                                                                }
+                                                                                                L459:;
+                                                                                                l5 = l26 + 184ull;
+                                                                                                l0 = l28;
+                                                                                                l1 = l26 + 72ull;
+                                                                                                l4 = e->stack_pointer - 16ull;
+                                                                                                e->stack_pointer = l4;
+                                                                                                u32 v461;
+                                                                                                {
+                                                                                                    {
+                                                                                                        if ((i64)(l4 - e->stack) >= (i64)16ull) {
+                                                                                                            l6 = 4u;
+                                                                                                            const u32 t464 = load8(l1 + 17ull);
+                                                                                                            if (t464) { v461 = 1u; goto L461; }
+                                                                                                            {
+                                                                                                                const u64 t466 = load64(l1 + 8u);
+                                                                                                                l2 = t466;
+                                                                                                                if (l2 == 0) {
+                                                                                                                    const u32 t468 = load8(l1 + 16ull);
+                                                                                                                    if (t468) goto L465;
+                                                                                                                    store8(l1 + 17ull, (u8)1u);
+                                                                                                                    v461 = 1u; goto L461;
+                                                                                                                }
+                                                                                                                store64(l1 + 8u, l2 - 1ull);
+                                                                                                                const u64 t469 = load64(l1);
+                                                                                                                l2 = t469;
+                                                                                                                store64(l1, l2 + 1ull);
+                                                                                                                const u32 t470 = load8(l2);
+                                                                                                                l6 = t470;
+                                                                                                                store64(l4 + 8u, 0ull);
+                                                                                                                store8(l4 + 9u, (u8)l6);
+                                                                                                                const u32 t471 = load32(l0 + 28ull);
+                                                                                                                l1 = l0 + 20ull;
+                                                                                                                const u32 t472 = load32(l1);
+                                                                                                                l11 = t472;
+                                                                                                                const u32 t473 = load32(l0 + 16ull);
+                                                                                                                l10 = l11 + t473;
+                                                                                                                const u32 t474 = load32(l0 + 24ull);
+                                                                                                                if (t471 != (l10 + t474)) {
+                                                                                                                    l2 = l0 + 32ull;
+                                                                                                                    const u32 t476 = load32(l2);
+                                                                                                                    l12 = t476;
+                                                                                                                    const u64 t477 = load64(l0);
+                                                                                                                    l0 = t477 + ((u64)l10 << 3);
+                                                                                                                    store8(l0, (u8)0u);
+                                                                                                                    store32(l0 + 4ull, 0u);
+                                                                                                                    store8(l0 + 1ull, (u8)l6);
+                                                                                                                    store32(l1, l11 + 1u);
+                                                                                                                    store32(l2, l12);
+                                                                                                                    goto L462;
+                                                                                                                }
+                                                                                                                const u32 t478 = space_space_Space_push_in_way(e, l0, l4 + 8ull);
+                                                                                                                if (t478) goto L462;
+                                                                                                                l6 = 0u;
+                                                                                                                v461 = 0u; goto L461;
+                                                                                                            }
+                                                                                                            L465:;
+                                                                                                            l1 = l1 + 24ull;
+                                                                                                            const u64 t479 = load64(l1);
+                                                                                                            store64(l1, t479 + 1ull);
+                                                                                                            v461 = 4u; goto L461;
+                                                                                                        }
+                                                                                                        trap();
+                                                                                                    }
+                                                                                                    L462:;
+                                                                                                    l6 = 1u;
+                                                                                                    v461 = 0u;
+                                                                                                }
+                                                                                                L461:;
+                                                                                                l11 = v461;
+                                                                                                store8(l5, (u8)l6);
+                                                                                                store32(l5 + 4ull, 0u);
+                                                                                                store8(l5 + 1ull, (u8)l11);
+                                                                                                e->stack_pointer = l4 + 16ull;
+                                                                                                goto L454;
+                                                                                            }
+                                                                                            L458:;
+                                                                                            store16(l43, (u16)0u);
+                                                                                            store8(l43 + 2u, (u8)0u);
+                                                                                            store8(l26 + 180u, (u8)l6);
+                                                                                            store32(l26 + 176u, l11);
+                                                                                            store32(l26 + 172u, l14);
+                                                                                            store32(l26 + 168u, l12);
+                                                                                            core_input_output_print_string(e, l26 + 184ull, l28, l26 + 168ull, l26 + 40ull);
+                                                                                            goto L454;
+                                                                                        }
+                                                                                        L457:;
+                                                                                        store16(l44, (u16)0u);
+                                                                                        store8(l44 + 2u, (u8)0u);
+                                                                                        store8(l26 + 164u, (u8)l6);
+                                                                                        store32(l26 + 160u, l11);
+                                                                                        store32(l26 + 156u, l14);
+                                                                                        store32(l26 + 152u, l12);
+                                                                                        core_display_print_form(e, l26 + 184ull, l28, l26 + 152ull, l26 + 40ull);
+                                                                                        goto L454;
+                                                                                    }
+                                                                                    L456:;
+                                                                                    const u32 t480 = load8(l26 + 130u);
+                                                                                    l13 = t480;
+                                                                                    l16 = 0u;
+                                                                                    store16(l45, (u16)0u);
+                                                                                    store8(l45 + 2u, (u8)0u);
+                                                                                    store8(l26 + 116u, (u8)l6);
+                                                                                    store32(l26 + 112u, l11);
+                                                                                    store32(l26 + 108u, l14);
+                                                                                    store32(l26 + 104u, l12);
+                                                                                    store64(l26 + 192u, 0ull);
+                                                                                    {
+                                                                                        if ((l10 - 5u) < 20u) goto L481;
+                                                                                        l11 = 0u;
+                                                                                        {
+                                                                                            switch (l10 - 3u) {
+                                                                                            case 0: goto L481;
+                                                                                            case 1: goto L411;
+                                                                                            default: goto L482;
+                                                                                            }
+                                                                                        }
+                                                                                        L482:;
+                                                                                        l2 = l26 + 192ull;
+                                                                                        l1 = l26 + 104ull;
+                                                                                        l0 = e->stack_pointer - 32ull;
+                                                                                        e->stack_pointer = l0;
+                                                                                        {
+                                                                                            if ((i64)(l0 - e->stack) >= (i64)16ull) {
+                                                                                                const u64 t485 = load64(l1 + 8u);
+                                                                                                store64(l0 + 24u, t485);
+                                                                                                const u64 t486 = load64(l1);
+                                                                                                store64(l0 + 16u, t486);
+                                                                                                functions_arguments_Arguments_next(e, l0 + 8ull, l0 + 16ull, l28);
+                                                                                                const u32 t487 = load32(l0 + 8u);
+                                                                                                l6 = t487;
+                                                                                                const u32 t488 = load32(l0 + 12u);
+                                                                                                if (l6 != t488) {
+                                                                                                    const u64 t490 = load64(l28);
+                                                                                                    const u32 t491 = load32(l28 + 16ull);
+                                                                                                    l1 = t490 + ((u64)(t491 + l6) << 3);
+                                                                                                    const u32 t492 = load8(l1);
+                                                                                                    const u64 t493 = l40;
+                                                                                                    u32 v494;
+                                                                                                    if (t492) {
+                                                                                                        v494 = 0u;
+                                                                                                    } else {
+                                                                                                        const u32 t495 = load8(l1 + 1ull);
+                                                                                                        v494 = t495;
+                                                                                                    }
+                                                                                                    store8(t493, (u8)v494);
+                                                                                                }
+                                                                                                store16(l2, (u16)3u);
+                                                                                                store32(l2 + 4ull, 0u);
+                                                                                                e->stack_pointer = l0 + 32ull;
+                                                                                                goto L483;
+                                                                                            }
+                                                                                            trap();
+                                                                                        }
+                                                                                        L483:;
+                                                                                        const u32 t496 = load32(l26 + 196u);
+                                                                                        l16 = t496;
+                                                                                        const u32 t497 = load8(l26 + 193u);
+                                                                                        l11 = t497;
+                                                                                        const u32 t498 = load8(l26 + 192u);
+                                                                                        l10 = t498;
+                                                                                        goto L411;
+                                                                                    }
+                                                                                    L481:;
+                                                                                    store64(l26 + 200u, 0ull);
+                                                                                    {
+                                                                                        {
+                                                                                            {
+                                                                                                {
+                                                                                                    {
+                                                                                                        {
+                                                                                                            {
+                                                                                                                {
+                                                                                                                    {
+                                                                                                                        {
+                                                                                                                            {
+                                                                                                                                {
+                                                                                                                                    {
+                                                                                                                                        {
+                                                                                                                                            {
+                                                                                                                                                {
+                                                                                                                                                    {
+                                                                                                                                                        {
+                                                                                                                                                            {
+                                                                                                                                                                {
+                                                                                                                                                                    switch (l10 - 5u) {
+                                                                                                                                                                    case 0: goto L505;
+                                                                                                                                                                    case 1: goto L504;
+                                                                                                                                                                    case 2: goto L502;
+                                                                                                                                                                    case 3: goto L501;
+                                                                                                                                                                    case 4: goto L500;
+                                                                                                                                                                    case 6: goto L503;
+                                                                                                                                                                    case 7: goto L510;
+                                                                                                                                                                    case 8: goto L509;
+                                                                                                                                                                    case 9: goto L508;
+                                                                                                                                                                    case 10: goto L507;
+                                                                                                                                                                    case 11: goto L506;
+                                                                                                                                                                    case 12: goto L518;
+                                                                                                                                                                    case 13: goto L517;
+                                                                                                                                                                    case 14: goto L516;
+                                                                                                                                                                    case 15: goto L515;
+                                                                                                                                                                    case 16: goto L514;
+                                                                                                                                                                    case 17: goto L513;
+                                                                                                                                                                    case 18: goto L512;
+                                                                                                                                                                    case 19: goto L511;
+                                                                                                                                                                    default: goto L499;
+                                                                                                                                                                    }
+                                                                                                                                                                }
+                                                                                                                                                                L518:;
+                                                                                                                                                                functions_comparing_equal(e, l26 + 200ull, l28, l26 + 104ull);
+                                                                                                                                                                goto L412;
+                                                                                                                                                            }
+                                                                                                                                                            L517:;
+                                                                                                                                                            functions_comparing_greater(e, l26 + 200ull, l28, l26 + 104ull);
+                                                                                                                                                            goto L412;
+                                                                                                                                                        }
+                                                                                                                                                        L516:;
+                                                                                                                                                        functions_arithmetic_arithmetic(e, l26 + 200ull, l28, l13, l26 + 104ull);
+                                                                                                                                                        goto L412;
+                                                                                                                                                    }
+                                                                                                                                                    L515:;
+                                                                                                                                                    functions_bit_strings_union(e, l26 + 200ull, l28, l26 + 104ull);
+                                                                                                                                                    goto L412;
+                                                                                                                                                }
+                                                                                                                                                L514:;
+                                                                                                                                                functions_bit_strings_intersection(e, l26 + 200ull, l28, l26 + 104ull);
+                                                                                                                                                goto L412;
+                                                                                                                                            }
+                                                                                                                                            L513:;
+                                                                                                                                            l4 = l26 + 200ull;
+                                                                                                                                            l2 = l26 + 104ull;
+                                                                                                                                            l1 = e->stack_pointer - 64ull;
+                                                                                                                                            e->stack_pointer = l1;
+                                                                                                                                            {
+                                                                                                                                                l0 = l1;
+                                                                                                                                                if ((i64)(l0 - e->stack) >= (i64)16ull) {
+                                                                                                                                                    store64(l0 + 32u, 0ull);
+                                                                                                                                                    store64(l0 + 56u, 0ull);
+                                                                                                                                                    const u64 t521 = load64(l2);
+                                                                                                                                                    store64(l0 + 40u, t521);
+                                                                                                                                                    const u64 t522 = load64(l2 + 8u);
+                                                                                                                                                    store64(l0 + 48u, t522);
+                                                                                                                                                    functions_arguments_Arguments_next(e, l0 + 8ull, l0 + 40ull, l28);
+                                                                                                                                                    const u32 t523 = load32(l28 + 16ull);
+                                                                                                                                                    l11 = t523;
+                                                                                                                                                    const u32 t524 = load32(l0 + 8u);
+                                                                                                                                                    l12 = t524;
+                                                                                                                                                    const u32 t525 = load32(l0 + 12u);
+                                                                                                                                                    l10 = t525;
+                                                                                                                                                    l2 = (u64)(l11 + l10);
+                                                                                                                                                    l1 = (u64)(l11 + l12) - l2;
+                                                                                                                                                    const u64 t526 = load64(l28);
+                                                                                                                                                    l2 = (t526 + (l2 << 3)) - 8ull;
+                                                                                                                                                    l6 = l10;
+                                                                                                                                                    L527:;
+                                                                                                                                                    {
+                                                                                                                                                        {
+                                                                                                                                                            l11 = l6;
+                                                                                                                                                            if (l1 == 0) goto L528;
+                                                                                                                                                            const u32 t529 = load8(l2);
+                                                                                                                                                            if (t529) goto L528;
+                                                                                                                                                            l1 = l1 + 1ull;
+                                                                                                                                                            l6 = l11 - 1u;
+                                                                                                                                                            l5 = l2 + 1ull;
+                                                                                                                                                            l2 = l2 - 8ull;
+                                                                                                                                                            const u32 t530 = load8(l5);
+                                                                                                                                                            if ((t530 & 248u) == 48u) goto L527;
+                                                                                                                                                        }
+                                                                                                                                                        L528:;
+                                                                                                                                                    }
+                                                                                                                                                    store32(l0 + 28u, l10);
+                                                                                                                                                    store32(l0 + 24u, l11);
+                                                                                                                                                    store32(l0 + 20u, 2u);
+                                                                                                                                                    functions_bit_strings_give_bits(e, l0 + 56ull, l28, l12, l11, l0 + 20ull);
+                                                                                                                                                    const u32 t531 = load16(l0 + 56u);
+                                                                                                                                                    store16(l4, (u16)t531);
+                                                                                                                                                    const u32 t532 = load32(l0 + 60u);
+                                                                                                                                                    store32(l4 + 4ull, t532);
+                                                                                                                                                    e->stack_pointer = l0 + 64ull;
+                                                                                                                                                    goto L519;
+                                                                                                                                                }
+                                                                                                                                                trap();
+                                                                                                                                            }
+                                                                                                                                            L519:;
+                                                                                                                                            goto L412;
+                                                                                                                                        }
+                                                                                                                                        L512:;
+                                                                                                                                        functions_bit_strings_shift(e, l26 + 200ull, l28, l26 + 104ull);
+                                                                                                                                        goto L412;
+                                                                                                                                    }
+                                                                                                                                    L511:;
+                                                                                                                                    functions_bit_strings_rotate(e, l26 + 200ull, l28, l26 + 104ull);
+                                                                                                                                    goto L412;
+                                                                                                                                }
+                                                                                                                                L510:;
+                                                                                                                                functions_form_parts_call_segment(e, l26 + 200ull, l28, l26 + 104ull);
+                                                                                                                                goto L412;
+                                                                                                                            }
+                                                                                                                            L509:;
+                                                                                                                            functions_form_parts_call_character(e, l26 + 200ull, l28, l26 + 104ull);
+                                                                                                                            goto L412;
+                                                                                                                        }
+                                                                                                                        L508:;
+                                                                                                                        functions_form_parts_call_number(e, l26 + 200ull, l28, l26 + 104ull);
+                                                                                                                        goto L412;
+                                                                                                                    }
+                                                                                                                    L507:;
+                                                                                                                    functions_form_parts_initial_part(e, l26 + 200ull, l28, l26 + 104ull);
+                                                                                                                    goto L412;
+                                                                                                                }
+                                                                                                                L506:;
+                                                                                                                functions_form_parts_call_restore(e, l26 + 200ull, l28, l26 + 104ull);
+                                                                                                                goto L412;
+                                                                                                            }
+                                                                                                            L505:;
+                                                                                                            functions_form_calls_define_string(e, l26 + 200ull, l28, l26 + 104ull);
+                                                                                                            goto L412;
+                                                                                                        }
+                                                                                                        L504:;
+                                                                                                        functions_form_calls_segment_string(e, l26 + 200ull, l28, l26 + 104ull);
+                                                                                                        goto L412;
+                                                                                                    }
+                                                                                                    L503:;
+                                                                                                    const u64 t533 = load64(l26 + 112u);
+                                                                                                    store64(l26 + 136u, t533);
+                                                                                                    const u64 t534 = load64(l26 + 104u);
+                                                                                                    store64(l26 + 128u, t534);
+                                                                                                    const u32 t535 = load8(l26 + 140u);
+                                                                                                    l10 = t535;
+                                                                                                    functions_arguments_Arguments_next(e, l26 + 32ull, l26 + 128ull, l28);
+                                                                                                    const u32 t536 = load32(l26 + 36u);
+                                                                                                    l6 = t536;
+                                                                                                    const u32 t537 = load32(l26 + 32u);
+                                                                                                    l16 = t537;
+                                                                                                    u32 v538;
+                                                                                                    {
+                                                                                                        const u32 t539 = load32(l28 + 40ull);
+                                                                                                        l11 = t539;
+                                                                                                        if (l11 >= 8u) {
+                                                                                                            forms_work_Work_find_among_more(e, l26 + 16ull, l28, l16, l6);
+                                                                                                            const u32 t541 = load32(l26 + 20u);
+                                                                                                            l16 = t541;
+                                                                                                            const u32 t542 = load8(l26 + 16u);
+                                                                                                            v538 = t542; goto L538;
+                                                                                                        }
+                                                                                                        {
+                                                                                                            if (l11 == 0) goto L543;
+                                                                                                            const u64 t544 = load32(l4 + 4ull);
+                                                                                                            l30 = (u64)(l6 + l8);
+                                                                                                            l5 = (u64)(l8 + l16);
+                                                                                                            if (t544 != (l30 - l5)) goto L543;
+                                                                                                            l1 = 17ull - (l5 << 3);
+                                                                                                            l5 = (l30 ^ 18446744073709551615ull) + l5;
+                                                                                                            l4 = l4 + (l30 << 3);
+                                                                                                            L545:;
+                                                                                                            {
+                                                                                                                l5 = l5 + 1ull;
+                                                                                                                if (l5 == 0) goto L415;
+                                                                                                                l30 = l4 - 7ull;
+                                                                                                                l2 = l1 + l4;
+                                                                                                                l4 = l4 - 8ull;
+                                                                                                                const u32 t546 = load8(l2);
+                                                                                                                const u32 t547 = load8(l30);
+                                                                                                                if (t546 == t547) goto L545;
+                                                                                                            }
+                                                                                                        }
+                                                                                                        L543:;
+                                                                                                        forms_work_Work_find_among_few(e, l26 + 24ull, l28, l16, l6);
+                                                                                                        const u32 t548 = load32(l26 + 28u);
+                                                                                                        l16 = t548;
+                                                                                                        const u32 t549 = load8(l26 + 24u);
+                                                                                                        v538 = t549;
+                                                                                                    }
+                                                                                                    L538:;
+                                                                                                    if ((v538 & 255u) != 1u) goto L414;
+                                                                                                    goto L413;
+                                                                                                }
+                                                                                                L502:;
+                                                                                                functions_form_calls_delete_definition(e, l26 + 200ull, l28, l26 + 104ull);
+                                                                                                goto L412;
+                                                                                            }
+                                                                                            L501:;
+                                                                                            functions_form_calls_delete_all(e, l26 + 200ull, l28);
+                                                                                            goto L412;
+                                                                                        }
+                                                                                        L500:;
+                                                                                        functions_form_calls_list_names(e, l26 + 200ull, l28, l26 + 104ull);
+                                                                                        goto L412;
+                                                                                    }
+                                                                                    L499:;
+                                                                                    store8(l26 + 200u, (u8)1u);
+                                                                                    goto L412;
+                                                                                }
+                                                                                L455:;
+                                                                                const u32 t550 = load8(l28 + 56ull);
+                                                                                core_input_output_read_string(e, l26 + 184ull, l28, t550, l26 + 72ull);
+                                                                            }
+                                                                            L454:;
+                                                                            const u32 t551 = load32(l26 + 188u);
+                                                                            l16 = t551;
+                                                                            const u32 t552 = load8(l26 + 185u);
+                                                                            l11 = t552;
+                                                                            const u32 t553 = load8(l26 + 184u);
+                                                                            l10 = t553;
+                                                                            goto L411;
+                                                                        }
+                                                                        L450:;
+                                                                        l16 = 0u;
+                                                                        goto L410;
+                                                                    }
+                                                                    l4 = l28 + 72ull;
+                                                                    const u64 t554 = load64(l4);
+                                                                    store64(l4, t554 + 1ull);
+                                                                    l4 = l28 + 80ull;
+                                                                    l8 = (l9 + l14) + l8;
+                                                                    const u32 t555 = load32(l4);
+                                                                    l9 = t555;
+                                                                    store32(l4, (l8 > l9) ? l8 : l9);
+                                                                    l8 = 0u;
+                                                                    goto L405;
+                                                                }
+                                                                const u32 t556 = core_machine_Machine_prints(e, l28);
+                                                                l48 = (u64)t556;
+                                                                l23 = 8u;
+                                                                goto L3;
+                                                            }
+                                                            L415:;
+                                                            store64(l28 + 44ull, 0ull);
+                                                            l16 = 0u;
+                                                            goto L413;
+                                                        }
+                                                        L414:;
+                                                        store32(l26 + 204u, 0u);
+                                                        store16(l26 + 200u, (u16)1u);
+                                                        goto L412;
+                                                    }
+                                                    L413:;
+                                                    const u32 t557 = load32(l26 + 132u);
+                                                    l6 = t557;
+                                                    const u32 t558 = load32(l26 + 128u);
+                                                    l11 = t558;
+                                                    {
+                                                        if ((l10 & 1u) == 0) goto L559;
+                                                        if (l6 >= l11) goto L559;
+                                                        const u32 t560 = load32(l28 + 44ull);
+                                                        const u32 t561 = load32(l28 + 48ull);
+                                                        const u32 t562 = store_store_place_of(e, l28, t560, t561, l16);
+                                                        l10 = t562;
+                                                        l12 = 0u;
+                                                        const u64 t563 = load64(l28);
+                                                        l30 = t563;
+                                                        l4 = l30 + ((u64)l10 << 3);
+                                                        const u32 t564 = load32(l4 + 12ull);
+                                                        l15 = t564;
+                                                        const u32 t565 = load32(l4 + 20ull);
+                                                        l13 = t565;
+                                                        if (l15 != l13) {
+                                                            const u32 t567 = load32(l4 + 4ull);
+                                                            l22 = (l10 + t567) + 3u;
+                                                            l12 = l22 + l13;
+                                                            u32 v568;
+                                                            {
+                                                                l10 = l15 - l13;
+                                                                const u32 t569 = load32(l28 + 28ull);
+                                                                l17 = t569;
+                                                                const u32 t570 = load32(l28 + 20ull);
+                                                                const u32 t571 = load32(l28 + 24ull);
+                                                                l18 = t571;
+                                                                const u32 t572 = load32(l28 + 16ull);
+                                                                if (l10 > (l17 - (t570 + (l18 + t572)))) {
+                                                                    store_fill_load_items_in_way(e, l26 + 8ull, l28, l12, l15 + l22);
+                                                                    const u32 t574 = load8(l26 + 8u);
+                                                                    l13 = t574;
+                                                                    const u32 t575 = load32(l26 + 12u);
+                                                                    v568 = t575; goto L568;
+                                                                }
+                                                                l0 = (u64)l10;
+                                                                l2 = (u64)l12;
+                                                                {
                                                                     {
                                                                         {
                                                                             {
                                                                                 {
                                                                                     {
-                                                                                        {
-                                                                                            if (l10 >= 8u) {
-                                                                                                if (l10 == 8u) goto L400;
-                                                                                                l4 = l27 + (l2 << 3);
-                                                                                                l5 = l0;
-                                                                                                goto L401;
-                                                                                            }
-                                                                                            if (l10 >= 4u) {
-                                                                                                l12 = 0u;
-                                                                                                l4 = l27 + (l2 << 3);
-                                                                                                const u32 t404 = load8(l4 + 24ull);
-                                                                                                const u32 t405 = load8(l4 + 16ull);
-                                                                                                const u32 t406 = load8(l4 + 8ull);
-                                                                                                const u32 t407 = load8(l4);
-                                                                                                if (((t404 + t405) | (t406 + t407)) & 255u) { v388 = 0u; goto L388; }
-                                                                                                l1 = l0 + l2;
-                                                                                                l5 = l27 + (l1 << 3);
-                                                                                                const u32 t408 = load8(l5 - 8ull);
-                                                                                                const u32 t409 = load8(l5 - 16ull);
-                                                                                                const u32 t410 = load8(l5 - 24ull);
-                                                                                                const u32 t411 = load8(l5 - 32ull);
-                                                                                                if (((t408 + t409) | (t410 + t411)) & 255u) { v388 = 0u; goto L388; }
-                                                                                                l15 = l10 + l18;
-                                                                                                l5 = (u64)(l17 - l15);
-                                                                                                core_slice_edits_slice_T_copy_from_slice(e, l27 + (l5 << 3), l4, 4ull);
-                                                                                                l4 = l1 - 4ull;
-                                                                                                core_slice_edits_slice_T_copy_from_slice(e, l27 + ((l4 + (l5 - l2)) << 3), l27 + (l4 << 3), 4ull);
-                                                                                                goto L397;
-                                                                                            }
-                                                                                            l4 = l27 + (l2 << 3);
-                                                                                            const u32 t412 = load8(l4);
-                                                                                            l14 = t412;
-                                                                                            if (l10 < 2u) goto L399;
-                                                                                            l12 = 0u;
-                                                                                            const u32 t413 = load8(l4 + 8ull);
-                                                                                            if (t413 | (l14 & 255u)) { v388 = 0u; goto L388; }
+                                                                                        if (l10 >= 8u) {
+                                                                                            if (l10 == 8u) goto L580;
+                                                                                            l4 = l30 + (l2 << 3);
+                                                                                            l5 = l0;
+                                                                                            goto L581;
+                                                                                        }
+                                                                                        if (l10 >= 4u) {
+                                                                                            l13 = 0u;
+                                                                                            l4 = l30 + (l2 << 3);
+                                                                                            const u32 t584 = load8(l4 + 24ull);
+                                                                                            const u32 t585 = load8(l4 + 16ull);
+                                                                                            const u32 t586 = load8(l4 + 8ull);
+                                                                                            const u32 t587 = load8(l4);
+                                                                                            if (((t584 + t585) | (t586 + t587)) & 255u) { v568 = 0u; goto L568; }
                                                                                             l1 = l0 + l2;
-                                                                                            l5 = l27 + (l1 << 3);
-                                                                                            const u32 t414 = load8(l5 - 8ull);
-                                                                                            const u32 t415 = load8(l5 - 16ull);
-                                                                                            if (t414 | t415) { v388 = 0u; goto L388; }
-                                                                                            l15 = l10 + l18;
-                                                                                            l5 = (u64)(l17 - l15);
-                                                                                            core_slice_edits_slice_T_copy_from_slice(e, l27 + (l5 << 3), l4, 2ull);
-                                                                                            l4 = l1 - 2ull;
-                                                                                            core_slice_edits_slice_T_copy_from_slice(e, l27 + ((l4 + (l5 - l2)) << 3), l27 + (l4 << 3), 2ull);
-                                                                                            goto L397;
+                                                                                            l5 = l30 + (l1 << 3);
+                                                                                            const u32 t588 = load8(l5 - 8ull);
+                                                                                            const u32 t589 = load8(l5 - 16ull);
+                                                                                            const u32 t590 = load8(l5 - 24ull);
+                                                                                            const u32 t591 = load8(l5 - 32ull);
+                                                                                            if (((t588 + t589) | (t590 + t591)) & 255u) { v568 = 0u; goto L568; }
+                                                                                            l12 = l10 + l18;
+                                                                                            l5 = (u64)(l17 - l12);
+                                                                                            core_slice_edits_slice_T_copy_from_slice(e, l30 + (l5 << 3), l4, 4ull);
+                                                                                            l4 = l1 - 4ull;
+                                                                                            core_slice_edits_slice_T_copy_from_slice(e, l30 + ((l4 + (l5 - l2)) << 3), l30 + (l4 << 3), 4ull);
+                                                                                            goto L577;
                                                                                         }
-                                                                                        L401:;
-                                                                                        L416:;
-                                                                                        {
-                                                                                            const u32 t417 = load8(l4 + 56ull);
-                                                                                            const u32 t418 = load8(l4 + 48ull);
-                                                                                            const u32 t419 = load8(l4 + 40ull);
-                                                                                            const u32 t420 = load8(l4 + 32ull);
-                                                                                            const u32 t421 = load8(l4 + 24ull);
-                                                                                            const u32 t422 = load8(l4 + 16ull);
-                                                                                            const u32 t423 = load8(l4 + 8ull);
-                                                                                            const u32 t424 = load8(l4);
-                                                                                            if ((t417 | ((t418 + (t419 + (t420 + (t421 + (t422 + (t423 + t424)))))) & 255u)) == 0) {
-                                                                                                l4 = l4 + 64ull;
-                                                                                                l5 = l5 - 8ull;
-                                                                                                if (l5 >= 9ull) goto L416;
-                                                                                                goto L400;
-                                                                                            }
-                                                                                        }
-                                                                                        l12 = 0u;
-                                                                                        v388 = 0u; goto L388;
+                                                                                        l4 = l30 + (l2 << 3);
+                                                                                        const u32 t592 = load8(l4);
+                                                                                        l15 = t592;
+                                                                                        if (l10 < 2u) goto L579;
+                                                                                        l13 = 0u;
+                                                                                        const u32 t593 = load8(l4 + 8ull);
+                                                                                        if (t593 | (l15 & 255u)) { v568 = 0u; goto L568; }
+                                                                                        l1 = l0 + l2;
+                                                                                        l5 = l30 + (l1 << 3);
+                                                                                        const u32 t594 = load8(l5 - 8ull);
+                                                                                        const u32 t595 = load8(l5 - 16ull);
+                                                                                        if (t594 | t595) { v568 = 0u; goto L568; }
+                                                                                        l12 = l10 + l18;
+                                                                                        l5 = (u64)(l17 - l12);
+                                                                                        core_slice_edits_slice_T_copy_from_slice(e, l30 + (l5 << 3), l4, 2ull);
+                                                                                        l4 = l1 - 2ull;
+                                                                                        core_slice_edits_slice_T_copy_from_slice(e, l30 + ((l4 + (l5 - l2)) << 3), l30 + (l4 << 3), 2ull);
+                                                                                        goto L577;
                                                                                     }
-                                                                                    L400:;
-                                                                                    l12 = 0u;
-                                                                                    l5 = l0 + l2;
-                                                                                    l4 = l27 + (l5 << 3);
-                                                                                    const u32 t426 = load8(l4 - 56ull);
-                                                                                    const u32 t427 = load8(l4 - 64ull);
-                                                                                    const u32 t428 = load8(l4 - 48ull);
-                                                                                    const u32 t429 = load8(l4 - 40ull);
-                                                                                    const u32 t430 = load8(l4 - 32ull);
-                                                                                    const u32 t431 = load8(l4 - 24ull);
-                                                                                    const u32 t432 = load8(l4 - 16ull);
-                                                                                    const u32 t433 = load8(l4 - 8ull);
-                                                                                    if ((((((((t426 + t427) + t428) + t429) + t430) + t431) + t432) & 255u) | t433) { v388 = 0u; goto L388; }
-                                                                                    l15 = l10 + l18;
-                                                                                    l30 = (u64)(l17 - l15);
-                                                                                    if (l10 > 24u) goto L398;
-                                                                                    if (l10 != 8u) {
-                                                                                        l4 = l27 + (l2 << 3);
-                                                                                        l5 = l27 + (l30 << 3);
-                                                                                        l1 = l0;
-                                                                                        L435:;
-                                                                                        {
-                                                                                            core_slice_edits_slice_T_copy_from_slice(e, l5, l4, 8ull);
+                                                                                    L581:;
+                                                                                    L596:;
+                                                                                    {
+                                                                                        const u32 t597 = load8(l4 + 56ull);
+                                                                                        const u32 t598 = load8(l4 + 48ull);
+                                                                                        const u32 t599 = load8(l4 + 40ull);
+                                                                                        const u32 t600 = load8(l4 + 32ull);
+                                                                                        const u32 t601 = load8(l4 + 24ull);
+                                                                                        const u32 t602 = load8(l4 + 16ull);
+                                                                                        const u32 t603 = load8(l4 + 8ull);
+                                                                                        const u32 t604 = load8(l4);
+                                                                                        if ((t597 | ((t598 + (t599 + (t600 + (t601 + (t602 + (t603 + t604)))))) & 255u)) == 0) {
                                                                                             l4 = l4 + 64ull;
-                                                                                            l5 = l5 + 64ull;
-                                                                                            l1 = l1 - 8ull;
-                                                                                            if (l1 > 8ull) goto L435;
+                                                                                            l5 = l5 - 8ull;
+                                                                                            if (l5 >= 9ull) goto L596;
+                                                                                            goto L580;
                                                                                         }
                                                                                     }
-                                                                                    l4 = l0 - 8ull;
-                                                                                    core_slice_edits_slice_T_copy_from_slice(e, l27 + ((l4 + l30) << 3), l27 + ((l2 + l4) << 3), 8ull);
-                                                                                    store32(l26 + 24ull, l15);
-                                                                                    goto L396;
+                                                                                    l13 = 0u;
+                                                                                    v568 = 0u; goto L568;
                                                                                 }
-                                                                                L399:;
-                                                                                l12 = 0u;
-                                                                                if (l14 & 255u) { v388 = 0u; goto L388; }
-                                                                                l15 = l10 + l18;
-                                                                                if (l10 != 1u) goto L397;
-                                                                                l5 = l27 + ((u64)(l17 - l15) << 3);
-                                                                                store8(l5, (u8)0u);
-                                                                                const u32 t436 = load32(l4 + 4ull);
-                                                                                store32(l5 + 4ull, t436);
-                                                                                const u32 t437 = load8(l4 + 1ull);
-                                                                                store8(l5 + 1ull, (u8)t437);
-                                                                                goto L397;
+                                                                                L580:;
+                                                                                l13 = 0u;
+                                                                                l5 = l0 + l2;
+                                                                                l4 = l30 + (l5 << 3);
+                                                                                const u32 t606 = load8(l4 - 56ull);
+                                                                                const u32 t607 = load8(l4 - 64ull);
+                                                                                const u32 t608 = load8(l4 - 48ull);
+                                                                                const u32 t609 = load8(l4 - 40ull);
+                                                                                const u32 t610 = load8(l4 - 32ull);
+                                                                                const u32 t611 = load8(l4 - 24ull);
+                                                                                const u32 t612 = load8(l4 - 16ull);
+                                                                                const u32 t613 = load8(l4 - 8ull);
+                                                                                if ((((((((t606 + t607) + t608) + t609) + t610) + t611) + t612) & 255u) | t613) { v568 = 0u; goto L568; }
+                                                                                l12 = l10 + l18;
+                                                                                l35 = (u64)(l17 - l12);
+                                                                                if (l10 > 24u) goto L578;
+                                                                                if (l10 != 8u) {
+                                                                                    l4 = l30 + (l2 << 3);
+                                                                                    l5 = l30 + (l35 << 3);
+                                                                                    l1 = l0;
+                                                                                    L615:;
+                                                                                    {
+                                                                                        core_slice_edits_slice_T_copy_from_slice(e, l5, l4, 8ull);
+                                                                                        l4 = l4 + 64ull;
+                                                                                        l5 = l5 + 64ull;
+                                                                                        l1 = l1 - 8ull;
+                                                                                        if (l1 > 8ull) goto L615;
+                                                                                    }
+                                                                                }
+                                                                                l4 = l0 - 8ull;
+                                                                                core_slice_edits_slice_T_copy_from_slice(e, l30 + ((l4 + l35) << 3), l30 + ((l2 + l4) << 3), 8ull);
+                                                                                store32(l28 + 24ull, l12);
+                                                                                goto L576;
                                                                             }
-                                                                            L398:;
-                                                                            space_copies_copy_long(e, l27, l2, l5, l30);
+                                                                            L579:;
+                                                                            l13 = 0u;
+                                                                            if (l15 & 255u) { v568 = 0u; goto L568; }
+                                                                            l12 = l10 + l18;
+                                                                            if (l10 != 1u) goto L577;
+                                                                            l5 = l30 + ((u64)(l17 - l12) << 3);
+                                                                            store8(l5, (u8)0u);
+                                                                            const u32 t616 = load32(l4 + 4ull);
+                                                                            store32(l5 + 4ull, t616);
+                                                                            const u32 t617 = load8(l4 + 1ull);
+                                                                            store8(l5 + 1ull, (u8)t617);
+                                                                            goto L577;
                                                                         }
-                                                                        L397:;
-                                                                        store32(l26 + 24ull, l15);
+                                                                        L578:;
+                                                                        space_copies_copy_long(e, l30, l2, l5, l35);
                                                                     }
-                                                                    L396:;
-                                                                    l12 = 1u;
-                                                                    v388 = l10;
+                                                                    L577:;
+                                                                    store32(l28 + 24ull, l12);
                                                                 }
-                                                                L388:;
-                                                                l15 = v388;
-                                                                if ((l12 & 255u) != 1u) goto L355;
+                                                                L576:;
+                                                                l13 = 1u;
+                                                                v568 = l10;
                                                             }
-                                                            store32(l25 + 156u, l15);
-                                                            store16(l25 + 152u, (u16)2u);
-                                                            goto L211;
+                                                            L568:;
+                                                            l12 = v568;
+                                                            if ((l13 & 255u) != 1u) goto L559;
                                                         }
-                                                        L355:;
-                                                        const u32 t438 = forms_work_Work_fill_body(e, l26, l11, l13, l6);
-                                                        l6 = t438;
-                                                        store32(l25 + 156u, 0u);
-                                                        store8(l25 + 153u, (u8)0u);
-                                                        store8(l25 + 152u, (u8)l6);
+                                                        store32(l26 + 204u, l12);
+                                                        store16(l26 + 200u, (u16)2u);
+                                                        goto L412;
                                                     }
-                                                    L211:;
-                                                    const u32 t439 = load32(l25 + 156u);
-                                                    l11 = t439;
-                                                    const u32 t440 = load8(l25 + 152u);
-                                                    l10 = t440;
-                                                    const u32 t441 = load8(l25 + 153u);
-                                                    v210 = t441;
+                                                    L559:;
+                                                    const u32 t618 = forms_work_Work_fill_body(e, l28, l16, l11, l6);
+                                                    l6 = t618;
+                                                    store32(l26 + 204u, 0u);
+                                                    store8(l26 + 201u, (u8)0u);
+                                                    store8(l26 + 200u, (u8)l6);
                                                 }
-                                                L210:;
-                                                l13 = v210;
-                                                l6 = 2u;
-                                                {
-                                                    switch ((u32)(((u64)l10 & 255ull)) - 1u) {
-                                                    case 0: goto L442;
-                                                    case 1: goto L209;
-                                                    case 2: goto L209;
-                                                    case 3: goto L207;
-                                                    default: goto L205;
-                                                    }
-                                                }
-                                                L442:;
-                                                const u32 t443 = load32(l26 + 20ull);
-                                                l6 = t443;
-                                                core_delivery_deliver(e, l26, l9, l19);
-                                                v208 = l6 + (l8 + l21); goto L208;
+                                                L412:;
+                                                const u32 t619 = load32(l26 + 204u);
+                                                l16 = t619;
+                                                const u32 t620 = load8(l26 + 201u);
+                                                l11 = t620;
+                                                const u32 t621 = load8(l26 + 200u);
+                                                l10 = t621;
                                             }
-                                            L209:;
-                                            const u64 t444 = load64(l26);
-                                            const u64 t445 = load32(l26 + 16ull);
-                                            l4 = t444 + (t445 << 3);
+                                            L411:;
+                                            l6 = 2u;
                                             {
-                                                {
-                                                    const u32 t448 = load32(l26 + 32ull);
-                                                    l8 = t448;
-                                                    l6 = l8 <= l9;
-                                                    if (l6) goto L447;
-                                                    if ((l8 - l9) != 1u) goto L447;
-                                                    const u32 t449 = load32((l4 + ((l28 << 3) & 34359738360ull)) + 4ull);
-                                                    l8 = t449;
-                                                    l6 = l8 ? (l23 - l8) : 0u;
-                                                    goto L446;
-                                                }
-                                                L447:;
-                                                if (l6) {
-                                                    l6 = l8;
-                                                    goto L446;
-                                                }
-                                                L451:;
-                                                {
-                                                    const u32 t452 = load32((l4 + ((u64)(l8 - 1u) << 3)) + 4ull);
-                                                    l6 = t452;
-                                                    l8 = l8 - l6;
-                                                    l6 = l6 ? l8 : 0u;
-                                                    if (l6 > l9) goto L451;
+                                                switch ((u32)(((u64)l10 & 255ull)) - 1u) {
+                                                case 0: goto L622;
+                                                case 1: goto L410;
+                                                case 2: goto L410;
+                                                case 3: goto L409;
+                                                default: goto L406;
                                                 }
                                             }
-                                            L446:;
-                                            store32(l26 + 20ull, l9);
-                                            store32(l26 + 32ull, l6);
-                                            v208 = l11 + l16;
+                                            L622:;
+                                            const u32 t623 = load32(l28 + 20ull);
+                                            l6 = t623;
+                                            core_delivery_deliver(e, l28, l9, l14);
+                                            l8 = l6 + (l8 + l19);
+                                            l9 = 0u;
+                                            goto L408;
                                         }
-                                        L208:;
-                                        l16 = v208;
+                                        L410:;
+                                        l14 = l19 + l20;
+                                        const u64 t624 = load64(l28);
+                                        const u64 t625 = load32(l28 + 16ull);
+                                        l4 = t624 + (t625 << 3);
+                                        {
+                                            {
+                                                const u32 t628 = load32(l28 + 32ull);
+                                                l8 = t628;
+                                                l6 = l8 <= l9;
+                                                if (l6) goto L627;
+                                                if ((l8 - l9) != 1u) goto L627;
+                                                const u32 t629 = load32((l4 + ((l32 << 3) & 34359738360ull)) + 4ull);
+                                                l8 = t629;
+                                                l6 = l8 ? (l21 - l8) : 0u;
+                                                goto L626;
+                                            }
+                                            L627:;
+                                            if (l6) {
+                                                l6 = l8;
+                                                goto L626;
+                                            }
+                                            L631:;
+                                            {
+                                                const u32 t632 = load32((l4 + ((u64)(l8 - 1u) << 3)) + 4ull);
+                                                l6 = t632;
+                                                l8 = l8 - l6;
+                                                l6 = l6 ? l8 : 0u;
+                                                if (l6 > l9) goto L631;
+                                            }
+                                        }
+                                        L626:;
+                                        store32(l28 + 20ull, l9);
+                                        store32(l28 + 32ull, l6);
+                                        l8 = l14 + l16;
                                         l9 = 0u;
-                                        l6 = 0u;
-                                        goto L206;
+                                        goto L408;
                                     }
-                                    L207:;
-                                    const u32 t453 = load32(l26 + 24ull);
-                                    const u32 t454 = load32(l26 + 20ull);
-                                    const u32 t455 = load32(l26 + 16ull);
-                                    l16 = t453 + (t454 + t455);
+                                    L409:;
+                                    const u32 t633 = load32(l28 + 24ull);
+                                    const u32 t634 = load32(l28 + 20ull);
+                                    const u32 t635 = load32(l28 + 16ull);
+                                    l8 = t633 + (t634 + t635);
                                     l9 = 1u;
-                                    l8 = 1u << (l13 & 31);
-                                    if (l8 & 3u) {
-                                        l6 = l13;
-                                        goto L206;
+                                    l6 = 1u << (l11 & 31);
+                                    if (l6 & 3u) { v407 = l11; goto L407; }
+                                    if ((l6 & 12u) == 0) {
+                                        l4 = l28 + 80ull;
+                                        const u32 t637 = load32(l4);
+                                        l6 = t637;
+                                        store32(l4, (l6 < l8) ? l8 : l6);
                                     }
-                                    if (l8 & 12u) {
-                                        l6 = l13;
-                                        goto L205;
-                                    }
-                                    l4 = l26 + 80ull;
-                                    const u32 t458 = load32(l4);
-                                    l8 = t458;
-                                    store32(l4, (l8 < l16) ? l16 : l8);
-                                    l6 = l13;
-                                    goto L205;
+                                    l6 = l11;
+                                    goto L406;
                                 }
-                                L206:;
-                                l4 = l26 + 72ull;
-                                const u64 t459 = load64(l4);
-                                store64(l4, t459 + 1ull);
-                                l4 = l26 + 80ull;
-                                const u32 t460 = load32(l4);
-                                l8 = t460;
-                                store32(l4, (l8 < l16) ? l16 : l8);
-                                l8 = 0u;
-                                if (l9 == 0) goto L204;
+                                L408:;
+                                v407 = 0u;
                             }
-                            L205:;
-                            store8(l26 + 85ull, (u8)l6);
-                            l8 = 1u;
-                            store8(l26 + 84ull, (u8)1u);
+                            L407:;
+                            l6 = v407;
+                            l4 = l28 + 72ull;
+                            const u64 t638 = load64(l4);
+                            store64(l4, t638 + 1ull);
+                            l4 = l28 + 80ull;
+                            const u32 t639 = load32(l4);
+                            l14 = t639;
+                            store32(l4, (l8 > l14) ? l8 : l14);
+                            l8 = 0u;
+                            if (l9 == 0) goto L405;
                         }
-                        L204:;
-                        if (l8 & 255u) goto L4;
-                        l36 = l36 + 1ull;
-                        if (l36 != l7) goto L5;
+                        L406:;
+                        store8(l28 + 85ull, (u8)l6);
+                        l8 = 1u;
+                        store8(l28 + 84ull, (u8)1u);
                     }
-                    v3 = 0ull; goto L3;
+                    L405:;
+                    if ((l8 & 255u) == 0) {
+                        l4 = l41 + 1ull;
+                        if (l4 < l7) goto L4;
+                        goto L3;
+                    }
                 }
-                L4:;
-                l20 = (l6 & 255u) + 1u;
-                v3 = 0ull;
+                l23 = (l6 & 255u) + 1u;
             }
             L3:;
-            l4 = v3;
-            const u32 t461 = load32(l26 + 80ull);
-            l8 = t461;
-            const u64 t462 = load64(l26 + 72ull);
-            l28 = t462;
-            const u64 t463 = load64(l25 + 48u);
-            l26 = t463;
-            const u64 t464 = load64(l25 + 72u);
-            l5 = t464;
-            store64(l29 + 32u, l4);
-            l4 = l3 - l5;
-            store64(l29 + 24u, (l3 < l4) ? 0ull : l4);
-            store64(l29 + 16u, l26);
-            store64(l29 + 8u, l28);
-            store32(l29 + 4u, l8);
-            store32(l29, l20);
-            e->stack_pointer = l25 + 192ull;
+            const u32 t641 = load32(l28 + 80ull);
+            l8 = t641;
+            const u64 t642 = load64(l28 + 72ull);
+            l4 = t642;
+            const u64 t643 = load64(l26 + 56u);
+            l32 = t643;
+            const u64 t644 = load64(l26 + 80u);
+            l28 = t644;
+            store64(l36 + 32u, l48);
+            l28 = l3 - l28;
+            store64(l36 + 24u, (l3 < l28) ? 0ull : l28);
+            store64(l36 + 16u, l32);
+            store64(l36 + 8u, l4);
+            store32(l36 + 4u, l8);
+            store32(l36, l23);
+            e->stack_pointer = l26 + 208ull;
             goto L1;
         }
         trap();
@@ -20755,8 +21424,8 @@ static size_t in_order(u32 *codes, size_t room, u64 count) {
     return (size_t)count;
 }
 
-static trac_report trac_engine_run(void *block, size_t cells, uint64_t steps, const uint8_t *script, size_t script_len,
-                            uint8_t *output, size_t output_len) {
+static trac_report trac_engine_run(void *block, size_t cells, uint64_t steps, const uint8_t *script,
+                                   size_t script_len, uint8_t *output, size_t output_len) {
     struct lent lent;
     struct engine_report report;
     engine_run(lend(&lent), address_of(&report), address_of(block), cells, steps, address_of(script), script_len,
@@ -20775,7 +21444,7 @@ static uint32_t trac_engine_open(void *machine, void *block, size_t cells, uint6
 }
 
 static trac_report trac_engine_turn(void *machine, const uint8_t *input, size_t input_len, uint8_t *output,
-                             size_t output_len, uint32_t ended, uint64_t most) {
+                                    size_t output_len, uint32_t ended, uint64_t most) {
     struct lent lent;
     struct engine_report report;
     engine_turn(lend(&lent), address_of(&report), address_of(machine), address_of(input), input_len,
