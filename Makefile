@@ -45,7 +45,7 @@ crates/trac_terminal/out/trac_terminal: $(SOURCES)
 programs: prove crates/trac_trace/out/trac_trace crates/trac_terminal/out/trac_terminal
 
 ## make check      all that needs no kit, over the program in C
-check: build/trac check-tools
+check: check-tools build/trac
 	$(PYTEST) checks --ignore checks/proved --ignore checks/machines
 
 ## make check-machines  the engine in C on a Cortex-M3, aarch64, arm and s390x, each emulated
@@ -63,7 +63,7 @@ test:
 proofs:
 	@$(RT) . rt ci
 
-check-proved: programs dist check-tools
+check-proved: check-tools programs dist
 	$(PYTEST) checks/proved
 	$(PYTHON) bench/bench.py --smoke
 

@@ -1,6 +1,7 @@
 """progress.py CRATE COMMAND ..: runs a command of rt in a crate's folder, or at the top for '.', and shows how far
-it is: which crate, how many functions so far, and the time since the beginning. At a terminal that is one line that is
-rewritten, else a line for each crate. All that rt writes stands in build/rt.log, and is shown where rt fails."""
+it is: which crate, how many of them so far, how many functions of it, and the time since the beginning. At a terminal
+that is one line that is rewritten, else a line for each crate. All that rt writes stands in build/rt.log, and is shown
+where rt fails."""
 import os
 import re
 import subprocess
@@ -15,27 +16,47 @@ SO_FAR = re.compile(r'so far: (\d+ of \d+) functions')
 SHOWN = re.compile(r'error|rt: (?!note|rt )|.*(?:NOT PROVED|NOT REFUSED|BAD EDIT|passed)')
 
 
+def crates(above):
+    """A crate and those that it stands on, all for '.'."""
+    with open(os.path.join(TOP, 'crates.txt'), encoding='utf-8') as lines:
+        rows = [line.split('#')[0].split(':') for line in lines]
+    uses = {row[0].split()[0]: row[1].split() for row in rows if len(row) == 2}
+    found, left = set(), list(uses) if above == '.' else [above]
+    while left:
+        name = left.pop()
+        if name in uses and name not in found:
+            found.add(name)
+            left += uses[name]
+    return found
+
+
 class Line:
     """The line that tells how far the command is."""
 
     def __init__(self, name):
-        self.begun, self.crate, self.functions, self.shown = time.monotonic(), name, '', None
+        self.begun, self.crates, self.seen = time.monotonic(), crates(name), []
+        self.functions, self.shown = '', None
 
     def take(self, line):
         """Notes what a line of rt tells."""
         if found := CRATE.match(line):
-            self.crate = next(filter(None, found.groups()))
+            name = next(filter(None, found.groups()))
+            if name in self.crates and name not in self.seen:
+                self.seen.append(name)
+                self.functions = ''
         if found := SO_FAR.search(line):
             self.functions = f', {found[1]} functions'
 
     def show(self):
-        passed = int(time.monotonic() - self.begun)
-        text = f'{self.crate}{self.functions}, {passed // 60}:{passed % 60:02} so far'
+        """Shows the line, at a terminal at each call."""
+        passed, name = int(time.monotonic() - self.begun), self.seen[-1] if self.seen else ''
+        text = (f'{name or "beginning"}, {len(self.seen)} of {len(self.crates)} crates{self.functions}, '
+                f'{passed // 60}:{passed % 60:02} so far')
         if sys.stderr.isatty():
             print(f'\r\033[K{text}', end='', file=sys.stderr, flush=True)
-        elif self.crate != self.shown:
+        elif name != self.shown:
             print(text, file=sys.stderr, flush=True)
-        self.shown = self.crate
+        self.shown = name
 
 
 def main(crate, *words):
@@ -52,6 +73,8 @@ def main(crate, *words):
             line.show()
             if SHOWN.match(said):
                 print(said, end='', flush=True)
+    if sys.stderr.isatty():
+        print(file=sys.stderr)
     if running.returncode:
         with open(LOG, encoding='utf-8') as log:
             print(log.read(), end='')

@@ -73,7 +73,7 @@ ends-on most n k ended start new old middle source written last few other turns 
         let at = over fate is_over in
         let before = moment to.0 source written in
         let answers : Answers before (Some fate) new = subst (λ new. Answers before (Some fate) new) (sym at.1) (stops.1.ends source written) in
-        let turned : TurnsTo ended before last new = subst (λ t. TurnsTo ended before t new) (sym at.0) (waits-none ended to.0 source.bytes stops.1.alone, answers) in (
+        let turned : TurnsTo ended before last new = subst (λ t. TurnsTo ended before t new) (sym at.0) (waits-none ended to.0 source.bytes stops.1.alone, ((λ e. stops.1.none_failed.0 (ap Some e), λ e. stops.1.none_failed.1 (ap Some e)), answers)) in (
           k + n,
           (
             before,

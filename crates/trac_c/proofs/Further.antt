@@ -15,6 +15,8 @@ use Rattle.trac_core.specs.declared.machine.session.Awaits.{Awaits}
 use Rattle.trac_core.specs.declared.machine.session.Awaits.TheVariants.{Nothing, Byte, Text as AwaitsText}
 use Rattle.trac_core.specs.Performed.{performed_by, performs}
 use Rattle.trac_core.proofs.MetaCharacters.{before-none}
+use Rattle.trac_c.specs.declared.turn.Turn.TheVariants.{Waits}
+use Rattle.trac_c.specs.Turned.{MayGetMore}
 
 -- ---- a step that fits the room and doesn't wait doesn't read to the end
 
@@ -138,9 +140,10 @@ module _ (ended : Bool) (most : ℕ) (input buffer : Text) (old new : MachineSta
       told.consumed ≡ length input - length left.bytes →
       ((input : Input) → told.wanted ≡ wanted_by last (length (next_printed new input))) →
       (last ≡ Full → length buffer < told.written + told.wanted) →
+      (last ≡ Waits → MayGetMore new left.bytes) →
       TellsTurn ended most input buffer old new told last left
   unfolding start
-  tells going turned fate steps peak written consumed wanted full =
+  tells going turned fate steps peak written consumed wanted full waits =
       record {
         turned = turned;
         whole = λ unended more ends. (all-with-more turned.0 start turned.1.0 more ends going (subst (λ e. Goes e turned.0 start turned.1.0) unended turned.1.1.goes)).1;
@@ -151,4 +154,5 @@ module _ (ended : Bool) (most : ℕ) (input buffer : Text) (old new : MachineSta
         consumed = consumed;
         wanted = wanted;
         full = full;
+        waits = waits;
       }

@@ -6,6 +6,8 @@ mod Further
 mod KeptLooks
 mod Laid
 mod ListedForms
+mod Roomy
 mod TurnBytes
+mod Waiting
 mod Walking
 mod Words

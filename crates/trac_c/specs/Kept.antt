@@ -6,6 +6,7 @@ use base.Fraction.{full_share}
 use denote.Array.{Array}
 use denote.RawPtr.{Ptr, lies_at, room_at}
 use denote.Signature.{static_lft}
+use Rattle.std.specs.Mem.{type_size}
 use Rattle.trac_space.specs.contracts.cell.Cell as Cell
 use Rattle.trac_core.specs.contracts.machine.Machine as Machine
 use Rattle.trac_core.specs.Machine.{MachineState, made}
@@ -13,6 +14,10 @@ use Rattle.trac_core.specs.Machine.{MachineState, made}
 -- a machine in this state lies at a place, and has its block for good
 abbrev pub machine_at : Ptr → MachineState → Fml
 machine_at place m = lies_at (Machine.the_row static_lft) full_share place m
+
+-- the bytes in which a machine lies
+abbrev pub machine_bytes : ℕ
+machine_bytes = type_size (Machine.the_row static_lft)
 
 -- there is room for a machine
 abbrev pub machine_room : Ptr → Fml

@@ -1,18 +1,22 @@
 -- What C is told of a machine that it keeps.
-use Rattle.std.specs.Prelude.{◌≡◌, ℕ, zero, suc, ◌+◌, ◌-◌, ◌<◌, ◌≤◌, [], ◌++◌, length, take}
+use Rattle.std.specs.Prelude.{◌≡◌, ◌≢◌, ℕ, zero, suc, ◌+◌, ◌-◌, ◌<◌, ◌≤◌, [], ◌∷◌, ◌++◌, length, take}
 use Rattle.std.specs.Prelude.{Bool, true, false, not, ◌&&◌, nat_le, nat_eq, Some, None}
 use Rattle.trac_language.specs.declared.fate.Fate.{Fate}
+use Rattle.trac_language.specs.declared.fate.Fate.TheVariants.{InputFailed, OutputFailed}
 use Rattle.trac_language.specs.Text.{Text}
 use Rattle.trac_language.specs.State.{Input, size}
+use Rattle.trac_language.specs.Step.{need}
 use Rattle.trac_devices.specs.Devices.{Stream, has_byte}
-use Rattle.trac_devices.specs.Slices.{SliceInput, stream_in}
+use Rattle.trac_devices.specs.Slices.{stream_in}
 use Rattle.trac_core.specs.declared.machine.session.Awaits.{Awaits}
 use Rattle.trac_core.specs.declared.machine.session.Awaits.TheVariants.{Nothing, Byte}
 use Rattle.trac_core.specs.declared.machine.session.Awaits.TheVariants.{Text as AwaitsText}
-use Rattle.trac_core.specs.Machine.{MachineState, Moment, moment, GoesOn, Answers}
+use Rattle.trac_core.specs.Machine.{MachineState, Moment, moment, ending, state_with, GoesOn, Answers}
 use Rattle.trac_core.specs.Session.{awaited, next_function, next_printed}
 use Rattle.trac_c.specs.Told.{number}
-use Rattle.trac_c.specs.declared.filling.FillingSink.{FillingSink}
+use Rattle.trac_c.specs.Held.{listed}
+use Rattle.trac_c.specs.declared.devices.GivenSource.{GivenSource}
+use Rattle.trac_c.specs.declared.devices.RoomySink.{RoomySink}
 use Rattle.trac_c.specs.declared.report.TracReport.{TracReport}
 use Rattle.trac_c.specs.declared.turn.Turn.{Turn}
 use Rattle.trac_c.specs.declared.turn.Turn.TheVariants.{Went, Waits, Full, Over}
@@ -29,6 +33,17 @@ is_short Byte m bytes = nat_eq (length bytes) 0
 abbrev pub waits_for_input : Bool → MachineState → Text → Bool
 waits_for_input ended m bytes = not ended && is_short (awaited (next_function m)) m bytes
 
+-- what is waited for may come: with the meta character behind these bytes the next step fits the
+-- room, whatever was printed
+abbrev pub MayGetMore : MachineState → Text → Type 0
+MayGetMore m bytes =
+    (output : Text) →
+    need (state_with m.memory (ending (bytes ++ m.memory.meta ∷ [])) output) ≤ m.room
+
+-- the run is over by itself: no device failed
+abbrev pub NoDeviceFailed : Fate → Type 0
+NoDeviceFailed fate = (fate ≢ InputFailed) × (fate ≢ OutputFailed)
+
 -- what a part of a turn comes to, for a machine whose run is not over: a step that was done; none,
 -- since it waits for input; or a step with which the run is over
 abbrev pub TurnsTo : Bool → Moment → Turn → Moment → Type 0
@@ -40,7 +55,8 @@ TurnsTo ended old Waits new =
 TurnsTo ended old Full new =
     (waits_for_input ended old.machine old.source.bytes ≡ false) × (new ≡ old)
 TurnsTo ended old (Over fate) new =
-    (waits_for_input ended old.machine old.source.bytes ≡ false) × Answers old (Some fate) new
+    (waits_for_input ended old.machine old.source.bytes ≡ false)
+    × (NoDeviceFailed fate × Answers old (Some fate) new)
 
 -- so many steps of a turn lead from one moment to another
 abbrev pub Goes : Bool → ℕ → Moment → Moment → Type 0
@@ -76,12 +92,16 @@ abbrev pub SomeTurned : Bool → ℕ → Moment → Turn → Moment → Type 0
 SomeTurned ended most old last new =
     (done : ℕ) × ((before : Moment) × Turned ended most old last new done before)
 
--- the moment at which a machine stands between a source and a sink over a buffer
-abbrev pub stands : MachineState → SliceInput → FillingSink → Moment
-stands m source sink = moment m (stream_in source) (take sink.len sink.room.now)
+-- what was written to a sink over a buffer and one byte more
+abbrev pub written_to : RoomySink → Text
+written_to sink = take sink.len sink.room.now ++ listed sink.behind
+
+-- the moment at which a machine stands between a source and a sink
+abbrev pub stands : MachineState → GivenSource → RoomySink → Moment
+stands m source sink = moment m (stream_in source.slice) (written_to sink)
 
 -- the next step prints more, whatever the input, than there is room for in the sink
-abbrev pub LacksRoom : MachineState → FillingSink → Type 0
+abbrev pub LacksRoom : MachineState → RoomySink → Type 0
 LacksRoom m sink =
     (input : Input) → length sink.room.now < sink.len + length (next_printed m input)
 
@@ -118,6 +138,7 @@ pub record TellsTurn (ended : Bool) (most : ℕ) (input buffer : Text) (old new 
   pub consumed : told.consumed ≡ length input - length left.bytes
   pub wanted : (input : Input) → told.wanted ≡ wanted_by last (length (next_printed new input))
   pub full : last ≡ Full → length buffer < told.written + told.wanted
+  pub waits : last ≡ Waits → MayGetMore new left.bytes
 
 abbrev pub TurnOf :
     Bool → (most : ℕ) → (input buffer : Text) → (old new : MachineState) → TracReport → Type 0

@@ -2,7 +2,7 @@
 ghost use Rattle.std.specs.Prelude.{◌≡◌};
 ghost use Rattle.trac_core.specs.Machine.{MachineState};
 ghost use Rattle.trac_c.specs.Kept.{machine_at, machine_room, machine_after, cells_room, opened};
-ghost use Rattle.trac_c.specs.Kept.{begun_again};
+ghost use Rattle.trac_c.specs.Kept.{begun_again, machine_bytes};
 ghost use Rattle.trac_c.specs.Turned.{TurnedOrOver, is_ended};
 ghost use types.Logic.{sem};
 
@@ -13,7 +13,9 @@ use trac_core::{Cell, Machine};
 
 /// The bytes that a machine takes.
 #[unsafe(no_mangle)]
-pub extern "C" fn trac_engine_machine_size() -> usize {
+pub extern "C" fn trac_engine_machine_size() -> usize
+    ensures { result ≡ machine_bytes }
+{
     std::mem::size_of::<Machine<'static>>()
 }
 

@@ -3,6 +3,7 @@
 //! processor's own choice.
 #![tactic(auto)]
 
+mod devices;
 mod filling;
 mod forms;
 mod kept;

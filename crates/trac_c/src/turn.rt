@@ -3,11 +3,12 @@ ghost use Rattle.std.specs.Prelude.{◌≡◌, ◌+◌, ◌^◌, ◌<◌, None, 
 ghost use Rattle.trac_core.specs.Session.{awaited, next_function, next_printed};
 ghost use Rattle.trac_language.specs.State.{Input};
 ghost use Rattle.trac_c.specs.Turned.{TurnsTo, LacksRoom, is_short, is_ended, stands, SomeTurned};
-ghost use Rattle.trac_c.specs.Turned.{TurnedOrOver, turn_number, last_over, wanted_by};
+ghost use Rattle.trac_c.specs.Turned.{TurnedOrOver, turn_number, last_over, wanted_by, MayGetMore};
+ghost use Rattle.trac_core.specs.Machine.{KeepsLimits};
 
-use crate::filling::FillingSink;
+use crate::devices::{GivenSource, RoomySink};
 use crate::report::{TracReport, number};
-use trac_core::{Awaits, Fate, Machine, SliceSource};
+use trac_core::{Awaits, Fate, Machine};
 
 /// What a part of a turn came to.
 #[derive(Clone, Copy, Debug, PartialEq, Eq)]
@@ -34,8 +35,8 @@ pub(crate) fn take_turn(
     ensures { TurnedOrOver (is_ended ended) most input.now output.new machine.old result
         machine.new }
 {
-    let mut source = SliceSource::new(input, None);
-    let mut sink = FillingSink::new(output);
+    let mut source = GivenSource::new(input);
+    let mut sink = RoomySink::new(output);
     let last = go_on(machine, &mut source, &mut sink, ended != 0, most);
     let wanted = wanted(machine, last);
     TracReport {
@@ -76,18 +77,19 @@ fn turn_number(last: Turn) -> u32
 /// one by itself. Went: all of them were done.
 fn go_on(
     machine: &mut Machine,
-    source: &mut SliceSource,
-    sink: &mut FillingSink,
+    source: &mut GivenSource,
+    sink: &mut RoomySink,
     ended: bool,
     most: u64,
 ) -> Turn
-    requires source_sound { source.old.failures ≡ 0 }
-    requires sink_sound { sink.old.failures ≡ 0 }
+    requires sink_sound { (sink.old.failures ≡ 0) × (sink.old.behind ≡ None) }
     ensures turned { machine.old.fate ≡ None →
         SomeTurned ended most (stands machine.old source.old sink.old) result
         (stands machine.new source.new sink.new) }
     ensures same_room { sink.new.room.ghost_name ≡ sink.old.room.ghost_name }
     ensures full { result ≡ Turn.Full → LacksRoom machine.new sink.new }
+    ensures waits { result ≡ Turn.Waits → MayGetMore machine.new source.new.slice.bytes }
+    ensures fits { sink.new.behind ≡ None }
     ensures over { (fate : Fate) → machine.old.fate ≡ Some fate →
         (result ≡ last_over most fate) × (machine.new ≡ machine.old)
         × (source.new ≡ source.old) × (sink.new.len ≡ sink.old.len) }
@@ -110,12 +112,12 @@ fn go_on(
 /// A step, unless it waits for input.
 fn step_on(
     machine: &mut Machine,
-    source: &mut SliceSource,
-    sink: &mut FillingSink,
+    source: &mut GivenSource,
+    sink: &mut RoomySink,
     ended: bool,
 ) -> Turn
-    requires source_sound { source.old.failures ≡ 0 }
-    requires sink_sound { sink.old.failures ≡ 0 }
+    requires limits { KeepsLimits machine.old }
+    requires sink_sound { (sink.old.failures ≡ 0) × (sink.old.behind ≡ None) }
     ensures turns { machine.old.fate ≡ None →
         TurnsTo ended (stands machine.old source.old sink.old) result
         (stands machine.new source.new sink.new) }
@@ -124,13 +126,14 @@ fn step_on(
         × (source.new ≡ source.old) × (sink.new ≡ sink.old) }
     ensures same_room { sink.new.room.ghost_name ≡ sink.old.room.ghost_name }
     ensures full { result ≡ Turn.Full → LacksRoom machine.new sink.new }
-    ensures went { result ≡ Turn.Went →
-        (machine.new.fate ≡ None) × (source.new.failures ≡ 0) × (sink.new.failures ≡ 0) }
+    ensures waits { result ≡ Turn.Waits → MayGetMore machine.new source.new.slice.bytes }
+    ensures fits { sink.new.behind ≡ None }
+    ensures went { result ≡ Turn.Went → (machine.new.fate ≡ None) × (sink.new.failures ≡ 0) }
 {
     if !ended && waits(machine, source.rest()) {
         return Turn::Waits;
     }
-    if sink.free() < machine.prints() as usize {
+    if !machine.prints_within(sink.free() as u64) {
         return Turn::Full;
     }
     match machine.step(source, sink) {

@@ -1,6 +1,6 @@
 use Rattle.trac_c.proofs.Words.{◌≡◌, ◌+◌, ◌-◌, None, Some, refl, ◌∙◌, ap, sym, subst, arith, take, stands, stream_in, moment, Went, Over}
 use Rattle.std.proofs.lemmas.Grind.{common_steps}
-use Rattle.trac_c.specs.Turned.{TurnsTo}
+use Rattle.trac_c.specs.Turned.{TurnsTo, written_to}
 use Rattle.trac_c.proofs.Alone.{goes-on, goes-further, ends-on, ends-full, is-going}
 use Rattle.trac_c.proofs.turn.go_on.Goals as goal
 
@@ -8,15 +8,15 @@ pub returns-then-done-most-clause-turned : goal.returns-then-done-most-clause-tu
 returns-then-done-most-clause-turned c = λ going.
     let i = c.loop-done.invariant.going going in
     let sink = c.loop-done.sink in
-    ends-full c.args.most c.advance-done.result c.loop-done.done c.args.ended (stands c.args.machine.now c.args.source.now c.args.sink.now) c.loop-done.machine c.advance-done.new.self (stream_in c.loop-done.source) (take sink.len sink.room.now)
+    ends-full c.args.most c.advance-done.result c.loop-done.done c.args.ended (stands c.args.machine.now c.args.source.now c.args.sink.now) c.loop-done.machine c.advance-done.new.self (stream_in c.loop-done.source.slice) (written_to sink)
     (omega (arith, c.if-done-most.true)) (c.args.most - c.loop-done.done) (omega arith) (c.advance-done.ensures.advanced i.1) i.0
 
 pub returns-then-ne-clause-turned : goal.returns-then-ne-clause-turned
 returns-then-ne-clause-turned c = λ going.
     let i = c.loop-done.invariant.going going in
     let sink = c.loop-done.sink in
-    let source = stream_in c.loop-done.source in
-    let written = take sink.len sink.room.now in
+    let source = stream_in c.loop-done.source.slice in
+    let written = written_to sink in
     let h = c.step_on-part.ensures in
     ends-on c.args.most c.advance-done.result c.loop-done.done c.args.ended (stands c.args.machine.now c.args.source.now c.args.sink.now) (stands c.step_on-part.new.machine c.step_on-part.new.source c.step_on-part.new.sink) c.loop-done.machine c.advance-done.new.self source written c.step_on-part.result
     (omega (arith, c.if-done-most.false, c.advance-done.ensures.few, c.loop-done-test.true)) (grind (arith, common_steps)) h.turns
@@ -29,8 +29,8 @@ loop-done-preserved c =
     let went : c.step_on-part.result ≡ Went = grind (arith, common_steps) in
     let others = h.went went in
     let sink = c.loop-done.sink in
-    let source = stream_in c.loop-done.source in
-    let written = take sink.len sink.room.now in
+    let source = stream_in c.loop-done.source.slice in
+    let written = written_to sink in
     record {
       going = λ going.
           let i = c.loop-done.invariant.going going in
@@ -45,6 +45,5 @@ loop-done-preserved c =
           absurd (let went = went in cc);
       same_room = h.same_room ∙ c.loop-done.invariant.same_room;
       bound = omega (arith, c.if-done-most.false, c.advance-done.ensures.few, c.loop-done-test.true);
-      source = others.1;
-      sink = others.2;
+      sink = (others.1, h.fits);
     }

@@ -16,8 +16,7 @@ invariant-loop-done l =
           × (l.source ≡ l.initial.source) × (l.sink.len ≡ l.initial.sink.len);
       same_room : l.sink.room.ghost_name ≡ l.initial.sink.room.ghost_name;
       bound : l.done ≤ l.most;
-      source : l.source.failures ≡ 0;
-      sink : l.sink.failures ≡ 0;
+      sink : (l.sink.failures ≡ 0) × (l.sink.behind ≡ None);
     }
 
 abbrev pub decreases-loop-done : goal.decreases-loop-done
