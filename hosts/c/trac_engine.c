@@ -4,7 +4,7 @@
  * and what compilers make of it (memcpy, memset) alone.
  *
  * Crates: trac_language trac_space trac_values trac_store trac_forms trac_devices trac_functions trac_laws trac_core trac_c
- * Sources: 34b022be5af4f6fe1dd04723913433b82dc289119a0b307bc62e33ab5f1dbd25
+ * Sources: d4573c7aa26a4cb72ad24bf1796d24ff419c2f44e3f48e1049c1b7b5ef190b63
  * Kit: rattle-kit-13f logic dac8208d650f15bf
  * Tools: wasm-opt version 108, wabt 1.0.32
  */
@@ -90,6 +90,8 @@ static inline u32 clz32(u32 x) {
 static inline u64 clz64(u64 x) {
     return x >> 32 ? clz32((u32)(x >> 32)) : 32 + clz32((u32)x);
 }
+
+enum { DEEPEST_STACK = 928 };
 
 static const u8 tables[3040] = {
     0, 1, 2, 3, 4, 5, 6, 7, 8, 9, 10, 11, 12, 13, 14, 15, 16, 17, 18, 19, 20, 21, 22, 23,
@@ -21888,14 +21890,13 @@ static void engine_turn(struct engine *e, u64 l0, u64 l1, u64 l2, u64 l3, u64 l4
 
 /* ---- The exports, each with a stack for the engine, which is gone when it returns. */
 
-/* The bytes of that stack, beside what the functions above take of C's. The engine traps before it needs more. */
-#ifndef TRAC_STACK
-#define TRAC_STACK 1024
-#endif
+/* The bytes of that stack, beside what the functions above take of C's: what the deepest calls can take, the 16 bytes
+ * that the engine keeps free, and what is lost where it is aligned. */
+enum { STACK = DEEPEST_STACK + 16 + 32 };
 
 struct lent {
     struct engine engine;
-    u8 stack[TRAC_STACK];
+    u8 stack[STACK];
 };
 
 static u64 address_of(const void *place) { return (u64)(uintptr_t)place; }
@@ -21903,7 +21904,7 @@ static u64 address_of(const void *place) { return (u64)(uintptr_t)place; }
 /* An engine with a stack whose ends are multiples of 16. */
 static struct engine *lend(struct lent *to) {
     to->engine.stack = (address_of(to->stack) + 15) & ~(u64)15;
-    to->engine.stack_pointer = address_of(to->stack + TRAC_STACK) & ~(u64)15;
+    to->engine.stack_pointer = address_of(to->stack + STACK) & ~(u64)15;
     return &to->engine;
 }
 
