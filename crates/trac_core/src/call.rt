@@ -152,18 +152,19 @@ pub(crate) struct NamedCall {
     /// Where its mark stands in the neutral string.
     place: u32,
     /// The function that it names, if it names one.
-    function: Option<Function>,
+    pub(crate) function: Option<Function>,
     /// The arguments behind that name.
     arguments: Arguments,
 }
 
 /// The parts of the innermost call.
 #[inline(always)]
-fn named(work: &Work, call: InnermostCall) -> NamedCall
+pub(crate) fn named(work: &Work, call: InnermostCall) -> NamedCall
     requires innermost { IsLastCall work.now.neutral call.place }
     requires plain { IsPlainFrom call.plain work.now.neutral }
     requires sound { IsSound work.now }
-    ensures { IsNamed result work.now }
+    ensures named { IsNamed result work.now }
+    ensures place { result.place ≡ call.place }
 {
     let mut arguments = Arguments {
         from: call.place + 1,

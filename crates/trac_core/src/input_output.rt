@@ -78,6 +78,7 @@ pub(crate) fn read_character<I: Source>(work: &mut Work, source: &mut I) -> Made
 }
 
 /// `ps,X`: X is printed, and the sink flushed once where X isn't null (Mooers 1966).
+#[inline(never)]
 pub(crate) fn print_string<O: Sink>(work: &Work, mut arguments: Arguments, sink: &mut O) -> Made
     requires arguments { AreArguments work.now arguments }
     requires counts { O.failure_count sink.old < 2 ^ 64 - 1 }

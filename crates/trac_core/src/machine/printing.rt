@@ -13,7 +13,9 @@ ghost use Rattle.trac_core.specs.Session.{next_printed, step_prints, printed_in}
 
 use super::Machine;
 use super::closing::{closed_call, named_at};
+use crate::call::named;
 use crate::display::display_len;
+use crate::scan::InnermostCall;
 use trac_forms::Work;
 use trac_language::Function;
 
@@ -66,7 +68,8 @@ fn fits_within(work: &mut Work, free: u64) -> bool
 
 /// The same of what the innermost call prints, whose mark stands at the place.
 fn call_fits(work: &mut Work, place: u32, free: u64) -> bool
-    requires { IsLastCall work.old.neutral place }
+    requires innermost { IsLastCall work.old.neutral place }
+    requires sound { IsSound work.old }
     ensures within { (meta : ℕ) (input : Input) →
         let args = arguments_at work.old.neutral place in
         result ≡ nat_le (length (printed_in (meaning (function_at work.old.neutral place) args
@@ -82,10 +85,12 @@ fn call_fits(work: &mut Work, place: u32, free: u64) -> bool
 
 /// Whether the innermost call displays a form, whose mark stands at the place.
 fn displays(work: &Work, place: u32) -> bool
-    requires { IsLastCall work.now.neutral place }
+    requires innermost { IsLastCall work.now.neutral place }
+    requires sound { IsSound work.now }
     ensures { result ≡ false → function_at work.now.neutral place ≢ Some PrintForm }
 {
-    match named_at(work, place).0 {
+    let plain = work.neutral_len();
+    match named(work, InnermostCall { place, plain }).function {
         None => false,
         Some(function) => match function {
             Function::PrintForm => true,

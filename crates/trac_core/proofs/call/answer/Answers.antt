@@ -57,4 +57,3 @@ returns-in-PrintForm-clause-answers g c = grind (arith, common_steps)
 
 pub returns-in-PrintForm-clause-sink : goal.returns-in-PrintForm-clause-sink
 returns-in-PrintForm-clause-sink g c = grind (arith, common_steps)
-

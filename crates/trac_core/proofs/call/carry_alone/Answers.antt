@@ -8,7 +8,7 @@ pub returns-then-touches_device-clause-tried : goal.returns-then-touches_device-
 returns-then-touches_device-clause-tried c =
     let w = c.args.work.now in
     let asks = subst (λ front. AsksFor front w) c.in-Closes.is c.requires.asks in
-    let n = c.named-call.ensures in
+    let n = c.named-call.ensures.named in
     let names = sym (performs-innermost w c.named-call.result.place c.args.meta.now c.requires.sound asks.0 n.innermost) ∙ sym n.names in
     (ap touches_device names ∙ sym c.touches_device.ensures ∙ c.if-touches_device.true, refl, refl)
 
@@ -30,7 +30,7 @@ returns-else-touches_device-clause-tried c =
     let w = c.args.work.now in
     let dropped = c.drop_active.new.self in
     let asks = subst (λ front. AsksFor front w) c.in-Closes.is c.requires.asks in
-    let n = c.named-call.ensures in
+    let n = c.named-call.ensures.named in
     let names = sym (performs-innermost w c.named-call.result.place c.args.meta.now c.requires.sound asks.0 n.innermost) ∙ sym n.names in
     let p = performs-closed w dropped c.named-call.result.place c.requires.sound asks.0 n.innermost c.drop_active.ensures.rest in
     record {

@@ -3,8 +3,8 @@ use Rattle.trac_core.proofs.Performing.{texts-all, named-at}
 use Rattle.std.proofs.lemmas.Grind.{common_steps}
 use Rattle.trac_core.proofs.call.named.Goals as goal
 
-pub returns : goal.returns
-returns c =
+pub returns-clause-named : goal.returns-clause-named
+returns-clause-named c =
     let w = c.args.work.now in let place = c.args.call.place in
     record {
       sound = c.requires.sound;
