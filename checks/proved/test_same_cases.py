@@ -1,12 +1,16 @@
 """The cases of checks/ that need no kit, over the proved program."""
+import test_memory
 from test_conformance import Conformance
 from test_examples import Examples, Exercises
 from test_interruptions import Interruptions
 from test_manual import Manual
-from test_memory import Refused
 from test_pipes import Closed, Streams
 from test_program import Devices, Memory, Program, Stack
 from test_rooms import Rooms
 
 __all__ = ['Closed', 'Conformance', 'Devices', 'Examples', 'Exercises', 'Interruptions', 'Manual', 'Memory', 'Program',
            'Refused', 'Rooms', 'Stack', 'Streams']
+
+
+class Refused(test_memory.Refused):
+    """The same, with a library of its own in front of the allocator."""
