@@ -16,8 +16,6 @@ PROGRAM_IN_C = os.path.join(HEADERS, 'trac.c')
 EXAMPLE = os.path.join(TOP, 'examples', 'embedding_c', 'embedding.c')
 AS_CPP = ['-std=c++17', *STRICT[1:], '-x', 'c++']
 KINDS = (('gcc', STRICT), ('clang', STRICT), ('gcc', SANITIZED), ('g++', AS_CPP))
-# The engine's own stack has 1024 bytes. It traps before it needs more.
-FEWER = [*STRICT, '-O0', '-DTRAC_STACK=768']
 # What the engine may leave to the program that it is linked with: what compilers make of the moves of memory.
 LEFT_OPEN = {'memcpy', 'memmove', 'memset'}
 # Bytes of stack that trac_run needs beside what its caller has.
@@ -63,13 +61,6 @@ class CEngine(Engine, unittest.TestCase):
             for program in self.programs[:2]:
                 self.assertEqual(call(program, row.script, row.cells, row.allowed, len(row.output), STACK)[0],
                                  row.output, row)
-
-    def test_its_own_stack_is_ample(self):
-        engine, maker = built(self.folder, 'gcc', FEWER)
-        self.assertEqual(maker.wait(), 0)
-        program = compiled(self.folder, 'gcc', STRICT, engine)
-        for row in rows():
-            self.assertEqual(call(program, row.script, row.cells, row.allowed, len(row.output))[0], row.output, row)
 
     def test_the_example(self):
         for engine, (compiler, _) in zip(self.engines[:2], KINDS):

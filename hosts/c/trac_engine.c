@@ -4,7 +4,7 @@
  * and what compilers make of it (memcpy, memset) alone.
  *
  * Crates: trac_language trac_space trac_values trac_store trac_forms trac_devices trac_functions trac_laws trac_core trac_c
- * Sources: 77da69f5b8fa75558804ef9283d85d03b70f18f7f47d022dbc6127f69d683c4c
+ * Sources: d4573c7aa26a4cb72ad24bf1796d24ff419c2f44e3f48e1049c1b7b5ef190b63
  * Kit: rattle-kit-13f logic dac8208d650f15bf
  * Tools: wasm-opt version 108, wabt 1.0.32
  */
@@ -90,6 +90,8 @@ static inline u32 clz32(u32 x) {
 static inline u64 clz64(u64 x) {
     return x >> 32 ? clz32((u32)(x >> 32)) : 32 + clz32((u32)x);
 }
+
+enum { DEEPEST_STACK = 928 };
 
 static const u8 tables[3040] = {
     0, 1, 2, 3, 4, 5, 6, 7, 8, 9, 10, 11, 12, 13, 14, 15, 16, 17, 18, 19, 20, 21, 22, 23,
@@ -231,9 +233,8 @@ static u32 store_arguments_before_far_comma(struct engine *e, u64 l0, u64 l1);
 static void core_scan_pass(struct engine *e, u64 l0, u64 l1, u64 l2, u64 l3, u64 l4);
 static u32 space_space_Space_find_way(struct engine *e, u64 l0, u64 l1);
 static void space_space_write_bytes(struct engine *e, u64 l0, u64 l1, u64 l2);
+static void devices_slice_source_SliceSourceSource_take_held(struct engine *e, u64 l0, u32 l1, u64 l2);
 static u32 space_space_Space_push_in_way(struct engine *e, u64 l0, u64 l1);
-static void core_input_output_print_string(struct engine *e, u64 l0, u64 l1, u64 l2, u64 l3);
-static void core_display_print_form(struct engine *e, u64 l0, u64 l1, u64 l2, u64 l3);
 static void functions_comparing_equal(struct engine *e, u64 l0, u64 l1, u64 l2);
 static void functions_comparing_greater(struct engine *e, u64 l0, u64 l1, u64 l2);
 static void functions_arithmetic_arithmetic(struct engine *e, u64 l0, u64 l1, u32 l2, u64 l3);
@@ -254,17 +255,16 @@ static void forms_work_Work_find_among_few(struct engine *e, u64 l0, u64 l1, u32
 static void functions_form_calls_delete_definition(struct engine *e, u64 l0, u64 l1, u64 l2);
 static void functions_form_calls_delete_all(struct engine *e, u64 l0, u64 l1);
 static void functions_form_calls_list_names(struct engine *e, u64 l0, u64 l1, u64 l2);
-static void core_input_output_read_string(struct engine *e, u64 l0, u64 l1, u32 l2, u64 l3);
 static void store_fill_load_items_in_way(struct engine *e, u64 l0, u64 l1, u32 l2, u32 l3);
 static void core_slice_edits_slice_T_copy_from_slice(struct engine *e, u64 l0, u64 l1, u64 l2);
 static void space_copies_copy_long(struct engine *e, u64 l0, u64 l1, u64 l2, u64 l3);
 static u32 forms_work_Work_fill_body(struct engine *e, u64 l0, u32 l1, u32 l2, u32 l3);
+static void forms_work_Work_stored(struct engine *e, u64 l0, u64 l1, u32 l2);
+static u32 core_display_show_form(struct engine *e, u64 l0, u64 l1);
 static void core_delivery_deliver(struct engine *e, u64 l0, u32 l1, u32 l2);
 static void space_copies_copy_more(struct engine *e, u64 l0, u64 l1, u64 l2, u64 l3);
 static void space_copies_copy_parts(struct engine *e, u64 l0, u64 l1, u64 l2);
 static void space_space_Space_move_active(struct engine *e, u64 l0, u32 l1);
-static void forms_work_Work_stored(struct engine *e, u64 l0, u64 l1, u32 l2);
-static u32 core_display_show_form(struct engine *e, u64 l0, u64 l1);
 static void store_index_index_worthwhile(struct engine *e, u64 l0, u32 l1, u64 l2);
 static void store_store_find_some(struct engine *e, u64 l0, u64 l1, u32 l2, u32 l3, u32 l4, u64 l5, u64 l6);
 static void store_store_find_round(struct engine *e, u64 l0, u64 l1, u32 l2, u32 l3, u32 l4, u64 l5, u64 l6);
@@ -290,7 +290,8 @@ static void space_space_Space_remove_store(struct engine *e, u64 l0, u32 l1, u32
 static void space_filling_fill_each(struct engine *e, u64 l0, u64 l1, u64 l2, u64 l3, u64 l4, u64 l5);
 static u32 store_fill_fill_without_list(struct engine *e, u64 l0, u32 l1, u32 l2, u32 l3, u32 l4);
 static void forms_work_Work_form(struct engine *e, u64 l0, u64 l1, u32 l2);
-static u32 core_machine_Machine_prints(struct engine *e, u64 l0);
+static u32 core_machine_printing_call_len(struct engine *e, u64 l0, u32 l1);
+static u32 core_display_show_items2(struct engine *e, u64 l0, u32 l1, u32 l2, u64 l3);
 static u64 engine_active(struct engine *e, u64 l0, u64 l1, u64 l2);
 static void engine_again(struct engine *e, u64 l0, u64 l1);
 static u32 engine_awaits(struct engine *e, u64 l0);
@@ -1930,6 +1931,173 @@ static void space_space_write_bytes(struct engine *e, u64 l0, u64 l1, u64 l2) {
     trap();
 }
 
+static void devices_slice_source_SliceSourceSource_take_held(struct engine *e, u64 l0, u32 l1, u64 l2) {
+    u64 l3 = 0;
+    u64 l4 = 0;
+    u64 l5 = 0;
+    u64 l6 = 0;
+    u64 l7 = 0;
+    u64 l8 = 0;
+    u64 l9 = 0;
+    u32 l10 = 0;
+    u32 l11 = 0;
+    u32 l12 = 0;
+    l9 = e->stack_pointer;
+    if ((i64)(l9 - e->stack) >= (i64)16ull) {
+        const u64 t2 = load64(l0);
+        l8 = t2;
+        {
+            {
+                {
+                    const u32 t6 = load32(l2 + 8ull);
+                    const u32 t7 = load32(l2 + 20ull);
+                    const u32 t8 = load32(l2 + 16ull);
+                    l11 = t7 + t8;
+                    const u32 t9 = load32(l2 + 24ull);
+                    l12 = l11 + t9;
+                    l3 = (u64)(t6 - l12);
+                    const u64 t10 = load64(l0 + 8u);
+                    l7 = t10;
+                    l7 = (l3 < l7) ? l3 : l7;
+                    if (l7 < 16ull) {
+                        goto L5;
+                    }
+                    l4 = l7 & 4294967280ull;
+                    L12:;
+                    {
+                        l10 = l1 & 255u;
+                        l3 = l5 + l8;
+                        const u32 t13 = load8(l3);
+                        if (l10 == t13) {
+                            l4 = l5;
+                            goto L4;
+                        }
+                        const u32 t15 = load8(l3 + 1ull);
+                        if (l10 == t15) {
+                            l4 = l5;
+                            goto L4;
+                        }
+                        l10 = l1 & 255u;
+                        const u32 t17 = load8(l3 + 2ull);
+                        if (l10 == t17) {
+                            l4 = l5;
+                            goto L4;
+                        }
+                        const u32 t19 = load8(l3 + 3ull);
+                        if (l10 == t19) {
+                            l4 = l5;
+                            goto L4;
+                        }
+                        l10 = l1 & 255u;
+                        const u32 t21 = load8(l3 + 4ull);
+                        if (l10 == t21) {
+                            l4 = l5;
+                            goto L4;
+                        }
+                        const u32 t23 = load8(l3 + 5ull);
+                        if (l10 == t23) {
+                            l4 = l5;
+                            goto L4;
+                        }
+                        l10 = l1 & 255u;
+                        const u32 t25 = load8(l3 + 6ull);
+                        if (l10 == t25) {
+                            l4 = l5;
+                            goto L4;
+                        }
+                        const u32 t27 = load8(l3 + 7ull);
+                        if (l10 == t27) {
+                            l4 = l5;
+                            goto L4;
+                        }
+                        l10 = l1 & 255u;
+                        const u32 t29 = load8(l3 + 8ull);
+                        if (l10 == t29) {
+                            l4 = l5;
+                            goto L4;
+                        }
+                        const u32 t31 = load8(l3 + 9ull);
+                        if (l10 == t31) {
+                            l4 = l5;
+                            goto L4;
+                        }
+                        l10 = l1 & 255u;
+                        const u32 t33 = load8(l3 + 10ull);
+                        if (l10 == t33) {
+                            l4 = l5;
+                            goto L4;
+                        }
+                        const u32 t35 = load8(l3 + 11ull);
+                        if (l10 == t35) {
+                            l4 = l5;
+                            goto L4;
+                        }
+                        l10 = l1 & 255u;
+                        const u32 t37 = load8(l3 + 12ull);
+                        if (l10 == t37) {
+                            l4 = l5;
+                            goto L4;
+                        }
+                        const u32 t39 = load8(l3 + 13ull);
+                        if (l10 == t39) {
+                            l4 = l5;
+                            goto L4;
+                        }
+                        l10 = l1 & 255u;
+                        const u32 t41 = load8(l3 + 14ull);
+                        if (l10 == t41) {
+                            l4 = l5;
+                            goto L4;
+                        }
+                        const u32 t43 = load8(l3 + 15ull);
+                        if (l10 == t43) {
+                            l4 = l5;
+                            goto L4;
+                        }
+                        l5 = l5 + 16ull;
+                        l7 = l7 - 16ull;
+                        if (l7 > 15ull) goto L12;
+                    }
+                }
+                L5:;
+                if (l7 == 0) goto L3;
+            }
+            L4:;
+            l3 = l4 + l8;
+            L45:;
+            {
+                const u32 t46 = load8(l3 + l6);
+                if (t46 == (l1 & 255u)) goto L3;
+                l6 = l6 + 1ull;
+                if (l7 != l6) goto L45;
+            }
+            l6 = l7;
+        }
+        L3:;
+        l3 = l4 + l6;
+        l1 = (u32)l3;
+        const u32 t47 = load32(l2 + 28ull);
+        if (l1 > (t47 - l12)) {
+            space_space_Space_move_active(e, l2, 0u);
+            const u32 t49 = load32(l2 + 20ull);
+            const u32 t50 = load32(l2 + 16ull);
+            l11 = t49 + t50;
+        }
+        const u64 t51 = load64(l2);
+        space_space_write_bytes(e, t51 + ((u64)l11 << 3), l8, l3);
+        l6 = l2 + 20ull;
+        const u32 t52 = load32(l6);
+        store32(l6, t52 + l1);
+        const u64 t53 = load64(l0 + 8u);
+        store64(l0 + 8u, t53 - l3);
+        const u64 t54 = load64(l0);
+        store64(l0, t54 + l3);
+        e->stack_pointer = l9;
+        return;
+    }
+    trap();
+}
+
 static u32 space_space_Space_push_in_way(struct engine *e, u64 l0, u64 l1) {
     u32 l2 = 0;
     u32 l3 = 0;
@@ -1983,214 +2151,6 @@ static u32 space_space_Space_push_in_way(struct engine *e, u64 l0, u64 l1) {
     }
     trap();
     return 0;
-}
-
-static void core_input_output_print_string(struct engine *e, u64 l0, u64 l1, u64 l2, u64 l3) {
-    u32 l4 = 0;
-    u32 l5 = 0;
-    u32 l6 = 0;
-    u64 l7 = 0;
-    u64 l8 = 0;
-    u64 l9 = 0;
-    l7 = e->stack_pointer - 32ull;
-    e->stack_pointer = l7;
-    l8 = l7;
-    if ((i64)(l8 - e->stack) >= (i64)16ull) {
-        const u64 t2 = load64(l2 + 8u);
-        store64(l8 + 24u, t2);
-        const u64 t3 = load64(l2);
-        store64(l8 + 16u, t3);
-        functions_arguments_Arguments_next(e, l8 + 8ull, l8 + 16ull, l1);
-        l6 = 3u;
-        u32 v4;
-        {
-            const u32 t5 = load32(l8 + 12u);
-            l4 = t5;
-            const u32 t6 = load32(l8 + 8u);
-            l5 = t6;
-            if (l4 == l5) { v4 = 0u; goto L4; }
-            const u64 t7 = load64(l1);
-            const u32 t8 = load32(l1 + 16ull);
-            const u32 t9 = l5;
-            l5 = t8;
-            l1 = (u64)(t9 + l5);
-            l2 = t7 + (l1 << 3);
-            {
-                l1 = (u64)(l4 + l5) - l1;
-                if (l1 < 16ull) {
-                    {
-                        L13:;
-                        {
-                            l4 = 0u;
-                            const u32 t14 = load8(l2);
-                            if (t14 == 0) {
-                                const u32 t16 = load8(l2 + 1ull);
-                                l4 = t16;
-                            }
-                            l7 = l3 + 16ull;
-                            const u64 t17 = load64(l7);
-                            l9 = t17;
-                            const u64 t18 = load64(l3 + 8ull);
-                            if (l9 >= t18) goto L12;
-                            const u64 t19 = load64(l3);
-                            store8(t19 + l9, (u8)l4);
-                            const u64 t20 = load64(l7);
-                            store64(l7, t20 + 1ull);
-                            l2 = l2 + 8ull;
-                            l1 = l1 - 1ull;
-                            if ((l1 == 0) == 0) goto L13;
-                        }
-                        v4 = 0u; goto L4;
-                    }
-                    L12:;
-                    l2 = l3 + 24ull;
-                    const u64 t21 = load64(l2);
-                    store64(l2, t21 + 1ull);
-                    goto L10;
-                }
-                {
-                    L23:;
-                    {
-                        l4 = 0u;
-                        const u32 t24 = load8(l2);
-                        if (t24 == 0) {
-                            const u32 t26 = load8(l2 + 1ull);
-                            l4 = t26;
-                        }
-                        l7 = l3 + 16ull;
-                        const u64 t27 = load64(l7);
-                        l9 = t27;
-                        const u64 t28 = load64(l3 + 8ull);
-                        if (l9 >= t28) goto L22;
-                        const u64 t29 = load64(l3);
-                        store8(t29 + l9, (u8)l4);
-                        const u64 t30 = load64(l7);
-                        store64(l7, t30 + 1ull);
-                        l2 = l2 + 8ull;
-                        l1 = l1 - 1ull;
-                        if ((l1 == 0) == 0) goto L23;
-                    }
-                    v4 = 0u; goto L4;
-                }
-                L22:;
-                l2 = l3 + 24ull;
-                const u64 t31 = load64(l2);
-                store64(l2, t31 + 1ull);
-            }
-            L10:;
-            l6 = 4u;
-            v4 = 5u;
-        }
-        L4:;
-        l4 = v4;
-        store8(l0, (u8)l6);
-        store32(l0 + 4ull, 0u);
-        store8(l0 + 1ull, (u8)l4);
-        e->stack_pointer = l8 + 32ull;
-        return;
-    }
-    trap();
-}
-
-static void core_display_print_form(struct engine *e, u64 l0, u64 l1, u64 l2, u64 l3) {
-    u64 l4 = 0;
-    u64 l5 = 0;
-    u64 l6 = 0;
-    u64 l7 = 0;
-    u64 l8 = 0;
-    u32 l9 = 0;
-    u32 l10 = 0;
-    u32 l11 = 0;
-    l4 = e->stack_pointer - 80ull;
-    e->stack_pointer = l4;
-    if ((i64)(l4 - e->stack) >= (i64)16ull) {
-        const u64 t2 = load64(l2 + 8u);
-        store64(l4 + 32u, t2);
-        const u64 t3 = load64(l2);
-        store64(l4 + 24u, t3);
-        functions_arguments_Arguments_next(e, l4 + 16ull, l4 + 24ull, l1);
-        const u32 t4 = load32(l4 + 20u);
-        l9 = t4;
-        const u32 t5 = load32(l4 + 16u);
-        l10 = t5;
-        store64(l4 + 72u, 0ull);
-        store64(l4 + 64u, 0ull);
-        store64(l4 + 56u, 0ull);
-        store64(l4 + 48u, 0ull);
-        store64(l4 + 40u, 0ull);
-        const u64 t6 = l0;
-        u32 v7;
-        {
-            {
-                {
-                    u32 v10;
-                    {
-                        const u32 t11 = load32(l1 + 40ull);
-                        l11 = t11;
-                        if (l11 >= 8u) {
-                            forms_work_Work_find_among_more(e, l4, l1, l10, l9);
-                            const u32 t13 = load8(l4);
-                            l9 = t13;
-                            const u32 t14 = load32(l4 + 4u);
-                            v10 = t14; goto L10;
-                        }
-                        {
-                            if (l11 == 0) goto L15;
-                            const u64 t16 = load64(l1);
-                            l6 = t16;
-                            const u64 t17 = load32(l6 + 4ull);
-                            const u32 t18 = load32(l1 + 16ull);
-                            l11 = t18;
-                            l2 = (u64)(l11 + l9);
-                            l5 = (u64)(l10 + l11);
-                            if (t17 != (l2 - l5)) goto L15;
-                            l7 = 17ull - (l5 << 3);
-                            l5 = (l2 ^ 18446744073709551615ull) + l5;
-                            l2 = l6 + (l2 << 3);
-                            L19:;
-                            {
-                                l5 = l5 + 1ull;
-                                if (l5 == 0) goto L9;
-                                l6 = l2 - 7ull;
-                                l8 = l2 + l7;
-                                l2 = l2 - 8ull;
-                                const u32 t20 = load8(l8);
-                                const u32 t21 = load8(l6);
-                                if (t20 == t21) goto L19;
-                            }
-                        }
-                        L15:;
-                        forms_work_Work_find_among_few(e, l4 + 8ull, l1, l10, l9);
-                        const u32 t22 = load8(l4 + 8u);
-                        l9 = t22;
-                        const u32 t23 = load32(l4 + 12u);
-                        v10 = t23;
-                    }
-                    L10:;
-                    l10 = v10;
-                    if ((l9 & 255u) == 1u) goto L8;
-                    l9 = 0u;
-                    v7 = 3u; goto L7;
-                }
-                L9:;
-                store64(l1 + 44ull, 0ull);
-                l10 = 0u;
-            }
-            L8:;
-            forms_work_Work_stored(e, l4 + 40ull, l1, l10);
-            const u32 t24 = core_display_show_form(e, l4 + 40ull, l3);
-            l10 = t24 & 255u;
-            l9 = l10 ? 5u : 0u;
-            v7 = l10 + 3u;
-        }
-        L7:;
-        store8(t6, (u8)v7);
-        store32(l0 + 4ull, 0u);
-        store8(l0 + 1ull, (u8)l9);
-        e->stack_pointer = l4 + 80ull;
-        return;
-    }
-    trap();
 }
 
 static void functions_comparing_equal(struct engine *e, u64 l0, u64 l1, u64 l2) {
@@ -8923,256 +8883,6 @@ static void functions_form_calls_list_names(struct engine *e, u64 l0, u64 l1, u6
     e->stack_pointer = l13 + 32ull;
 }
 
-static void core_input_output_read_string(struct engine *e, u64 l0, u64 l1, u32 l2, u64 l3) {
-    u64 l4 = 0;
-    u64 l5 = 0;
-    u64 l6 = 0;
-    u64 l7 = 0;
-    u64 l8 = 0;
-    u64 l9 = 0;
-    u64 l10 = 0;
-    u32 l11 = 0;
-    u32 l12 = 0;
-    u32 l13 = 0;
-    u32 l14 = 0;
-    u32 l15 = 0;
-    l4 = e->stack_pointer - 16ull;
-    e->stack_pointer = l4;
-    l10 = l4;
-    if ((i64)(l10 - e->stack) >= (i64)16ull) {
-        const u32 t2 = load32(l1 + 20ull);
-        l14 = t2;
-        l11 = l14;
-        const u64 t3 = l0;
-        u32 v4;
-        {
-            L5:;
-            {
-                const u64 t6 = load64(l3);
-                l9 = t6;
-                l8 = 0ull;
-                {
-                    {
-                        {
-                            const u32 t10 = load32(l1 + 8ull);
-                            const u32 t11 = load32(l1 + 16ull);
-                            l12 = l11 + t11;
-                            const u32 t12 = load32(l1 + 24ull);
-                            l13 = l12 + t12;
-                            l4 = (u64)(t10 - l13);
-                            const u64 t13 = load64(l3 + 8u);
-                            l7 = t13;
-                            l7 = (l4 < l7) ? l4 : l7;
-                            if (l7 < 16ull) {
-                                l6 = 0ull;
-                                goto L9;
-                            }
-                            l6 = l7 & 4294967280ull;
-                            l5 = 0ull;
-                            L15:;
-                            {
-                                l11 = l2 & 255u;
-                                l4 = l5 + l9;
-                                const u32 t16 = load8(l4);
-                                if (l11 == t16) {
-                                    l6 = l5;
-                                    goto L8;
-                                }
-                                const u32 t18 = load8(l4 + 1ull);
-                                if (l11 == t18) {
-                                    l6 = l5;
-                                    goto L8;
-                                }
-                                l11 = l2 & 255u;
-                                const u32 t20 = load8(l4 + 2ull);
-                                if (l11 == t20) {
-                                    l6 = l5;
-                                    goto L8;
-                                }
-                                const u32 t22 = load8(l4 + 3ull);
-                                if (l11 == t22) {
-                                    l6 = l5;
-                                    goto L8;
-                                }
-                                l11 = l2 & 255u;
-                                const u32 t24 = load8(l4 + 4ull);
-                                if (l11 == t24) {
-                                    l6 = l5;
-                                    goto L8;
-                                }
-                                const u32 t26 = load8(l4 + 5ull);
-                                if (l11 == t26) {
-                                    l6 = l5;
-                                    goto L8;
-                                }
-                                l11 = l2 & 255u;
-                                const u32 t28 = load8(l4 + 6ull);
-                                if (l11 == t28) {
-                                    l6 = l5;
-                                    goto L8;
-                                }
-                                const u32 t30 = load8(l4 + 7ull);
-                                if (l11 == t30) {
-                                    l6 = l5;
-                                    goto L8;
-                                }
-                                l11 = l2 & 255u;
-                                const u32 t32 = load8(l4 + 8ull);
-                                if (l11 == t32) {
-                                    l6 = l5;
-                                    goto L8;
-                                }
-                                const u32 t34 = load8(l4 + 9ull);
-                                if (l11 == t34) {
-                                    l6 = l5;
-                                    goto L8;
-                                }
-                                l11 = l2 & 255u;
-                                const u32 t36 = load8(l4 + 10ull);
-                                if (l11 == t36) {
-                                    l6 = l5;
-                                    goto L8;
-                                }
-                                const u32 t38 = load8(l4 + 11ull);
-                                if (l11 == t38) {
-                                    l6 = l5;
-                                    goto L8;
-                                }
-                                l11 = l2 & 255u;
-                                const u32 t40 = load8(l4 + 12ull);
-                                if (l11 == t40) {
-                                    l6 = l5;
-                                    goto L8;
-                                }
-                                const u32 t42 = load8(l4 + 13ull);
-                                if (l11 == t42) {
-                                    l6 = l5;
-                                    goto L8;
-                                }
-                                l11 = l2 & 255u;
-                                const u32 t44 = load8(l4 + 14ull);
-                                if (l11 == t44) {
-                                    l6 = l5;
-                                    goto L8;
-                                }
-                                const u32 t46 = load8(l4 + 15ull);
-                                if (l11 == t46) {
-                                    l6 = l5;
-                                    goto L8;
-                                }
-                                l5 = l5 + 16ull;
-                                l7 = l7 - 16ull;
-                                if (l7 > 15ull) goto L15;
-                            }
-                        }
-                        L9:;
-                        if (l7 == 0) goto L7;
-                    }
-                    L8:;
-                    l4 = l6 + l9;
-                    L48:;
-                    {
-                        const u32 t49 = load8(l4 + l8);
-                        if (t49 == (l2 & 255u)) goto L7;
-                        l8 = l8 + 1ull;
-                        if (l7 != l8) goto L48;
-                    }
-                    l8 = l7;
-                }
-                L7:;
-                l4 = l6 + l8;
-                l11 = (u32)l4;
-                const u32 t50 = load32(l1 + 28ull);
-                if (l11 > (t50 - l13)) {
-                    space_space_Space_move_active(e, l1, 0u);
-                    const u32 t52 = load32(l1 + 20ull);
-                    const u32 t53 = load32(l1 + 16ull);
-                    l12 = t52 + t53;
-                }
-                const u64 t54 = load64(l1);
-                space_space_write_bytes(e, t54 + ((u64)l12 << 3), l9, l4);
-                l7 = l1 + 20ull;
-                const u32 t55 = load32(l7);
-                store32(l7, t55 + l11);
-                const u64 t56 = load64(l3 + 8u);
-                l5 = t56;
-                l9 = l5 - l4;
-                store64(l3 + 8u, l9);
-                const u64 t57 = load64(l3);
-                l8 = t57 + l4;
-                store64(l3, l8);
-                {
-                    {
-                        const u32 t60 = load8(l3 + 17ull);
-                        if (t60 == 0) {
-                            if (l4 != l5) goto L59;
-                            const u32 t62 = load8(l3 + 16ull);
-                            if (t62) goto L58;
-                            store8(l3 + 17ull, (u8)1u);
-                        }
-                        const u32 t63 = load32(l7);
-                        l2 = t63 == l14;
-                        v4 = l2 ? 4u : 1u; goto L4;
-                    }
-                    L59:;
-                    store64(l3 + 8u, l9 - 1ull);
-                    store64(l3, l8 + 1ull);
-                    const u32 t64 = load8(l8);
-                    l11 = t64;
-                    if (l11 == (l2 & 255u)) {
-                        l2 = 0u;
-                        v4 = 1u; goto L4;
-                    }
-                    store64(l10 + 8u, 0ull);
-                    store8(l10 + 9u, (u8)l11);
-                    const u32 t66 = load32(l1 + 28ull);
-                    l4 = l1 + 20ull;
-                    const u32 t67 = load32(l4);
-                    l12 = t67;
-                    const u32 t68 = load32(l1 + 16ull);
-                    l13 = l12 + t68;
-                    const u32 t69 = load32(l1 + 24ull);
-                    if (t66 == (l13 + t69)) {
-                        const u32 t71 = space_space_Space_push_in_way(e, l1, l10 + 8ull);
-                        if (t71 == 0) {
-                            l2 = 0u;
-                            v4 = 0u; goto L4;
-                        }
-                        const u32 t73 = load32(l1 + 20ull);
-                        l11 = t73;
-                        goto L5;
-                    }
-                    l7 = l1 + 32ull;
-                    const u32 t74 = load32(l7);
-                    l15 = t74;
-                    const u64 t75 = load64(l1);
-                    l8 = t75 + ((u64)l13 << 3);
-                    store8(l8, (u8)0u);
-                    store32(l8 + 4ull, 0u);
-                    store8(l8 + 1ull, (u8)l11);
-                    l11 = l12 + 1u;
-                    store32(l4, l11);
-                    store32(l7, l15);
-                    goto L5;
-                }
-                L58:;
-            }
-            l4 = l3 + 24ull;
-            const u64 t76 = load64(l4);
-            store64(l4, t76 + 1ull);
-            l2 = 4u;
-            v4 = 4u;
-        }
-        L4:;
-        store8(t3, (u8)v4);
-        store32(l0 + 4ull, 0u);
-        store8(l0 + 1ull, (u8)l2);
-        e->stack_pointer = l10 + 16ull;
-        return;
-    }
-    trap();
-}
-
 static void store_fill_load_items_in_way(struct engine *e, u64 l0, u64 l1, u32 l2, u32 l3) {
     u64 l4 = 0;
     u64 l5 = 0;
@@ -11856,6 +11566,174 @@ static u32 forms_work_Work_fill_body(struct engine *e, u64 l0, u32 l1, u32 l2, u
     return l1;
 }
 
+static void forms_work_Work_stored(struct engine *e, u64 l0, u64 l1, u32 l2) {
+    u32 l3 = 0;
+    u32 l4 = 0;
+    u32 l5 = 0;
+    u32 l6 = 0;
+    u32 l7 = 0;
+    u32 l8 = 0;
+    u64 l9 = 0;
+    u64 l10 = 0;
+    if ((i64)(e->stack_pointer - e->stack) >= (i64)16ull) {
+        const u32 t2 = load32(l1 + 48ull);
+        l3 = t2;
+        {
+            const u32 t4 = load32(l1 + 44ull);
+            l4 = t4;
+            if (l2 == l4) goto L3;
+            if (l2 > l4) {
+                l6 = l2 - l4;
+                const u32 t6 = load32(l1 + 16ull);
+                l5 = t6;
+                L7:;
+                {
+                    l2 = 3u;
+                    if (l3 < l5) {
+                        const u64 t9 = load64(l1);
+                        l9 = t9 + ((u64)l3 << 3);
+                        const u32 t10 = load32(l9 + 4ull);
+                        const u32 t11 = load8(l9);
+                        l2 = (t11 == 4u) ? (t10 + 3u) : 3u;
+                    }
+                    l4 = 0u;
+                    l7 = l3 + 1u;
+                    u32 v12;
+                    if (l5 > l7) {
+                        const u64 t13 = load64(l1);
+                        l9 = t13 + ((u64)l7 << 3);
+                        const u32 t14 = load32(l9 + 4ull);
+                        const u32 t15 = load8(l9);
+                        v12 = (t15 == 4u) ? t14 : 0u;
+                    } else {
+                        v12 = l4;
+                    }
+                    l3 = v12 + (l2 + l3);
+                    l6 = l6 - 1u;
+                    if (l6) goto L7;
+                }
+                goto L3;
+            }
+            if (l2 == 0) {
+                l3 = 0u;
+                goto L3;
+            }
+            const u32 t17 = load32(l1 + 16ull);
+            l5 = t17;
+            l3 = 0u;
+            L18:;
+            {
+                l4 = 3u;
+                if (l3 < l5) {
+                    const u64 t20 = load64(l1);
+                    l9 = t20 + ((u64)l3 << 3);
+                    const u32 t21 = load32(l9 + 4ull);
+                    const u32 t22 = load8(l9);
+                    l4 = (t22 == 4u) ? (t21 + 3u) : 3u;
+                }
+                l7 = l3 + 1u;
+                u32 v23;
+                if (l5 > l7) {
+                    const u64 t24 = load64(l1);
+                    l9 = t24 + ((u64)l7 << 3);
+                    const u32 t25 = load32(l9 + 4ull);
+                    const u32 t26 = load8(l9);
+                    v23 = (t26 == 4u) ? t25 : 0u;
+                } else {
+                    v23 = l6;
+                }
+                l3 = v23 + (l3 + l4);
+                l2 = l2 - 1u;
+                if (l2) goto L18;
+            }
+        }
+        L3:;
+        const u64 t27 = load64(l1);
+        l9 = t27;
+        l1 = l9 + ((u64)l3 << 3);
+        const u32 t28 = load32(l1 + 12ull);
+        l2 = t28;
+        const u32 t29 = load8(l1 + 8u);
+        l4 = t29;
+        const u32 t30 = load32(l1 + 4ull);
+        l6 = t30;
+        const u32 t31 = load8(l1);
+        l5 = t31;
+        const u32 t32 = load32(l1 + 20ull);
+        l7 = t32;
+        const u32 t33 = load8(l1 + 16u);
+        l8 = t33;
+        store32(l0 + 36u, 0u);
+        l3 = l3 + 3u;
+        l10 = (u64)l3;
+        store64(l0, l9 + (l10 << 3));
+        store32(l0 + 32u, (l8 == 4u) ? l7 : 0u);
+        l3 = ((l5 == 4u) ? l6 : 0u) + l3;
+        l1 = (u64)l3;
+        store64(l0 + 8u, l1 - l10);
+        store64(l0 + 24u, (u64)((((l4 == 4u) ? l2 : 0u) + l3)) - l1);
+        store64(l0 + 16u, l9 + (l1 << 3));
+        return;
+    }
+    trap();
+}
+
+static u32 core_display_show_form(struct engine *e, u64 l0, u64 l1) {
+    u64 l2 = 0;
+    u64 l3 = 0;
+    u64 l4 = 0;
+    u64 l5 = 0;
+    u32 l6 = 0;
+    l4 = e->stack_pointer;
+    if ((i64)(l4 - e->stack) >= (i64)16ull) {
+        const u32 t2 = load32(l0 + 32ull);
+        l6 = t2;
+        const u32 t3 = core_display_show_items(e, l0, 0u, l6, l1);
+        if ((t3 & 255u) == 0) {
+            {
+                l3 = l1 + 16ull;
+                const u64 t6 = load64(l3);
+                l2 = t6;
+                l5 = l1 + 8ull;
+                const u64 t7 = load64(l5);
+                if (l2 >= t7) goto L5;
+                const u64 t8 = load64(l1);
+                store8(t8 + l2, (u8)60u);
+                const u64 t9 = load64(l3);
+                l2 = t9 + 1ull;
+                store64(l3, l2);
+                const u64 t10 = load64(l5);
+                if (l2 >= t10) goto L5;
+                const u64 t11 = load64(l1);
+                store8(t11 + l2, (u8)94u);
+                l3 = l1 + 16ull;
+                const u64 t12 = load64(l3);
+                l2 = t12 + 1ull;
+                store64(l3, l2);
+                const u64 t13 = load64(l1 + 8ull);
+                if (l2 >= t13) goto L5;
+                const u64 t14 = load64(l1);
+                store8(t14 + l2, (u8)62u);
+                const u64 t15 = load64(l3);
+                store64(l3, t15 + 1ull);
+                const u32 t16 = load32(l0 + 24ull);
+                const u32 t17 = core_display_show_items(e, l0, l6, t16, l1);
+                l6 = t17;
+                e->stack_pointer = l4;
+                return l6 & 255u;
+            }
+            L5:;
+            l1 = l1 + 24ull;
+            const u64 t18 = load64(l1);
+            store64(l1, t18 + 1ull);
+        }
+        e->stack_pointer = l4;
+        return 1u;
+    }
+    trap();
+    return 0;
+}
+
 static void core_delivery_deliver(struct engine *e, u64 l0, u32 l1, u32 l2) {
     u64 l3 = 0;
     u64 l4 = 0;
@@ -12945,174 +12823,6 @@ static void space_space_Space_move_active(struct engine *e, u64 l0, u32 l1) {
         return;
     }
     trap();
-}
-
-static void forms_work_Work_stored(struct engine *e, u64 l0, u64 l1, u32 l2) {
-    u32 l3 = 0;
-    u32 l4 = 0;
-    u32 l5 = 0;
-    u32 l6 = 0;
-    u32 l7 = 0;
-    u32 l8 = 0;
-    u64 l9 = 0;
-    u64 l10 = 0;
-    if ((i64)(e->stack_pointer - e->stack) >= (i64)16ull) {
-        const u32 t2 = load32(l1 + 48ull);
-        l3 = t2;
-        {
-            const u32 t4 = load32(l1 + 44ull);
-            l4 = t4;
-            if (l2 == l4) goto L3;
-            if (l2 > l4) {
-                l6 = l2 - l4;
-                const u32 t6 = load32(l1 + 16ull);
-                l5 = t6;
-                L7:;
-                {
-                    l2 = 3u;
-                    if (l3 < l5) {
-                        const u64 t9 = load64(l1);
-                        l9 = t9 + ((u64)l3 << 3);
-                        const u32 t10 = load32(l9 + 4ull);
-                        const u32 t11 = load8(l9);
-                        l2 = (t11 == 4u) ? (t10 + 3u) : 3u;
-                    }
-                    l4 = 0u;
-                    l7 = l3 + 1u;
-                    u32 v12;
-                    if (l5 > l7) {
-                        const u64 t13 = load64(l1);
-                        l9 = t13 + ((u64)l7 << 3);
-                        const u32 t14 = load32(l9 + 4ull);
-                        const u32 t15 = load8(l9);
-                        v12 = (t15 == 4u) ? t14 : 0u;
-                    } else {
-                        v12 = l4;
-                    }
-                    l3 = v12 + (l2 + l3);
-                    l6 = l6 - 1u;
-                    if (l6) goto L7;
-                }
-                goto L3;
-            }
-            if (l2 == 0) {
-                l3 = 0u;
-                goto L3;
-            }
-            const u32 t17 = load32(l1 + 16ull);
-            l5 = t17;
-            l3 = 0u;
-            L18:;
-            {
-                l4 = 3u;
-                if (l3 < l5) {
-                    const u64 t20 = load64(l1);
-                    l9 = t20 + ((u64)l3 << 3);
-                    const u32 t21 = load32(l9 + 4ull);
-                    const u32 t22 = load8(l9);
-                    l4 = (t22 == 4u) ? (t21 + 3u) : 3u;
-                }
-                l7 = l3 + 1u;
-                u32 v23;
-                if (l5 > l7) {
-                    const u64 t24 = load64(l1);
-                    l9 = t24 + ((u64)l7 << 3);
-                    const u32 t25 = load32(l9 + 4ull);
-                    const u32 t26 = load8(l9);
-                    v23 = (t26 == 4u) ? t25 : 0u;
-                } else {
-                    v23 = l6;
-                }
-                l3 = v23 + (l3 + l4);
-                l2 = l2 - 1u;
-                if (l2) goto L18;
-            }
-        }
-        L3:;
-        const u64 t27 = load64(l1);
-        l9 = t27;
-        l1 = l9 + ((u64)l3 << 3);
-        const u32 t28 = load32(l1 + 12ull);
-        l2 = t28;
-        const u32 t29 = load8(l1 + 8u);
-        l4 = t29;
-        const u32 t30 = load32(l1 + 4ull);
-        l6 = t30;
-        const u32 t31 = load8(l1);
-        l5 = t31;
-        const u32 t32 = load32(l1 + 20ull);
-        l7 = t32;
-        const u32 t33 = load8(l1 + 16u);
-        l8 = t33;
-        store32(l0 + 36u, 0u);
-        l3 = l3 + 3u;
-        l10 = (u64)l3;
-        store64(l0, l9 + (l10 << 3));
-        store32(l0 + 32u, (l8 == 4u) ? l7 : 0u);
-        l3 = ((l5 == 4u) ? l6 : 0u) + l3;
-        l1 = (u64)l3;
-        store64(l0 + 8u, l1 - l10);
-        store64(l0 + 24u, (u64)((((l4 == 4u) ? l2 : 0u) + l3)) - l1);
-        store64(l0 + 16u, l9 + (l1 << 3));
-        return;
-    }
-    trap();
-}
-
-static u32 core_display_show_form(struct engine *e, u64 l0, u64 l1) {
-    u64 l2 = 0;
-    u64 l3 = 0;
-    u64 l4 = 0;
-    u64 l5 = 0;
-    u32 l6 = 0;
-    l4 = e->stack_pointer;
-    if ((i64)(l4 - e->stack) >= (i64)16ull) {
-        const u32 t2 = load32(l0 + 32ull);
-        l6 = t2;
-        const u32 t3 = core_display_show_items(e, l0, 0u, l6, l1);
-        if ((t3 & 255u) == 0) {
-            {
-                l3 = l1 + 16ull;
-                const u64 t6 = load64(l3);
-                l2 = t6;
-                l5 = l1 + 8ull;
-                const u64 t7 = load64(l5);
-                if (l2 >= t7) goto L5;
-                const u64 t8 = load64(l1);
-                store8(t8 + l2, (u8)60u);
-                const u64 t9 = load64(l3);
-                l2 = t9 + 1ull;
-                store64(l3, l2);
-                const u64 t10 = load64(l5);
-                if (l2 >= t10) goto L5;
-                const u64 t11 = load64(l1);
-                store8(t11 + l2, (u8)94u);
-                l3 = l1 + 16ull;
-                const u64 t12 = load64(l3);
-                l2 = t12 + 1ull;
-                store64(l3, l2);
-                const u64 t13 = load64(l1 + 8ull);
-                if (l2 >= t13) goto L5;
-                const u64 t14 = load64(l1);
-                store8(t14 + l2, (u8)62u);
-                const u64 t15 = load64(l3);
-                store64(l3, t15 + 1ull);
-                const u32 t16 = load32(l0 + 24ull);
-                const u32 t17 = core_display_show_items(e, l0, l6, t16, l1);
-                l6 = t17;
-                e->stack_pointer = l4;
-                return l6 & 255u;
-            }
-            L5:;
-            l1 = l1 + 24ull;
-            const u64 t18 = load64(l1);
-            store64(l1, t18 + 1ull);
-        }
-        e->stack_pointer = l4;
-        return 1u;
-    }
-    trap();
-    return 0;
 }
 
 static void store_index_index_worthwhile(struct engine *e, u64 l0, u32 l1, u64 l2) {
@@ -17062,209 +16772,385 @@ static void forms_work_Work_form(struct engine *e, u64 l0, u64 l1, u32 l2) {
     trap();
 }
 
-static u32 core_machine_Machine_prints(struct engine *e, u64 l0) {
-    u64 l1 = 0;
+static u32 core_machine_printing_call_len(struct engine *e, u64 l0, u32 l1) {
     u64 l2 = 0;
     u64 l3 = 0;
     u64 l4 = 0;
     u64 l5 = 0;
     u64 l6 = 0;
-    u32 l7 = 0;
+    u64 l7 = 0;
     u32 l8 = 0;
     u32 l9 = 0;
     u32 l10 = 0;
     u32 l11 = 0;
-    l1 = e->stack_pointer - 176ull;
-    e->stack_pointer = l1;
-    if ((i64)(l1 - e->stack) >= (i64)16ull) {
+    l2 = e->stack_pointer - 176ull;
+    e->stack_pointer = l2;
+    if ((i64)(l2 - e->stack) >= (i64)16ull) {
+        store8(l2 + 72u, (u8)0u);
+        store64(l2 + 64u, 0ull);
+        store64(l2 + 56u, 0ull);
+        store32(l2 + 148u, 0u);
+        store32(l2 + 136u, l1 + 1u);
+        const u32 t2 = load32(l0 + 20ull);
+        l1 = t2;
+        store32(l2 + 144u, l1);
+        store32(l2 + 140u, l1);
+        functions_arguments_Arguments_next(e, l2 + 48ull, l2 + 136ull, l0);
+        const u32 t3 = load32(l0 + 16ull);
+        l1 = t3;
+        const u64 t4 = load64(l0);
+        l3 = t4;
+        const u32 t5 = load32(l2 + 52u);
+        l9 = t5;
+        const u32 t6 = load32(l2 + 48u);
+        l10 = t6;
+        store8(l2 + 98u, (u8)0u);
+        store16(l2 + 96u, (u16)0u);
         {
-            const u32 t3 = load8(l0 + 84ull);
-            if (t3 == 1u) goto L2;
-            const u64 t4 = load64(l0 + 72ull);
-            const u64 t5 = load64(l0 + 64ull);
-            if (t4 == t5) goto L2;
-            const u32 t6 = load32(l0 + 24ull);
-            l7 = t6;
-            if (l7 == 0) goto L2;
-            const u64 t7 = load64(l0);
-            l2 = t7;
-            const u32 t8 = load32(l0 + 28ull);
-            const u32 t9 = load8((l2 + ((u64)(t8 - l7) << 3)) + 1ull);
-            if (t9 != 41u) goto L2;
-            const u32 t10 = load32(l0 + 32ull);
-            l7 = t10;
-            if (l7 == 0) goto L2;
-            store8(l1 + 72u, (u8)0u);
-            store64(l1 + 64u, 0ull);
-            store64(l1 + 56u, 0ull);
-            store32(l1 + 148u, 0u);
-            store32(l1 + 136u, l7);
-            const u32 t11 = load32(l0 + 20ull);
-            l7 = t11;
-            store32(l1 + 144u, l7);
-            store32(l1 + 140u, l7);
-            functions_arguments_Arguments_next(e, l1 + 48ull, l1 + 136ull, l0);
-            const u32 t12 = load32(l0 + 16ull);
-            l7 = t12;
-            const u32 t13 = load32(l1 + 52u);
-            l9 = t13;
-            const u32 t14 = load32(l1 + 48u);
-            l10 = t14;
-            store8(l1 + 98u, (u8)0u);
-            store16(l1 + 96u, (u16)0u);
-            l3 = (u64)(l7 + l10);
-            if (((u64)(l7 + l9) - l3) == 2ull) {
-                l3 = l2 + (l3 << 3);
-                functions_function_function_of(e, l1 + 96ull, l3, l3 + 8ull);
-                const u64 t16 = load64(l1 + 136u);
-                l3 = t16;
-                store64(l1 + 57u, l3);
-                const u64 t17 = load64(l1 + 144u);
-                l4 = t17;
-                store64(l1 + 65u, l4);
-                store64(l1 + 80u, l3);
-                store64(l1 + 88u, l4);
-                const u32 t18 = load8(l1 + 97u);
-                l10 = t18;
-                const u32 t19 = load8(l1 + 96u);
-                l9 = t19;
-                functions_arguments_Arguments_next(e, l1 + 32ull, l1 + 80ull, l0);
-                if (l9 == 0) goto L2;
-                const u32 t20 = load32(l1 + 36u);
-                l9 = t20;
-                const u32 t21 = load32(l1 + 32u);
-                l11 = t21;
-                if ((1u << (l10 & 31)) & 33553399u) goto L2;
+            l4 = (u64)(l1 + l10);
+            if (((u64)(l1 + l9) - l4) == 2ull) {
+                l4 = l3 + (l4 << 3);
+                functions_function_function_of(e, l2 + 96ull, l4, l4 + 8ull);
+                const u64 t9 = load64(l2 + 136u);
+                l4 = t9;
+                store64(l2 + 57u, l4);
+                const u64 t10 = load64(l2 + 144u);
+                l5 = t10;
+                store64(l2 + 65u, l5);
+                store64(l2 + 80u, l4);
+                store64(l2 + 88u, l5);
+                const u32 t11 = load8(l2 + 97u);
+                l10 = t11;
+                const u32 t12 = load8(l2 + 96u);
+                l9 = t12;
+                functions_arguments_Arguments_next(e, l2 + 32ull, l2 + 80ull, l0);
+                if (l9 == 0) goto L7;
+                const u32 t13 = load32(l2 + 36u);
+                l9 = t13;
+                const u32 t14 = load32(l2 + 32u);
+                l11 = t14;
+                if ((1u << (l10 & 31)) & 33553399u) goto L7;
                 if (l10 == 3u) {
                     l8 = l9 - l11;
-                    goto L2;
+                    goto L7;
                 }
-                store64(l1 + 128u, 0ull);
-                store64(l1 + 120u, 0ull);
-                store64(l1 + 112u, 0ull);
-                store64(l1 + 104u, 0ull);
-                store64(l1 + 96u, 0ull);
+                store64(l2 + 128u, 0ull);
+                store64(l2 + 120u, 0ull);
+                store64(l2 + 112u, 0ull);
+                store64(l2 + 104u, 0ull);
+                store64(l2 + 96u, 0ull);
                 {
                     {
-                        u32 v25;
+                        u32 v18;
                         {
-                            const u32 t26 = load32(l0 + 40ull);
-                            l8 = t26;
+                            const u32 t19 = load32(l0 + 40ull);
+                            l8 = t19;
                             if (l8 >= 8u) {
-                                forms_work_Work_find_among_more(e, l1 + 16ull, l0, l11, l9);
-                                const u32 t28 = load8(l1 + 16u);
-                                l8 = t28;
-                                const u32 t29 = load32(l1 + 20u);
-                                v25 = t29; goto L25;
+                                forms_work_Work_find_among_more(e, l2 + 16ull, l0, l11, l9);
+                                const u32 t21 = load32(l2 + 20u);
+                                l8 = t21;
+                                const u32 t22 = load8(l2 + 16u);
+                                v18 = t22; goto L18;
                             }
                             {
-                                if (l8 == 0) goto L30;
-                                const u64 t31 = load32(l2 + 4ull);
-                                l4 = (u64)(l7 + l9);
-                                l3 = (u64)(l7 + l11);
-                                if (t31 != (l4 - l3)) goto L30;
-                                l5 = 17ull - (l3 << 3);
-                                l3 = (l4 ^ 18446744073709551615ull) + l3;
-                                l2 = l2 + (l4 << 3);
-                                L32:;
+                                if (l8 == 0) goto L23;
+                                const u64 t24 = load32(l3 + 4ull);
+                                l5 = (u64)(l1 + l9);
+                                l4 = (u64)(l1 + l11);
+                                if (t24 != (l5 - l4)) goto L23;
+                                l6 = 17ull - (l4 << 3);
+                                l4 = (l5 ^ 18446744073709551615ull) + l4;
+                                l3 = l3 + (l5 << 3);
+                                L25:;
                                 {
-                                    l3 = l3 + 1ull;
-                                    if (l3 == 0) goto L24;
-                                    l4 = l2 - 7ull;
-                                    l6 = l2 + l5;
-                                    l2 = l2 - 8ull;
-                                    const u32 t33 = load8(l6);
-                                    const u32 t34 = load8(l4);
-                                    if (t33 == t34) goto L32;
+                                    l4 = l4 + 1ull;
+                                    if (l4 == 0) goto L17;
+                                    l5 = l3 - 7ull;
+                                    l7 = l3 + l6;
+                                    l3 = l3 - 8ull;
+                                    const u32 t26 = load8(l7);
+                                    const u32 t27 = load8(l5);
+                                    if (t26 == t27) goto L25;
                                 }
                             }
-                            L30:;
-                            forms_work_Work_find_among_few(e, l1 + 24ull, l0, l11, l9);
-                            const u32 t35 = load8(l1 + 24u);
-                            l8 = t35;
-                            const u32 t36 = load32(l1 + 28u);
-                            v25 = t36;
+                            L23:;
+                            forms_work_Work_find_among_few(e, l2 + 24ull, l0, l11, l9);
+                            const u32 t28 = load32(l2 + 28u);
+                            l8 = t28;
+                            const u32 t29 = load8(l2 + 24u);
+                            v18 = t29;
                         }
-                        L25:;
-                        l7 = v25;
-                        if ((l8 & 255u) == 1u) goto L23;
+                        L18:;
+                        if ((v18 & 255u) == 1u) goto L16;
                         l8 = 0u;
-                        goto L2;
+                        goto L7;
                     }
-                    L24:;
+                    L17:;
                     store64(l0 + 44ull, 0ull);
-                    l7 = 0u;
+                    l8 = 0u;
                 }
-                L23:;
-                forms_work_Work_stored(e, l1 + 96ull, l0, l7);
-                const u64 t37 = load64(l1 + 120u);
-                l3 = t37;
-                l4 = l3 & 4294967295ull;
-                if (l4 == 0) {
+                L16:;
+                forms_work_Work_stored(e, l2 + 96ull, l0, l8);
+                const u64 t30 = load64(l2 + 120u);
+                l4 = t30;
+                l5 = l4 & 4294967295ull;
+                if (l5 == 0) {
                     l8 = 3u;
-                    goto L2;
+                    goto L7;
                 }
-                const u64 t39 = load64(l1 + 112u);
-                l2 = t39;
+                const u64 t32 = load64(l2 + 112u);
+                l3 = t32;
                 l8 = 3u;
                 l0 = 0ull;
-                L40:;
+                L33:;
                 {
-                    u32 v41;
+                    u32 v34;
                     {
                         {
                             {
                                 {
-                                    if (l0 < l3) {
-                                        l7 = 0u;
-                                        const u64 t46 = load8(l2);
-                                        switch ((u32)t46 - 1u) {
-                                        case 0: goto L42;
-                                        case 1: goto L42;
-                                        case 2: goto L43;
-                                        case 3: goto L42;
-                                        default: goto L44;
+                                    if (l0 < l4) {
+                                        l1 = 0u;
+                                        const u64 t39 = load8(l3);
+                                        switch ((u32)t39 - 1u) {
+                                        case 0: goto L35;
+                                        case 1: goto L35;
+                                        case 2: goto L36;
+                                        case 3: goto L35;
+                                        default: goto L37;
                                         }
                                     }
-                                    v41 = 0u; goto L41;
+                                    v34 = 0u; goto L34;
                                 }
-                                L44:;
-                                v41 = 1u; goto L41;
+                                L37:;
+                                v34 = 1u; goto L34;
                             }
-                            L43:;
-                            const u32 t47 = load32(l2 + 4ull);
-                            l7 = t47;
+                            L36:;
+                            const u32 t40 = load32(l3 + 4ull);
+                            l1 = t40;
                         }
-                        L42:;
-                        itoa_Buffer_format(e, l1, l1 + 136ull, l7);
-                        const u32 t48 = load32(l1 + 8u);
-                        v41 = t48 + 2u;
+                        L35:;
+                        itoa_Buffer_format(e, l2, l2 + 136ull, l1);
+                        const u32 t41 = load32(l2 + 8u);
+                        v34 = t41 + 2u;
                     }
-                    L41:;
-                    l7 = v41;
-                    l2 = l2 + 8ull;
-                    l8 = l7 + l8;
+                    L34:;
+                    l1 = v34;
+                    l3 = l3 + 8ull;
+                    l8 = l1 + l8;
                     l0 = l0 + 1ull;
-                    if (l4 != l0) goto L40;
+                    if (l5 != l0) goto L33;
                 }
-                goto L2;
+                goto L7;
             }
-            const u64 t49 = load64(l1 + 136u);
-            l2 = t49;
-            store64(l1 + 57u, l2);
-            const u64 t50 = load64(l1 + 144u);
-            l3 = t50;
-            store64(l1 + 65u, l3);
-            store64(l1 + 80u, l2);
-            store64(l1 + 88u, l3);
-            functions_arguments_Arguments_next(e, l1 + 40ull, l1 + 80ull, l0);
+            const u64 t42 = load64(l2 + 136u);
+            l3 = t42;
+            store64(l2 + 57u, l3);
+            const u64 t43 = load64(l2 + 144u);
+            l4 = t43;
+            store64(l2 + 65u, l4);
+            store64(l2 + 80u, l3);
+            store64(l2 + 88u, l4);
+            functions_arguments_Arguments_next(e, l2 + 40ull, l2 + 80ull, l0);
         }
-        L2:;
-        e->stack_pointer = l1 + 176ull;
+        L7:;
+        e->stack_pointer = l2 + 176ull;
         return l8;
     }
     trap();
     return 0;
+}
+
+static u32 core_display_show_items2(struct engine *e, u64 l0, u32 l1, u32 l2, u64 l3) {
+    u64 l4 = 0;
+    u64 l5 = 0;
+    u64 l6 = 0;
+    u64 l7 = 0;
+    u64 l8 = 0;
+    u64 l9 = 0;
+    u64 l10 = 0;
+    u64 l11 = 0;
+    l4 = e->stack_pointer - 64ull;
+    e->stack_pointer = l4;
+    {
+        {
+            {
+                l6 = l4;
+                if ((i64)(l6 - e->stack) >= (i64)16ull) {
+                    if (l1 < l2) {
+                        l10 = (u64)l2;
+                        l8 = (u64)l1;
+                        L6:;
+                        {
+                            {
+                                const u64 t8 = load64(l0 + 24ull);
+                                if (t8 <= l8) goto L7;
+                                l2 = 0u;
+                                {
+                                    {
+                                        {
+                                            const u64 t12 = load64(l0 + 16ull);
+                                            l4 = t12 + (l8 << 3);
+                                            const u64 t13 = load8(l4);
+                                            switch ((u32)t13 - 1u) {
+                                            case 0: goto L9;
+                                            case 1: goto L9;
+                                            case 2: goto L10;
+                                            case 3: goto L9;
+                                            default: goto L11;
+                                            }
+                                        }
+                                        L11:;
+                                        const u32 t14 = load8(l4 + 1ull);
+                                        l2 = t14;
+                                        l4 = l3 + 16ull;
+                                        const u64 t15 = load64(l4);
+                                        l5 = t15;
+                                        const u64 t16 = load64(l3 + 8ull);
+                                        if (l5 < t16) {
+                                            const u64 t18 = load64(l3);
+                                            store8(t18 + l5, (u8)l2);
+                                            const u64 t19 = load64(l4);
+                                            store64(l4, t19 + 1ull);
+                                            goto L7;
+                                        }
+                                        l1 = 1u;
+                                        l4 = l3 + 24ull;
+                                        const u32 t20 = load8(l4);
+                                        if (t20 == 1u) {
+                                            l3 = l3 + 32ull;
+                                            const u64 t22 = load64(l3);
+                                            store64(l3, t22 + 1ull);
+                                            goto L1;
+                                        }
+                                        store8(l3 + 25ull, (u8)l2);
+                                        store8(l4, (u8)1u);
+                                        goto L7;
+                                    }
+                                    L10:;
+                                    const u32 t23 = load32(l4 + 4ull);
+                                    l2 = t23;
+                                }
+                                L9:;
+                                store64(l6 + 56u, 0ull);
+                                store64(l6 + 48u, 0ull);
+                                store64(l6 + 40u, 0ull);
+                                store64(l6 + 32u, 0ull);
+                                store64(l6 + 24u, 0ull);
+                                {
+                                    l4 = l3 + 16ull;
+                                    const u64 t25 = load64(l4);
+                                    l5 = t25;
+                                    const u64 t26 = load64(l3 + 8ull);
+                                    if (l5 >= t26) {
+                                        l1 = 1u;
+                                        l4 = l3 + 24ull;
+                                        const u32 t28 = load8(l4);
+                                        if (t28 == 1u) goto L3;
+                                        store16(l4, (u16)15361u);
+                                        goto L24;
+                                    }
+                                    const u64 t29 = load64(l3);
+                                    store8(t29 + l5, (u8)60u);
+                                    const u64 t30 = load64(l4);
+                                    l5 = t30 + 1ull;
+                                    store64(l4, l5);
+                                }
+                                L24:;
+                                itoa_Buffer_format(e, l6 + 8ull, l6 + 24ull, l2);
+                                const u64 t31 = load64(l3 + 8ull);
+                                l7 = t31;
+                                {
+                                    const u64 t33 = load64(l6 + 16u);
+                                    l9 = t33;
+                                    if (l9 == 0) goto L32;
+                                    const u64 t34 = load64(l6 + 8u);
+                                    l4 = t34;
+                                    if (l5 >= l7) {
+                                        l11 = l3 + 24ull;
+                                        const u32 t36 = load8(l11);
+                                        if (t36 == 1u) goto L2;
+                                        const u32 t37 = load8(l4);
+                                        store8(l3 + 25ull, (u8)t37);
+                                        store8(l11, (u8)1u);
+                                        if (l9 == 1ull) goto L32;
+                                        goto L2;
+                                    }
+                                    L38:;
+                                    {
+                                        const u32 t39 = load8(l4);
+                                        l2 = t39;
+                                        {
+                                            const u64 t41 = load64(l3 + 8ull);
+                                            if (t41 > l5) {
+                                                const u64 t43 = load64(l3);
+                                                store8(t43 + l5, (u8)l2);
+                                                l5 = l3 + 16ull;
+                                                const u64 t44 = load64(l5);
+                                                const u64 t45 = l5;
+                                                l5 = t44 + 1ull;
+                                                store64(t45, l5);
+                                                goto L40;
+                                            }
+                                            l7 = l3 + 24ull;
+                                            const u32 t46 = load8(l7);
+                                            if (t46 == 1u) goto L2;
+                                            store8(l3 + 25ull, (u8)l2);
+                                            store8(l7, (u8)1u);
+                                        }
+                                        L40:;
+                                        l4 = l4 + 1ull;
+                                        l9 = l9 - 1ull;
+                                        if ((l9 == 0) == 0) goto L38;
+                                    }
+                                    const u64 t47 = load64(l3 + 8ull);
+                                    l7 = t47;
+                                }
+                                L32:;
+                                if (l5 >= l7) {
+                                    l1 = 1u;
+                                    l4 = l3 + 24ull;
+                                    const u32 t49 = load8(l4);
+                                    if (t49 != 1u) {
+                                        store16(l4, (u16)15873u);
+                                        goto L7;
+                                    }
+                                    l3 = l3 + 32ull;
+                                    const u64 t51 = load64(l3);
+                                    store64(l3, t51 + 1ull);
+                                    goto L1;
+                                }
+                                const u64 t52 = load64(l3);
+                                store8(t52 + l5, (u8)62u);
+                                l4 = l3 + 16ull;
+                                const u64 t53 = load64(l4);
+                                store64(l4, t53 + 1ull);
+                            }
+                            L7:;
+                            l8 = l8 + 1ull;
+                            if (l8 != l10) goto L6;
+                        }
+                    }
+                    l1 = 0u;
+                    goto L1;
+                }
+                trap();
+            }
+            L3:;
+            l3 = l3 + 32ull;
+            const u64 t54 = load64(l3);
+            store64(l3, t54 + 1ull);
+            goto L1;
+        }
+        L2:;
+        l3 = l3 + 32ull;
+        const u64 t55 = load64(l3);
+        store64(l3, t55 + 1ull);
+        l1 = 1u;
+    }
+    L1:;
+    e->stack_pointer = l6 + 64ull;
+    return l1;
 }
 
 static u64 engine_active(struct engine *e, u64 l0, u64 l1, u64 l2) {
@@ -17708,7 +17594,7 @@ static void engine_run(struct engine *e, u64 l0, u64 l1, u64 l2, u64 l3, u64 l4,
     u64 l30 = 0;
     u64 l31 = 0;
     u64 l32 = 0;
-    u64 l33 = 0;
+    u32 l33 = 0;
     u32 l34 = 0;
     u32 l35 = 0;
     u32 l36 = 0;
@@ -17725,7 +17611,6 @@ static void engine_run(struct engine *e, u64 l0, u64 l1, u64 l2, u64 l3, u64 l4,
     u32 l47 = 0;
     u32 l48 = 0;
     u32 l49 = 0;
-    u32 l50 = 0;
     l8 = e->stack_pointer - 208ull;
     e->stack_pointer = l8;
     {
@@ -17806,296 +17691,281 @@ static void engine_run(struct engine *e, u64 l0, u64 l1, u64 l2, u64 l3, u64 l4,
                 store64(l10 + 160u, 0ull);
                 store64(l10 + 168u, 0ull);
                 store64(l10 + 176u, 0ull);
-                l14 = l10 + 160ull;
+                l16 = l10 + 160ull;
                 l9 = l10 + 72ull;
-                l18 = l10 + 128ull;
-                l12 = l10 + 184ull;
-                l13 = l10 + 40ull;
-                l19 = l10 + 8ull;
+                l20 = l10 + 128ull;
+                l14 = l10 + 184ull;
+                l12 = l10 + 40ull;
+                l15 = l10 + 8ull;
                 l7 = e->stack_pointer - 192ull;
                 e->stack_pointer = l7;
                 {
-                    {
-                        if ((i64)(l7 - e->stack) >= (i64)16ull) {
-                            const u64 t12 = load64(l12);
-                            l16 = t12;
-                            store64(l7 + 56u, 0ull);
-                            store64(l7 + 64u, 0ull);
-                            store32(l7 + 72u, 0u);
-                            const u32 t13 = load32(l9 + 20ull);
-                            l36 = t13;
-                            store32(l7 + 76u, l36);
-                            const u32 t14 = load32(l12 + 16u);
-                            l40 = t14;
-                            {
-                                const u64 t16 = load64(l12 + 8u);
-                                l12 = l16 - t16;
-                                if ((l12 == 0) == 0) {
-                                    const u32 t18 = load32(l9 + 24ull);
-                                    const u32 t19 = load32(l9 + 16ull);
-                                    l39 = t18 + (l36 + t19);
-                                    l20 = l7 + 109ull;
-                                    l21 = l7 + 93ull;
-                                    l22 = l7 + 157ull;
-                                    l23 = l7 + 141ull;
-                                    L20:;
+                    if ((i64)(l7 - e->stack) >= (i64)16ull) {
+                        const u64 t11 = load64(l14);
+                        l17 = t11;
+                        store64(l7 + 80u, 0ull);
+                        store64(l7 + 88u, 0ull);
+                        store32(l7 + 96u, 0u);
+                        const u32 t12 = load32(l9 + 20ull);
+                        l36 = t12;
+                        store32(l7 + 100u, l36);
+                        const u32 t13 = load32(l14 + 16u);
+                        l41 = t13;
+                        {
+                            const u64 t15 = load64(l14 + 8u);
+                            l14 = l17 - t15;
+                            if ((l14 == 0) == 0) {
+                                const u32 t17 = load32(l9 + 24ull);
+                                const u32 t18 = load32(l9 + 16ull);
+                                l39 = t17 + (l36 + t18);
+                                l18 = l7 + 141ull;
+                                l21 = l7 + 181ull;
+                                l22 = l7 + 125ull;
+                                L19:;
+                                {
+                                    core_scan_pass(e, l7 + 80ull, l9, l14, l7 + 100ull, l7 + 96ull);
+                                    u64 v20;
                                     {
-                                        core_scan_pass(e, l7 + 56ull, l9, l12, l7 + 76ull, l7 + 72ull);
-                                        u64 v21;
+                                        const u32 t21 = load8(l7 + 80u);
+                                        if (t21 == 0) {
+                                            l41 = (l39 > l41) ? l39 : l41;
+                                            const u64 t23 = load64(l7 + 88u);
+                                            v20 = l14 - t23; goto L20;
+                                        }
                                         {
-                                            const u32 t22 = load8(l7 + 56u);
-                                            if (t22 == 0) {
-                                                l40 = (l39 > l40) ? l39 : l40;
-                                                const u64 t24 = load64(l7 + 64u);
-                                                v21 = l12 - t24; goto L21;
-                                            }
                                             {
                                                 {
                                                     {
                                                         {
-                                                            const u32 t29 = load8(l7 + 60u);
-                                                            if (t29 == 0) {
-                                                                store32(l9 + 32ull, 0u);
-                                                                l8 = l9 + 20ull;
-                                                                store32(l8, 0u);
-                                                                const u32 t31 = load32(l9 + 28ull);
-                                                                l39 = t31;
-                                                                l2 = l9 + 24ull;
-                                                                const u32 t32 = load32(l2);
-                                                                l36 = t32;
-                                                                l15 = l9 + 16ull;
-                                                                const u32 t33 = load32(l15);
-                                                                if ((l39 - (l36 + t33)) <= 10u) {
-                                                                    const u32 t35 = space_space_Space_find_way(e, l9, 11ull);
-                                                                    if (t35 == 0) goto L28;
-                                                                    const u32 t36 = load32(l9 + 28ull);
-                                                                    l39 = t36;
-                                                                    const u32 t37 = load32(l9 + 24ull);
-                                                                    l36 = t37;
-                                                                }
-                                                                const u64 t38 = load64(l9);
-                                                                l36 = l36 + 11u;
-                                                                space_space_write_bytes(e, t38 + ((u64)(l39 - l36) << 3), TABLES + 768u, 11ull);
-                                                                store32(l2, l36);
-                                                                const u32 t39 = load32(l8);
-                                                                l39 = t39;
-                                                                const u32 t40 = load32(l15);
-                                                                l45 = t40;
-                                                                l36 = l39 + (l45 + l36);
-                                                                goto L25;
-                                                            }
-                                                            const u64 t41 = load64(l7 + 64u);
-                                                            l15 = t41;
-                                                            l8 = l9 + 24ull;
-                                                            const u32 t42 = load32(l8);
-                                                            l45 = t42 - 1u;
-                                                            store32(l8, l45);
-                                                            const u32 t43 = load32(l9 + 20ull);
-                                                            l41 = t43;
-                                                            const u32 t44 = load32(l9 + 16ull);
-                                                            l36 = t44;
-                                                            store64(l7 + 112u, 0ull);
-                                                            store64(l7 + 96u, 0ull);
-                                                            store64(l7 + 104u, 0ull);
-                                                            store64(l7 + 80u, 0ull);
-                                                            store64(l7 + 88u, 0ull);
-                                                            const u64 t45 = load64(l9);
-                                                            l8 = t45;
-                                                            l39 = (u32)l15;
-                                                            const u32 t46 = load8((l8 + ((u64)(l36 + l39) << 3)) + 1ull);
-                                                            l34 = t46;
-                                                            store8(l7 + 146u, (u8)0u);
-                                                            store16(l7 + 144u, (u16)0u);
                                                             {
+                                                                const u32 t30 = load8(l7 + 84u);
+                                                                if (t30 == 0) {
+                                                                    store32(l9 + 32ull, 0u);
+                                                                    l8 = l9 + 20ull;
+                                                                    store32(l8, 0u);
+                                                                    const u32 t32 = load32(l9 + 28ull);
+                                                                    l39 = t32;
+                                                                    l2 = l9 + 24ull;
+                                                                    const u32 t33 = load32(l2);
+                                                                    l36 = t33;
+                                                                    l13 = l9 + 16ull;
+                                                                    const u32 t34 = load32(l13);
+                                                                    if ((l39 - (l36 + t34)) <= 10u) {
+                                                                        const u32 t36 = space_space_Space_find_way(e, l9, 11ull);
+                                                                        if (t36 == 0) goto L29;
+                                                                        const u32 t37 = load32(l9 + 28ull);
+                                                                        l39 = t37;
+                                                                        const u32 t38 = load32(l9 + 24ull);
+                                                                        l36 = t38;
+                                                                    }
+                                                                    const u64 t39 = load64(l9);
+                                                                    l36 = l36 + 11u;
+                                                                    space_space_write_bytes(e, t39 + ((u64)(l39 - l36) << 3), TABLES + 768u, 11ull);
+                                                                    store32(l2, l36);
+                                                                    const u32 t40 = load32(l8);
+                                                                    l39 = t40;
+                                                                    const u32 t41 = load32(l13);
+                                                                    l45 = t41;
+                                                                    l36 = l39 + (l45 + l36);
+                                                                    goto L24;
+                                                                }
+                                                                const u64 t42 = load64(l7 + 88u);
+                                                                l13 = t42;
+                                                                l8 = l9 + 24ull;
+                                                                const u32 t43 = load32(l8);
+                                                                l45 = t43 - 1u;
+                                                                store32(l8, l45);
+                                                                const u64 t44 = load64(l9);
+                                                                l8 = t44;
+                                                                const u32 t45 = load32(l9 + 16ull);
+                                                                l36 = t45;
+                                                                l39 = (u32)l13;
+                                                                const u32 t46 = load8((l8 + ((u64)(l36 + l39) << 3)) + 1ull);
+                                                                l34 = t46;
+                                                                const u32 t47 = load32(l9 + 20ull);
+                                                                l40 = t47;
+                                                                l33 = 0u;
+                                                                store8(l7 + 130u, (u8)0u);
+                                                                store16(l7 + 128u, (u16)0u);
                                                                 {
                                                                     {
-                                                                        u32 v50;
+                                                                        l44 = l36 + l40;
+                                                                        l46 = l39 + 1u;
+                                                                        l2 = (u64)(l36 + l46);
+                                                                        l3 = (u64)l44 - l2;
+                                                                        if (l3 < 2ull) goto L49;
+                                                                        l2 = l8 + (l2 << 3);
+                                                                        if (l3 != 2ull) {
+                                                                            const u32 t51 = load8(l2 + 16ull);
+                                                                            if (t51 != 2u) goto L49;
+                                                                        }
+                                                                        functions_function_function_of(e, l7 + 128ull, l2, l2 + 8ull);
+                                                                        const u32 t52 = load8(l7 + 128u);
+                                                                        if (t52 != 1u) goto L49;
+                                                                        l35 = (u32)(l13 >> 32);
+                                                                        l38 = l34 == 0;
+                                                                        l42 = l39 + 4u;
                                                                         {
                                                                             {
                                                                                 {
                                                                                     {
                                                                                         {
+                                                                                            const u32 t58 = load8(l7 + 129u);
+                                                                                            l34 = t58;
+                                                                                            switch (l34 - 1u) {
+                                                                                            case 0: goto L48;
+                                                                                            case 1: goto L56;
+                                                                                            case 2: goto L54;
+                                                                                            case 3: goto L56;
+                                                                                            case 4: goto L56;
+                                                                                            case 5: goto L56;
+                                                                                            case 6: goto L56;
+                                                                                            case 7: goto L56;
+                                                                                            case 8: goto L56;
+                                                                                            case 9: goto L55;
+                                                                                            case 10: goto L56;
+                                                                                            case 11: goto L56;
+                                                                                            case 12: goto L56;
+                                                                                            case 13: goto L56;
+                                                                                            case 14: goto L56;
+                                                                                            case 15: goto L56;
+                                                                                            case 16: goto L56;
+                                                                                            case 17: goto L56;
+                                                                                            case 18: goto L56;
+                                                                                            case 19: goto L56;
+                                                                                            case 20: goto L56;
+                                                                                            case 21: goto L56;
+                                                                                            case 22: goto L56;
+                                                                                            case 23: goto L56;
+                                                                                            default: goto L57;
+                                                                                            }
+                                                                                        }
+                                                                                        L57:;
+                                                                                        const u32 t59 = load8(l20);
+                                                                                        l44 = t59;
+                                                                                        devices_slice_source_SliceSourceSource_take_held(e, l12, l44, l9);
+                                                                                        {
+                                                                                            const u32 t61 = load8(l12 + 17ull);
+                                                                                            if (t61) goto L60;
+                                                                                            L62:;
                                                                                             {
                                                                                                 {
                                                                                                     {
-                                                                                                        l46 = l36 + l41;
-                                                                                                        l50 = l39 + 1u;
-                                                                                                        l2 = (u64)(l36 + l50);
-                                                                                                        l3 = (u64)l46 - l2;
-                                                                                                        if (l3 < 2ull) goto L57;
-                                                                                                        l2 = l8 + (l2 << 3);
-                                                                                                        if (l3 != 2ull) {
-                                                                                                            const u32 t59 = load8(l2 + 16ull);
-                                                                                                            if (t59 != 2u) goto L57;
+                                                                                                        {
+                                                                                                            const u64 t66 = load64(l12 + 8u);
+                                                                                                            l8 = t66;
+                                                                                                            if (l8 == 0) {
+                                                                                                                const u32 t68 = load8(l12 + 16ull);
+                                                                                                                if (t68) goto L65;
+                                                                                                                store8(l12 + 17ull, (u8)1u);
+                                                                                                                goto L60;
+                                                                                                            }
+                                                                                                            store64(l12 + 8u, l8 - 1ull);
+                                                                                                            const u64 t69 = load64(l12);
+                                                                                                            l8 = t69;
+                                                                                                            store64(l12, l8 + 1ull);
+                                                                                                            const u32 t70 = load8(l8);
+                                                                                                            l33 = t70;
+                                                                                                            if (l33 == (l44 & 255u)) goto L25;
+                                                                                                            store64(l7 + 128u, 0ull);
+                                                                                                            store8(l7 + 129u, (u8)l33);
+                                                                                                            const u32 t71 = load32(l9 + 28ull);
+                                                                                                            l8 = l9 + 20ull;
+                                                                                                            const u32 t72 = load32(l8);
+                                                                                                            l46 = t72;
+                                                                                                            const u32 t73 = load32(l9 + 16ull);
+                                                                                                            l34 = l46 + t73;
+                                                                                                            const u32 t74 = load32(l9 + 24ull);
+                                                                                                            if (t71 != (l34 + t74)) goto L64;
+                                                                                                            const u32 t75 = space_space_Space_push_in_way(e, l9, l7 + 128ull);
+                                                                                                            if (t75 == 0) goto L29;
+                                                                                                            goto L63;
                                                                                                         }
-                                                                                                        functions_function_function_of(e, l7 + 144ull, l2, l2 + 8ull);
-                                                                                                        const u32 t60 = load8(l7 + 144u);
-                                                                                                        if (t60 != 1u) goto L57;
-                                                                                                        l38 = (u32)(l15 >> 32);
-                                                                                                        l34 = l34 == 0;
-                                                                                                        l42 = l39 + 4u;
+                                                                                                        L65:;
+                                                                                                        l8 = l12 + 24ull;
+                                                                                                        const u64 t76 = load64(l8);
+                                                                                                        store64(l8, t76 + 1ull);
+                                                                                                        goto L28;
+                                                                                                    }
+                                                                                                    L64:;
+                                                                                                    l2 = l9 + 32ull;
+                                                                                                    const u32 t77 = load32(l2);
+                                                                                                    l35 = t77;
+                                                                                                    const u64 t78 = load64(l9);
+                                                                                                    l13 = t78 + ((u64)l34 << 3);
+                                                                                                    store8(l13, (u8)0u);
+                                                                                                    store32(l13 + 4ull, 0u);
+                                                                                                    store8(l13 + 1ull, (u8)l33);
+                                                                                                    store32(l8, l46 + 1u);
+                                                                                                    store32(l2, l35);
+                                                                                                }
+                                                                                                L63:;
+                                                                                                devices_slice_source_SliceSourceSource_take_held(e, l12, l44, l9);
+                                                                                                const u32 t79 = load8(l12 + 17ull);
+                                                                                                if (t79 == 0) goto L62;
+                                                                                            }
+                                                                                        }
+                                                                                        L60:;
+                                                                                        const u32 t80 = load32(l9 + 20ull);
+                                                                                        if (t80 != l40) goto L25;
+                                                                                        l37 = 1u;
+                                                                                        goto L27;
+                                                                                    }
+                                                                                    L56:;
+                                                                                    const u32 t81 = load8(l7 + 130u);
+                                                                                    l43 = t81;
+                                                                                    {
+                                                                                        if ((l34 - 5u) < 20u) goto L82;
+                                                                                        l37 = 0u;
+                                                                                        {
+                                                                                            switch (l34 - 3u) {
+                                                                                            case 0: goto L82;
+                                                                                            case 1: goto L53;
+                                                                                            default: goto L83;
+                                                                                            }
+                                                                                        }
+                                                                                        L83:;
+                                                                                        store16(l18, (u16)0u);
+                                                                                        store8(l18 + 2u, (u8)0u);
+                                                                                        store8(l7 + 140u, (u8)l38);
+                                                                                        store32(l7 + 136u, l35);
+                                                                                        store32(l7 + 132u, l40);
+                                                                                        store32(l7 + 128u, l42);
+                                                                                        functions_arguments_Arguments_next(e, l7 + 32ull, l7 + 128ull, l9);
+                                                                                        const u32 t84 = load32(l7 + 32u);
+                                                                                        l34 = t84;
+                                                                                        const u32 t85 = load32(l7 + 36u);
+                                                                                        if (l34 != t85) {
+                                                                                            l8 = l8 + ((u64)(l34 + l36) << 3);
+                                                                                            const u32 t87 = load8(l8);
+                                                                                            const u64 t88 = l20;
+                                                                                            u32 v89;
+                                                                                            if (t87) {
+                                                                                                v89 = 0u;
+                                                                                            } else {
+                                                                                                const u32 t90 = load8(l8 + 1ull);
+                                                                                                v89 = t90;
+                                                                                            }
+                                                                                            store8(t88, (u8)v89);
+                                                                                        }
+                                                                                        l34 = 3u;
+                                                                                        goto L53;
+                                                                                    }
+                                                                                    L82:;
+                                                                                    store16(l22, (u16)0u);
+                                                                                    store8(l22 + 2u, (u8)0u);
+                                                                                    store8(l7 + 124u, (u8)l38);
+                                                                                    store32(l7 + 120u, l35);
+                                                                                    store32(l7 + 116u, l40);
+                                                                                    store32(l7 + 112u, l42);
+                                                                                    store64(l7 + 104u, 0ull);
+                                                                                    {
+                                                                                        {
+                                                                                            {
+                                                                                                {
+                                                                                                    {
                                                                                                         {
                                                                                                             {
-                                                                                                                {
-                                                                                                                    {
-                                                                                                                        {
-                                                                                                                            {
-                                                                                                                                const u32 t67 = load8(l7 + 145u);
-                                                                                                                                l35 = t67;
-                                                                                                                                switch (l35 - 1u) {
-                                                                                                                                case 0: goto L66;
-                                                                                                                                case 1: goto L63;
-                                                                                                                                case 2: goto L65;
-                                                                                                                                case 3: goto L63;
-                                                                                                                                case 4: goto L63;
-                                                                                                                                case 5: goto L63;
-                                                                                                                                case 6: goto L63;
-                                                                                                                                case 7: goto L63;
-                                                                                                                                case 8: goto L63;
-                                                                                                                                case 9: goto L64;
-                                                                                                                                case 10: goto L63;
-                                                                                                                                case 11: goto L63;
-                                                                                                                                case 12: goto L63;
-                                                                                                                                case 13: goto L63;
-                                                                                                                                case 14: goto L63;
-                                                                                                                                case 15: goto L63;
-                                                                                                                                case 16: goto L63;
-                                                                                                                                case 17: goto L63;
-                                                                                                                                case 18: goto L63;
-                                                                                                                                case 19: goto L63;
-                                                                                                                                case 20: goto L63;
-                                                                                                                                case 21: goto L63;
-                                                                                                                                case 22: goto L63;
-                                                                                                                                case 23: goto L63;
-                                                                                                                                default: goto L62;
-                                                                                                                                }
-                                                                                                                            }
-                                                                                                                            L66:;
-                                                                                                                            u32 v68;
-                                                                                                                            {
-                                                                                                                                const u32 t69 = load8(l13 + 17ull);
-                                                                                                                                if (t69) { v68 = 1u; goto L68; }
-                                                                                                                                {
-                                                                                                                                    const u64 t71 = load64(l13 + 8u);
-                                                                                                                                    l8 = t71;
-                                                                                                                                    if (l8 == 0) {
-                                                                                                                                        const u32 t73 = load8(l13 + 16ull);
-                                                                                                                                        if (t73) goto L70;
-                                                                                                                                        store8(l13 + 17ull, (u8)1u);
-                                                                                                                                        v68 = 1u; goto L68;
-                                                                                                                                    }
-                                                                                                                                    store64(l13 + 8u, l8 - 1ull);
-                                                                                                                                    const u64 t74 = load64(l13);
-                                                                                                                                    l8 = t74;
-                                                                                                                                    store64(l13, l8 + 1ull);
-                                                                                                                                    const u32 t75 = load8(l8);
-                                                                                                                                    l34 = t75;
-                                                                                                                                    store64(l7 + 144u, 0ull);
-                                                                                                                                    store8(l7 + 145u, (u8)l34);
-                                                                                                                                    const u32 t76 = load32(l9 + 28ull);
-                                                                                                                                    l8 = l9 + 20ull;
-                                                                                                                                    const u32 t77 = load32(l8);
-                                                                                                                                    l35 = t77;
-                                                                                                                                    const u32 t78 = load32(l9 + 16ull);
-                                                                                                                                    l37 = l35 + t78;
-                                                                                                                                    const u32 t79 = load32(l9 + 24ull);
-                                                                                                                                    if (t76 != (l37 + t79)) {
-                                                                                                                                        l3 = l9 + 32ull;
-                                                                                                                                        const u32 t81 = load32(l3);
-                                                                                                                                        l38 = t81;
-                                                                                                                                        const u64 t82 = load64(l9);
-                                                                                                                                        l2 = t82 + ((u64)l37 << 3);
-                                                                                                                                        store8(l2, (u8)0u);
-                                                                                                                                        store32(l2 + 4ull, 0u);
-                                                                                                                                        store8(l2 + 1ull, (u8)l34);
-                                                                                                                                        store32(l8, l35 + 1u);
-                                                                                                                                        store32(l3, l38);
-                                                                                                                                        goto L51;
-                                                                                                                                    }
-                                                                                                                                    const u32 t83 = space_space_Space_push_in_way(e, l9, l7 + 144ull);
-                                                                                                                                    if (t83) goto L51;
-                                                                                                                                    l37 = 0u;
-                                                                                                                                    v50 = 0u; goto L50;
-                                                                                                                                }
-                                                                                                                                L70:;
-                                                                                                                                l8 = l13 + 24ull;
-                                                                                                                                const u64 t84 = load64(l8);
-                                                                                                                                store64(l8, t84 + 1ull);
-                                                                                                                                v68 = 4u;
-                                                                                                                            }
-                                                                                                                            L68:;
-                                                                                                                            l37 = v68;
-                                                                                                                            v50 = 4u; goto L50;
-                                                                                                                        }
-                                                                                                                        L65:;
-                                                                                                                        store16(l20, (u16)0u);
-                                                                                                                        store8(l20 + 2u, (u8)0u);
-                                                                                                                        store8(l7 + 108u, (u8)l34);
-                                                                                                                        store32(l7 + 104u, l38);
-                                                                                                                        store32(l7 + 100u, l41);
-                                                                                                                        store32(l7 + 96u, l42);
-                                                                                                                        core_input_output_print_string(e, l7 + 112ull, l9, l7 + 96ull, l19);
-                                                                                                                        goto L61;
-                                                                                                                    }
-                                                                                                                    L64:;
-                                                                                                                    store16(l21, (u16)0u);
-                                                                                                                    store8(l21 + 2u, (u8)0u);
-                                                                                                                    store8(l7 + 92u, (u8)l34);
-                                                                                                                    store32(l7 + 88u, l38);
-                                                                                                                    store32(l7 + 84u, l41);
-                                                                                                                    store32(l7 + 80u, l42);
-                                                                                                                    core_display_print_form(e, l7 + 112ull, l9, l7 + 80ull, l19);
-                                                                                                                    goto L61;
-                                                                                                                }
-                                                                                                                L63:;
-                                                                                                                const u32 t85 = load8(l7 + 146u);
-                                                                                                                l44 = t85;
-                                                                                                                {
-                                                                                                                    if ((l35 - 5u) < 20u) goto L86;
-                                                                                                                    l43 = 0u;
-                                                                                                                    l37 = 0u;
-                                                                                                                    {
-                                                                                                                        switch (l35 - 3u) {
-                                                                                                                        case 0: goto L86;
-                                                                                                                        case 1: goto L52;
-                                                                                                                        default: goto L87;
-                                                                                                                        }
-                                                                                                                    }
-                                                                                                                    L87:;
-                                                                                                                    store16(l22, (u16)0u);
-                                                                                                                    store8(l22 + 2u, (u8)0u);
-                                                                                                                    store8(l7 + 156u, (u8)l34);
-                                                                                                                    store32(l7 + 152u, l38);
-                                                                                                                    store32(l7 + 148u, l41);
-                                                                                                                    store32(l7 + 144u, l42);
-                                                                                                                    functions_arguments_Arguments_next(e, l7 + 8ull, l7 + 144ull, l9);
-                                                                                                                    const u32 t88 = load32(l7 + 8u);
-                                                                                                                    l34 = t88;
-                                                                                                                    const u32 t89 = load32(l7 + 12u);
-                                                                                                                    if (l34 != t89) {
-                                                                                                                        l8 = l8 + ((u64)(l34 + l36) << 3);
-                                                                                                                        const u32 t91 = load8(l8);
-                                                                                                                        const u64 t92 = l18;
-                                                                                                                        u32 v93;
-                                                                                                                        if (t91) {
-                                                                                                                            v93 = 0u;
-                                                                                                                        } else {
-                                                                                                                            const u32 t94 = load8(l8 + 1ull);
-                                                                                                                            v93 = t94;
-                                                                                                                        }
-                                                                                                                        store8(t92, (u8)v93);
-                                                                                                                    }
-                                                                                                                    l35 = 3u;
-                                                                                                                    goto L52;
-                                                                                                                }
-                                                                                                                L86:;
-                                                                                                                store16(l23, (u16)0u);
-                                                                                                                store8(l23 + 2u, (u8)0u);
-                                                                                                                store8(l7 + 140u, (u8)l34);
-                                                                                                                store32(l7 + 136u, l38);
-                                                                                                                store32(l7 + 132u, l41);
-                                                                                                                store32(l7 + 128u, l42);
-                                                                                                                store64(l7 + 120u, 0ull);
                                                                                                                 {
                                                                                                                     {
                                                                                                                         {
@@ -18113,702 +17983,892 @@ static void engine_run(struct engine *e, u64 l0, u64 l1, u64 l2, u64 l3, u64 l4,
                                                                                                                                                                         {
                                                                                                                                                                             {
                                                                                                                                                                                 {
-                                                                                                                                                                                    {
-                                                                                                                                                                                        {
-                                                                                                                                                                                            {
-                                                                                                                                                                                                switch (l35 - 5u) {
-                                                                                                                                                                                                case 0: goto L101;
-                                                                                                                                                                                                case 1: goto L100;
-                                                                                                                                                                                                case 2: goto L98;
-                                                                                                                                                                                                case 3: goto L97;
-                                                                                                                                                                                                case 4: goto L96;
-                                                                                                                                                                                                case 6: goto L99;
-                                                                                                                                                                                                case 7: goto L106;
-                                                                                                                                                                                                case 8: goto L105;
-                                                                                                                                                                                                case 9: goto L104;
-                                                                                                                                                                                                case 10: goto L103;
-                                                                                                                                                                                                case 11: goto L102;
-                                                                                                                                                                                                case 12: goto L114;
-                                                                                                                                                                                                case 13: goto L113;
-                                                                                                                                                                                                case 14: goto L112;
-                                                                                                                                                                                                case 15: goto L111;
-                                                                                                                                                                                                case 16: goto L110;
-                                                                                                                                                                                                case 17: goto L109;
-                                                                                                                                                                                                case 18: goto L108;
-                                                                                                                                                                                                case 19: goto L107;
-                                                                                                                                                                                                default: goto L95;
-                                                                                                                                                                                                }
-                                                                                                                                                                                            }
-                                                                                                                                                                                            L114:;
-                                                                                                                                                                                            functions_comparing_equal(e, l7 + 120ull, l9, l7 + 128ull);
-                                                                                                                                                                                            goto L53;
-                                                                                                                                                                                        }
-                                                                                                                                                                                        L113:;
-                                                                                                                                                                                        functions_comparing_greater(e, l7 + 120ull, l9, l7 + 128ull);
-                                                                                                                                                                                        goto L53;
+                                                                                                                                                                                    switch (l34 - 5u) {
+                                                                                                                                                                                    case 0: goto L101;
+                                                                                                                                                                                    case 1: goto L100;
+                                                                                                                                                                                    case 2: goto L98;
+                                                                                                                                                                                    case 3: goto L97;
+                                                                                                                                                                                    case 4: goto L96;
+                                                                                                                                                                                    case 6: goto L99;
+                                                                                                                                                                                    case 7: goto L106;
+                                                                                                                                                                                    case 8: goto L105;
+                                                                                                                                                                                    case 9: goto L104;
+                                                                                                                                                                                    case 10: goto L103;
+                                                                                                                                                                                    case 11: goto L102;
+                                                                                                                                                                                    case 12: goto L114;
+                                                                                                                                                                                    case 13: goto L113;
+                                                                                                                                                                                    case 14: goto L112;
+                                                                                                                                                                                    case 15: goto L111;
+                                                                                                                                                                                    case 16: goto L110;
+                                                                                                                                                                                    case 17: goto L109;
+                                                                                                                                                                                    case 18: goto L108;
+                                                                                                                                                                                    case 19: goto L107;
+                                                                                                                                                                                    default: goto L95;
                                                                                                                                                                                     }
-                                                                                                                                                                                    L112:;
-                                                                                                                                                                                    functions_arithmetic_arithmetic(e, l7 + 120ull, l9, l44, l7 + 128ull);
-                                                                                                                                                                                    goto L53;
                                                                                                                                                                                 }
-                                                                                                                                                                                L111:;
-                                                                                                                                                                                functions_bit_strings_union(e, l7 + 120ull, l9, l7 + 128ull);
-                                                                                                                                                                                goto L53;
+                                                                                                                                                                                L114:;
+                                                                                                                                                                                functions_comparing_equal(e, l7 + 104ull, l9, l7 + 112ull);
+                                                                                                                                                                                goto L91;
                                                                                                                                                                             }
-                                                                                                                                                                            L110:;
-                                                                                                                                                                            functions_bit_strings_intersection(e, l7 + 120ull, l9, l7 + 128ull);
-                                                                                                                                                                            goto L53;
+                                                                                                                                                                            L113:;
+                                                                                                                                                                            functions_comparing_greater(e, l7 + 104ull, l9, l7 + 112ull);
+                                                                                                                                                                            goto L91;
                                                                                                                                                                         }
-                                                                                                                                                                        L109:;
-                                                                                                                                                                        store64(l7 + 184u, 0ull);
-                                                                                                                                                                        const u64 t115 = load64(l7 + 128u);
-                                                                                                                                                                        store64(l7 + 168u, t115);
-                                                                                                                                                                        const u64 t116 = load64(l7 + 136u);
-                                                                                                                                                                        store64(l7 + 176u, t116);
-                                                                                                                                                                        store64(l7 + 156u, 0ull);
-                                                                                                                                                                        functions_arguments_Arguments_next(e, l7 + 16ull, l7 + 168ull, l9);
-                                                                                                                                                                        const u32 t117 = load32(l7 + 16u);
-                                                                                                                                                                        l38 = t117;
-                                                                                                                                                                        const u32 t118 = load32(l7 + 20u);
-                                                                                                                                                                        l37 = t118;
-                                                                                                                                                                        l3 = (u64)(l37 + l36);
-                                                                                                                                                                        l2 = (u64)(l38 + l36) - l3;
-                                                                                                                                                                        l8 = (l8 + (l3 << 3)) - 8ull;
-                                                                                                                                                                        l35 = l37;
-                                                                                                                                                                        L119:;
-                                                                                                                                                                        {
-                                                                                                                                                                            {
-                                                                                                                                                                                l34 = l35;
-                                                                                                                                                                                if (l2 == 0) goto L120;
-                                                                                                                                                                                const u32 t121 = load8(l8);
-                                                                                                                                                                                if (t121) goto L120;
-                                                                                                                                                                                l2 = l2 + 1ull;
-                                                                                                                                                                                l35 = l34 - 1u;
-                                                                                                                                                                                l3 = l8 + 1ull;
-                                                                                                                                                                                l8 = l8 - 8ull;
-                                                                                                                                                                                const u32 t122 = load8(l3);
-                                                                                                                                                                                if ((t122 & 248u) == 48u) goto L119;
-                                                                                                                                                                            }
-                                                                                                                                                                            L120:;
-                                                                                                                                                                        }
-                                                                                                                                                                        store32(l7 + 152u, l37);
-                                                                                                                                                                        store32(l7 + 148u, l34);
-                                                                                                                                                                        store32(l7 + 144u, 2u);
-                                                                                                                                                                        functions_bit_strings_give_bits(e, l7 + 184ull, l9, l38, l34, l7 + 144ull);
-                                                                                                                                                                        const u32 t123 = load16(l7 + 184u);
-                                                                                                                                                                        store16(l7 + 120u, (u16)t123);
-                                                                                                                                                                        const u32 t124 = load32(l7 + 188u);
-                                                                                                                                                                        store32(l7 + 124u, t124);
-                                                                                                                                                                        goto L53;
+                                                                                                                                                                        L112:;
+                                                                                                                                                                        functions_arithmetic_arithmetic(e, l7 + 104ull, l9, l43, l7 + 112ull);
+                                                                                                                                                                        goto L91;
                                                                                                                                                                     }
-                                                                                                                                                                    L108:;
-                                                                                                                                                                    functions_bit_strings_shift(e, l7 + 120ull, l9, l7 + 128ull);
-                                                                                                                                                                    goto L53;
+                                                                                                                                                                    L111:;
+                                                                                                                                                                    functions_bit_strings_union(e, l7 + 104ull, l9, l7 + 112ull);
+                                                                                                                                                                    goto L91;
                                                                                                                                                                 }
-                                                                                                                                                                L107:;
-                                                                                                                                                                functions_bit_strings_rotate(e, l7 + 120ull, l9, l7 + 128ull);
-                                                                                                                                                                goto L53;
+                                                                                                                                                                L110:;
+                                                                                                                                                                functions_bit_strings_intersection(e, l7 + 104ull, l9, l7 + 112ull);
+                                                                                                                                                                goto L91;
                                                                                                                                                             }
-                                                                                                                                                            L106:;
-                                                                                                                                                            functions_form_parts_call_segment(e, l7 + 120ull, l9, l7 + 128ull);
-                                                                                                                                                            goto L53;
+                                                                                                                                                            L109:;
+                                                                                                                                                            store64(l7 + 184u, 0ull);
+                                                                                                                                                            const u64 t115 = load64(l7 + 112u);
+                                                                                                                                                            store64(l7 + 168u, t115);
+                                                                                                                                                            const u64 t116 = load64(l7 + 120u);
+                                                                                                                                                            store64(l7 + 176u, t116);
+                                                                                                                                                            store64(l7 + 140u, 0ull);
+                                                                                                                                                            functions_arguments_Arguments_next(e, l7 + 40ull, l7 + 168ull, l9);
+                                                                                                                                                            const u32 t117 = load32(l7 + 40u);
+                                                                                                                                                            l38 = t117;
+                                                                                                                                                            const u32 t118 = load32(l7 + 44u);
+                                                                                                                                                            l35 = t118;
+                                                                                                                                                            l3 = (u64)(l35 + l36);
+                                                                                                                                                            l2 = (u64)(l38 + l36) - l3;
+                                                                                                                                                            l8 = (l8 + (l3 << 3)) - 8ull;
+                                                                                                                                                            l34 = l35;
+                                                                                                                                                            L119:;
+                                                                                                                                                            {
+                                                                                                                                                                {
+                                                                                                                                                                    l33 = l34;
+                                                                                                                                                                    if (l2 == 0) goto L120;
+                                                                                                                                                                    const u32 t121 = load8(l8);
+                                                                                                                                                                    if (t121) goto L120;
+                                                                                                                                                                    l2 = l2 + 1ull;
+                                                                                                                                                                    l34 = l33 - 1u;
+                                                                                                                                                                    l3 = l8 + 1ull;
+                                                                                                                                                                    l8 = l8 - 8ull;
+                                                                                                                                                                    const u32 t122 = load8(l3);
+                                                                                                                                                                    if ((t122 & 248u) == 48u) goto L119;
+                                                                                                                                                                }
+                                                                                                                                                                L120:;
+                                                                                                                                                            }
+                                                                                                                                                            store32(l7 + 136u, l35);
+                                                                                                                                                            store32(l7 + 132u, l33);
+                                                                                                                                                            store32(l7 + 128u, 2u);
+                                                                                                                                                            functions_bit_strings_give_bits(e, l7 + 184ull, l9, l38, l33, l7 + 128ull);
+                                                                                                                                                            const u32 t123 = load16(l7 + 184u);
+                                                                                                                                                            store16(l7 + 104u, (u16)t123);
+                                                                                                                                                            const u32 t124 = load32(l7 + 188u);
+                                                                                                                                                            store32(l7 + 108u, t124);
+                                                                                                                                                            goto L91;
                                                                                                                                                         }
-                                                                                                                                                        L105:;
-                                                                                                                                                        functions_form_parts_call_character(e, l7 + 120ull, l9, l7 + 128ull);
-                                                                                                                                                        goto L53;
+                                                                                                                                                        L108:;
+                                                                                                                                                        functions_bit_strings_shift(e, l7 + 104ull, l9, l7 + 112ull);
+                                                                                                                                                        goto L91;
                                                                                                                                                     }
-                                                                                                                                                    L104:;
-                                                                                                                                                    functions_form_parts_call_number(e, l7 + 120ull, l9, l7 + 128ull);
-                                                                                                                                                    goto L53;
+                                                                                                                                                    L107:;
+                                                                                                                                                    functions_bit_strings_rotate(e, l7 + 104ull, l9, l7 + 112ull);
+                                                                                                                                                    goto L91;
                                                                                                                                                 }
-                                                                                                                                                L103:;
-                                                                                                                                                functions_form_parts_initial_part(e, l7 + 120ull, l9, l7 + 128ull);
-                                                                                                                                                goto L53;
+                                                                                                                                                L106:;
+                                                                                                                                                functions_form_parts_call_segment(e, l7 + 104ull, l9, l7 + 112ull);
+                                                                                                                                                goto L91;
                                                                                                                                             }
-                                                                                                                                            L102:;
-                                                                                                                                            functions_form_parts_call_restore(e, l7 + 120ull, l9, l7 + 128ull);
-                                                                                                                                            goto L53;
+                                                                                                                                            L105:;
+                                                                                                                                            functions_form_parts_call_character(e, l7 + 104ull, l9, l7 + 112ull);
+                                                                                                                                            goto L91;
                                                                                                                                         }
-                                                                                                                                        L101:;
-                                                                                                                                        functions_form_calls_define_string(e, l7 + 120ull, l9, l7 + 128ull);
-                                                                                                                                        goto L53;
+                                                                                                                                        L104:;
+                                                                                                                                        functions_form_parts_call_number(e, l7 + 104ull, l9, l7 + 112ull);
+                                                                                                                                        goto L91;
                                                                                                                                     }
-                                                                                                                                    L100:;
-                                                                                                                                    functions_form_calls_segment_string(e, l7 + 120ull, l9, l7 + 128ull);
-                                                                                                                                    goto L53;
+                                                                                                                                    L103:;
+                                                                                                                                    functions_form_parts_initial_part(e, l7 + 104ull, l9, l7 + 112ull);
+                                                                                                                                    goto L91;
                                                                                                                                 }
-                                                                                                                                L99:;
-                                                                                                                                const u64 t125 = load64(l7 + 136u);
-                                                                                                                                store64(l7 + 152u, t125);
-                                                                                                                                const u64 t126 = load64(l7 + 128u);
-                                                                                                                                store64(l7 + 144u, t126);
-                                                                                                                                const u32 t127 = load8(l7 + 156u);
-                                                                                                                                l37 = t127;
-                                                                                                                                functions_arguments_Arguments_next(e, l7 + 48ull, l7 + 144ull, l9);
-                                                                                                                                const u32 t128 = load32(l7 + 52u);
-                                                                                                                                l34 = t128;
-                                                                                                                                const u32 t129 = load32(l7 + 48u);
-                                                                                                                                l35 = t129;
-                                                                                                                                u32 v130;
-                                                                                                                                {
-                                                                                                                                    const u32 t131 = load32(l9 + 40ull);
-                                                                                                                                    l38 = t131;
-                                                                                                                                    if (l38 >= 8u) {
-                                                                                                                                        forms_work_Work_find_among_more(e, l7 + 32ull, l9, l35, l34);
-                                                                                                                                        const u32 t133 = load32(l7 + 36u);
-                                                                                                                                        l44 = t133;
-                                                                                                                                        const u32 t134 = load8(l7 + 32u);
-                                                                                                                                        v130 = t134; goto L130;
-                                                                                                                                    }
-                                                                                                                                    {
-                                                                                                                                        if (l38 == 0) goto L135;
-                                                                                                                                        const u64 t136 = load32(l8 + 4ull);
-                                                                                                                                        l3 = (u64)(l34 + l36);
-                                                                                                                                        l2 = (u64)(l35 + l36);
-                                                                                                                                        if (t136 != (l3 - l2)) goto L135;
-                                                                                                                                        l11 = 17ull - (l2 << 3);
-                                                                                                                                        l2 = (l3 ^ 18446744073709551615ull) + l2;
-                                                                                                                                        l8 = l8 + (l3 << 3);
-                                                                                                                                        L137:;
-                                                                                                                                        {
-                                                                                                                                            l2 = l2 + 1ull;
-                                                                                                                                            if (l2 == 0) goto L56;
-                                                                                                                                            l3 = l8 - 7ull;
-                                                                                                                                            l4 = l8 + l11;
-                                                                                                                                            l8 = l8 - 8ull;
-                                                                                                                                            const u32 t138 = load8(l4);
-                                                                                                                                            const u32 t139 = load8(l3);
-                                                                                                                                            if (t138 == t139) goto L137;
-                                                                                                                                        }
-                                                                                                                                    }
-                                                                                                                                    L135:;
-                                                                                                                                    forms_work_Work_find_among_few(e, l7 + 40ull, l9, l35, l34);
-                                                                                                                                    const u32 t140 = load32(l7 + 44u);
-                                                                                                                                    l44 = t140;
-                                                                                                                                    const u32 t141 = load8(l7 + 40u);
-                                                                                                                                    v130 = t141;
-                                                                                                                                }
-                                                                                                                                L130:;
-                                                                                                                                if ((v130 & 255u) != 1u) goto L55;
-                                                                                                                                goto L54;
+                                                                                                                                L102:;
+                                                                                                                                functions_form_parts_call_restore(e, l7 + 104ull, l9, l7 + 112ull);
+                                                                                                                                goto L91;
                                                                                                                             }
-                                                                                                                            L98:;
-                                                                                                                            functions_form_calls_delete_definition(e, l7 + 120ull, l9, l7 + 128ull);
-                                                                                                                            goto L53;
+                                                                                                                            L101:;
+                                                                                                                            functions_form_calls_define_string(e, l7 + 104ull, l9, l7 + 112ull);
+                                                                                                                            goto L91;
                                                                                                                         }
-                                                                                                                        L97:;
-                                                                                                                        functions_form_calls_delete_all(e, l7 + 120ull, l9);
-                                                                                                                        goto L53;
+                                                                                                                        L100:;
+                                                                                                                        functions_form_calls_segment_string(e, l7 + 104ull, l9, l7 + 112ull);
+                                                                                                                        goto L91;
                                                                                                                     }
-                                                                                                                    L96:;
-                                                                                                                    functions_form_calls_list_names(e, l7 + 120ull, l9, l7 + 128ull);
-                                                                                                                    goto L53;
+                                                                                                                    L99:;
+                                                                                                                    const u64 t125 = load64(l7 + 120u);
+                                                                                                                    store64(l7 + 136u, t125);
+                                                                                                                    const u64 t126 = load64(l7 + 112u);
+                                                                                                                    store64(l7 + 128u, t126);
+                                                                                                                    const u32 t127 = load8(l7 + 140u);
+                                                                                                                    l35 = t127;
+                                                                                                                    functions_arguments_Arguments_next(e, l7 + 72ull, l7 + 128ull, l9);
+                                                                                                                    const u32 t128 = load32(l7 + 76u);
+                                                                                                                    l33 = t128;
+                                                                                                                    const u32 t129 = load32(l7 + 72u);
+                                                                                                                    l34 = t129;
+                                                                                                                    u32 v130;
+                                                                                                                    {
+                                                                                                                        const u32 t131 = load32(l9 + 40ull);
+                                                                                                                        l38 = t131;
+                                                                                                                        if (l38 >= 8u) {
+                                                                                                                            forms_work_Work_find_among_more(e, l7 + 56ull, l9, l34, l33);
+                                                                                                                            const u32 t133 = load32(l7 + 60u);
+                                                                                                                            l43 = t133;
+                                                                                                                            const u32 t134 = load8(l7 + 56u);
+                                                                                                                            v130 = t134; goto L130;
+                                                                                                                        }
+                                                                                                                        {
+                                                                                                                            if (l38 == 0) goto L135;
+                                                                                                                            const u64 t136 = load32(l8 + 4ull);
+                                                                                                                            l3 = (u64)(l33 + l36);
+                                                                                                                            l2 = (u64)(l34 + l36);
+                                                                                                                            if (t136 != (l3 - l2)) goto L135;
+                                                                                                                            l11 = 17ull - (l2 << 3);
+                                                                                                                            l2 = (l3 ^ 18446744073709551615ull) + l2;
+                                                                                                                            l8 = l8 + (l3 << 3);
+                                                                                                                            L137:;
+                                                                                                                            {
+                                                                                                                                l2 = l2 + 1ull;
+                                                                                                                                if (l2 == 0) goto L94;
+                                                                                                                                l3 = l8 - 7ull;
+                                                                                                                                l4 = l8 + l11;
+                                                                                                                                l8 = l8 - 8ull;
+                                                                                                                                const u32 t138 = load8(l4);
+                                                                                                                                const u32 t139 = load8(l3);
+                                                                                                                                if (t138 == t139) goto L137;
+                                                                                                                            }
+                                                                                                                        }
+                                                                                                                        L135:;
+                                                                                                                        forms_work_Work_find_among_few(e, l7 + 64ull, l9, l34, l33);
+                                                                                                                        const u32 t140 = load32(l7 + 68u);
+                                                                                                                        l43 = t140;
+                                                                                                                        const u32 t141 = load8(l7 + 64u);
+                                                                                                                        v130 = t141;
+                                                                                                                    }
+                                                                                                                    L130:;
+                                                                                                                    if ((v130 & 255u) != 1u) goto L93;
+                                                                                                                    goto L92;
                                                                                                                 }
-                                                                                                                L95:;
-                                                                                                                store8(l7 + 120u, (u8)1u);
-                                                                                                                goto L53;
+                                                                                                                L98:;
+                                                                                                                functions_form_calls_delete_definition(e, l7 + 104ull, l9, l7 + 112ull);
+                                                                                                                goto L91;
                                                                                                             }
-                                                                                                            L62:;
-                                                                                                            const u32 t142 = load8(l18);
-                                                                                                            core_input_output_read_string(e, l7 + 112ull, l9, t142, l13);
+                                                                                                            L97:;
+                                                                                                            functions_form_calls_delete_all(e, l7 + 104ull, l9);
+                                                                                                            goto L91;
                                                                                                         }
-                                                                                                        L61:;
-                                                                                                        const u32 t143 = load8(l7 + 113u);
-                                                                                                        l37 = t143;
-                                                                                                        const u32 t144 = load8(l7 + 112u);
-                                                                                                        l35 = t144;
-                                                                                                        goto L48;
+                                                                                                        L96:;
+                                                                                                        functions_form_calls_list_names(e, l7 + 104ull, l9, l7 + 112ull);
+                                                                                                        goto L91;
                                                                                                     }
-                                                                                                    L57:;
-                                                                                                    l34 = 0u;
-                                                                                                    goto L47;
+                                                                                                    L95:;
+                                                                                                    store8(l7 + 104u, (u8)1u);
+                                                                                                    goto L91;
                                                                                                 }
-                                                                                                L56:;
+                                                                                                L94:;
                                                                                                 store64(l9 + 44ull, 0ull);
-                                                                                                l44 = 0u;
-                                                                                                goto L54;
+                                                                                                l43 = 0u;
+                                                                                                goto L92;
                                                                                             }
-                                                                                            L55:;
-                                                                                            store32(l7 + 124u, 0u);
-                                                                                            store16(l7 + 120u, (u16)1u);
-                                                                                            goto L53;
+                                                                                            L93:;
+                                                                                            store32(l7 + 108u, 0u);
+                                                                                            store16(l7 + 104u, (u16)1u);
+                                                                                            goto L91;
                                                                                         }
-                                                                                        L54:;
-                                                                                        const u32 t145 = load32(l7 + 148u);
-                                                                                        l48 = t145;
-                                                                                        const u32 t146 = load32(l7 + 144u);
-                                                                                        l49 = t146;
+                                                                                        L92:;
+                                                                                        const u32 t142 = load32(l7 + 132u);
+                                                                                        l48 = t142;
+                                                                                        const u32 t143 = load32(l7 + 128u);
+                                                                                        l49 = t143;
                                                                                         {
-                                                                                            if ((l37 & 1u) == 0) goto L147;
-                                                                                            if (l48 >= l49) goto L147;
-                                                                                            const u32 t148 = load32(l9 + 48ull);
-                                                                                            l34 = t148;
+                                                                                            if ((l35 & 1u) == 0) goto L144;
+                                                                                            if (l48 >= l49) goto L144;
+                                                                                            const u32 t145 = load32(l9 + 48ull);
+                                                                                            l33 = t145;
                                                                                             {
-                                                                                                const u32 t150 = load32(l9 + 44ull);
-                                                                                                l35 = t150;
-                                                                                                if (l44 == l35) goto L149;
-                                                                                                if (l35 < l44) {
-                                                                                                    l38 = l44 - l35;
-                                                                                                    const u32 t152 = load32(l9 + 16ull);
-                                                                                                    l42 = t152;
-                                                                                                    L153:;
+                                                                                                const u32 t147 = load32(l9 + 44ull);
+                                                                                                l34 = t147;
+                                                                                                if (l43 == l34) goto L146;
+                                                                                                if (l34 < l43) {
+                                                                                                    l38 = l43 - l34;
+                                                                                                    const u32 t149 = load32(l9 + 16ull);
+                                                                                                    l42 = t149;
+                                                                                                    L150:;
                                                                                                     {
-                                                                                                        l35 = 3u;
-                                                                                                        if (l34 < l42) {
-                                                                                                            const u64 t155 = load64(l9);
-                                                                                                            l8 = t155 + ((u64)l34 << 3);
-                                                                                                            const u32 t156 = load32(l8 + 4ull);
-                                                                                                            const u32 t157 = load8(l8);
-                                                                                                            l35 = (t157 == 4u) ? (t156 + 3u) : 3u;
+                                                                                                        l34 = 3u;
+                                                                                                        if (l33 < l42) {
+                                                                                                            const u64 t152 = load64(l9);
+                                                                                                            l8 = t152 + ((u64)l33 << 3);
+                                                                                                            const u32 t153 = load32(l8 + 4ull);
+                                                                                                            const u32 t154 = load8(l8);
+                                                                                                            l34 = (t154 == 4u) ? (t153 + 3u) : 3u;
                                                                                                         }
-                                                                                                        l43 = l34 + 1u;
-                                                                                                        u32 v158;
-                                                                                                        if (l42 > l43) {
-                                                                                                            const u64 t159 = load64(l9);
-                                                                                                            l8 = t159 + ((u64)l43 << 3);
-                                                                                                            const u32 t160 = load32(l8 + 4ull);
-                                                                                                            const u32 t161 = load8(l8);
-                                                                                                            v158 = (t161 == 4u) ? t160 : 0u;
+                                                                                                        l37 = l33 + 1u;
+                                                                                                        u32 v155;
+                                                                                                        if (l42 > l37) {
+                                                                                                            const u64 t156 = load64(l9);
+                                                                                                            l8 = t156 + ((u64)l37 << 3);
+                                                                                                            const u32 t157 = load32(l8 + 4ull);
+                                                                                                            const u32 t158 = load8(l8);
+                                                                                                            v155 = (t158 == 4u) ? t157 : 0u;
                                                                                                         } else {
-                                                                                                            v158 = 0u;
+                                                                                                            v155 = 0u;
                                                                                                         }
-                                                                                                        l34 = v158 + (l34 + l35);
+                                                                                                        l33 = v155 + (l33 + l34);
                                                                                                         l38 = l38 - 1u;
-                                                                                                        if (l38) goto L153;
+                                                                                                        if (l38) goto L150;
                                                                                                     }
-                                                                                                    goto L149;
+                                                                                                    goto L146;
                                                                                                 }
-                                                                                                if (l44 == 0) {
-                                                                                                    l34 = 0u;
-                                                                                                    goto L149;
+                                                                                                if (l43 == 0) {
+                                                                                                    l33 = 0u;
+                                                                                                    goto L146;
                                                                                                 }
-                                                                                                const u32 t163 = load32(l9 + 16ull);
-                                                                                                l38 = t163;
-                                                                                                l34 = 0u;
-                                                                                                l42 = l44;
-                                                                                                L164:;
+                                                                                                const u32 t160 = load32(l9 + 16ull);
+                                                                                                l38 = t160;
+                                                                                                l33 = 0u;
+                                                                                                l42 = l43;
+                                                                                                L161:;
                                                                                                 {
-                                                                                                    l35 = 3u;
-                                                                                                    if (l34 < l38) {
-                                                                                                        const u64 t166 = load64(l9);
-                                                                                                        l8 = t166 + ((u64)l34 << 3);
-                                                                                                        const u32 t167 = load32(l8 + 4ull);
-                                                                                                        const u32 t168 = load8(l8);
-                                                                                                        l35 = (t168 == 4u) ? (t167 + 3u) : 3u;
+                                                                                                    l34 = 3u;
+                                                                                                    if (l33 < l38) {
+                                                                                                        const u64 t163 = load64(l9);
+                                                                                                        l8 = t163 + ((u64)l33 << 3);
+                                                                                                        const u32 t164 = load32(l8 + 4ull);
+                                                                                                        const u32 t165 = load8(l8);
+                                                                                                        l34 = (t165 == 4u) ? (t164 + 3u) : 3u;
                                                                                                     }
-                                                                                                    l43 = l34 + 1u;
-                                                                                                    u32 v169;
-                                                                                                    if (l38 > l43) {
-                                                                                                        const u64 t170 = load64(l9);
-                                                                                                        l8 = t170 + ((u64)l43 << 3);
-                                                                                                        const u32 t171 = load32(l8 + 4ull);
-                                                                                                        const u32 t172 = load8(l8);
-                                                                                                        v169 = (t172 == 4u) ? t171 : 0u;
+                                                                                                    l37 = l33 + 1u;
+                                                                                                    u32 v166;
+                                                                                                    if (l38 > l37) {
+                                                                                                        const u64 t167 = load64(l9);
+                                                                                                        l8 = t167 + ((u64)l37 << 3);
+                                                                                                        const u32 t168 = load32(l8 + 4ull);
+                                                                                                        const u32 t169 = load8(l8);
+                                                                                                        v166 = (t169 == 4u) ? t168 : 0u;
                                                                                                     } else {
-                                                                                                        v169 = 0u;
+                                                                                                        v166 = 0u;
                                                                                                     }
-                                                                                                    l34 = v169 + (l34 + l35);
+                                                                                                    l33 = v166 + (l33 + l34);
                                                                                                     l42 = l42 - 1u;
-                                                                                                    if (l42) goto L164;
+                                                                                                    if (l42) goto L161;
                                                                                                 }
                                                                                             }
-                                                                                            L149:;
-                                                                                            l35 = 0u;
-                                                                                            const u64 t173 = load64(l9);
-                                                                                            l3 = t173;
-                                                                                            l8 = l3 + ((u64)l34 << 3);
-                                                                                            const u32 t174 = load32(l8 + 12ull);
-                                                                                            l38 = t174;
-                                                                                            const u32 t175 = load32(l8 + 20ull);
-                                                                                            l37 = t175;
-                                                                                            if (l38 != l37) {
-                                                                                                const u32 t177 = load32(l8 + 4ull);
-                                                                                                l42 = (l34 + t177) + 3u;
-                                                                                                l35 = l42 + l37;
-                                                                                                u32 v178;
+                                                                                            L146:;
+                                                                                            l34 = 0u;
+                                                                                            const u64 t170 = load64(l9);
+                                                                                            l3 = t170;
+                                                                                            l8 = l3 + ((u64)l33 << 3);
+                                                                                            const u32 t171 = load32(l8 + 12ull);
+                                                                                            l38 = t171;
+                                                                                            const u32 t172 = load32(l8 + 20ull);
+                                                                                            l35 = t172;
+                                                                                            if (l38 != l35) {
+                                                                                                const u32 t174 = load32(l8 + 4ull);
+                                                                                                l42 = (l33 + t174) + 3u;
+                                                                                                l34 = l42 + l35;
+                                                                                                u32 v175;
                                                                                                 {
-                                                                                                    l34 = l38 - l37;
-                                                                                                    const u32 t179 = load32(l9 + 28ull);
-                                                                                                    l47 = t179;
-                                                                                                    const u32 t180 = load32(l9 + 20ull);
-                                                                                                    const u32 t181 = load32(l9 + 24ull);
-                                                                                                    l43 = t181;
-                                                                                                    const u32 t182 = load32(l9 + 16ull);
-                                                                                                    if (l34 > (l47 - (t180 + (l43 + t182)))) {
-                                                                                                        store_fill_load_items_in_way(e, l7 + 24ull, l9, l35, l38 + l42);
-                                                                                                        const u32 t184 = load8(l7 + 24u);
-                                                                                                        l37 = t184;
-                                                                                                        const u32 t185 = load32(l7 + 28u);
-                                                                                                        v178 = t185; goto L178;
+                                                                                                    l33 = l38 - l35;
+                                                                                                    const u32 t176 = load32(l9 + 28ull);
+                                                                                                    l47 = t176;
+                                                                                                    const u32 t177 = load32(l9 + 20ull);
+                                                                                                    const u32 t178 = load32(l9 + 24ull);
+                                                                                                    l37 = t178;
+                                                                                                    const u32 t179 = load32(l9 + 16ull);
+                                                                                                    if (l33 > (l47 - (t177 + (l37 + t179)))) {
+                                                                                                        store_fill_load_items_in_way(e, l7 + 48ull, l9, l34, l38 + l42);
+                                                                                                        const u32 t181 = load8(l7 + 48u);
+                                                                                                        l35 = t181;
+                                                                                                        const u32 t182 = load32(l7 + 52u);
+                                                                                                        v175 = t182; goto L175;
                                                                                                     }
-                                                                                                    l1 = (u64)l34;
-                                                                                                    l11 = (u64)l35;
+                                                                                                    l1 = (u64)l33;
+                                                                                                    l11 = (u64)l34;
                                                                                                     {
                                                                                                         {
                                                                                                             {
                                                                                                                 {
                                                                                                                     {
                                                                                                                         {
-                                                                                                                            if (l34 >= 8u) {
-                                                                                                                                if (l34 == 8u) goto L190;
+                                                                                                                            if (l33 >= 8u) {
+                                                                                                                                if (l33 == 8u) goto L187;
                                                                                                                                 l8 = l3 + (l11 << 3);
                                                                                                                                 l2 = l1;
-                                                                                                                                goto L191;
+                                                                                                                                goto L188;
                                                                                                                             }
-                                                                                                                            if (l34 >= 4u) {
-                                                                                                                                l37 = 0u;
+                                                                                                                            if (l33 >= 4u) {
+                                                                                                                                l35 = 0u;
                                                                                                                                 l8 = l3 + (l11 << 3);
-                                                                                                                                const u32 t194 = load8(l8 + 24ull);
-                                                                                                                                const u32 t195 = load8(l8 + 16ull);
-                                                                                                                                const u32 t196 = load8(l8 + 8ull);
-                                                                                                                                const u32 t197 = load8(l8);
-                                                                                                                                if (((t194 + t195) | (t196 + t197)) & 255u) { v178 = 0u; goto L178; }
+                                                                                                                                const u32 t191 = load8(l8 + 24ull);
+                                                                                                                                const u32 t192 = load8(l8 + 16ull);
+                                                                                                                                const u32 t193 = load8(l8 + 8ull);
+                                                                                                                                const u32 t194 = load8(l8);
+                                                                                                                                if (((t191 + t192) | (t193 + t194)) & 255u) { v175 = 0u; goto L175; }
                                                                                                                                 l2 = l1 + l11;
                                                                                                                                 l8 = l3 + (l2 << 3);
-                                                                                                                                const u32 t198 = load8(l8 - 8ull);
-                                                                                                                                const u32 t199 = load8(l8 - 16ull);
-                                                                                                                                const u32 t200 = load8(l8 - 24ull);
-                                                                                                                                const u32 t201 = load8(l8 - 32ull);
-                                                                                                                                if (((t198 + t199) | (t200 + t201)) & 255u) { v178 = 0u; goto L178; }
-                                                                                                                                l37 = l34 + l43;
-                                                                                                                                l8 = (u64)(l47 - l37);
+                                                                                                                                const u32 t195 = load8(l8 - 8ull);
+                                                                                                                                const u32 t196 = load8(l8 - 16ull);
+                                                                                                                                const u32 t197 = load8(l8 - 24ull);
+                                                                                                                                const u32 t198 = load8(l8 - 32ull);
+                                                                                                                                if (((t195 + t196) | (t197 + t198)) & 255u) { v175 = 0u; goto L175; }
+                                                                                                                                l35 = l33 + l37;
+                                                                                                                                l8 = (u64)(l47 - l35);
                                                                                                                                 core_slice_edits_slice_T_copy_from_slice(e, l3 + (l8 << 3), l3 + (l11 << 3), 4ull);
-                                                                                                                                const u64 t202 = l8 - l11;
+                                                                                                                                const u64 t199 = l8 - l11;
                                                                                                                                 l8 = l2 - 4ull;
-                                                                                                                                core_slice_edits_slice_T_copy_from_slice(e, l3 + ((t202 + l8) << 3), l3 + (l8 << 3), 4ull);
-                                                                                                                                goto L187;
+                                                                                                                                core_slice_edits_slice_T_copy_from_slice(e, l3 + ((t199 + l8) << 3), l3 + (l8 << 3), 4ull);
+                                                                                                                                goto L184;
                                                                                                                             }
                                                                                                                             l8 = l3 + (l11 << 3);
-                                                                                                                            const u32 t203 = load8(l8);
-                                                                                                                            l38 = t203;
-                                                                                                                            if (l34 < 2u) goto L189;
-                                                                                                                            l37 = 0u;
-                                                                                                                            const u32 t204 = load8(l8 + 8ull);
-                                                                                                                            if (t204 | (l38 & 255u)) { v178 = 0u; goto L178; }
+                                                                                                                            const u32 t200 = load8(l8);
+                                                                                                                            l38 = t200;
+                                                                                                                            if (l33 < 2u) goto L186;
+                                                                                                                            l35 = 0u;
+                                                                                                                            const u32 t201 = load8(l8 + 8ull);
+                                                                                                                            if (t201 | (l38 & 255u)) { v175 = 0u; goto L175; }
                                                                                                                             l2 = l1 + l11;
                                                                                                                             l8 = l3 + (l2 << 3);
-                                                                                                                            const u32 t205 = load8(l8 - 8ull);
-                                                                                                                            const u32 t206 = load8(l8 - 16ull);
-                                                                                                                            if (t205 | t206) { v178 = 0u; goto L178; }
-                                                                                                                            l37 = l34 + l43;
-                                                                                                                            l8 = (u64)(l47 - l37);
+                                                                                                                            const u32 t202 = load8(l8 - 8ull);
+                                                                                                                            const u32 t203 = load8(l8 - 16ull);
+                                                                                                                            if (t202 | t203) { v175 = 0u; goto L175; }
+                                                                                                                            l35 = l33 + l37;
+                                                                                                                            l8 = (u64)(l47 - l35);
                                                                                                                             core_slice_edits_slice_T_copy_from_slice(e, l3 + (l8 << 3), l3 + (l11 << 3), 2ull);
-                                                                                                                            const u64 t207 = l8 - l11;
+                                                                                                                            const u64 t204 = l8 - l11;
                                                                                                                             l8 = l2 - 2ull;
-                                                                                                                            core_slice_edits_slice_T_copy_from_slice(e, l3 + ((t207 + l8) << 3), l3 + (l8 << 3), 2ull);
-                                                                                                                            goto L187;
+                                                                                                                            core_slice_edits_slice_T_copy_from_slice(e, l3 + ((t204 + l8) << 3), l3 + (l8 << 3), 2ull);
+                                                                                                                            goto L184;
                                                                                                                         }
-                                                                                                                        L191:;
-                                                                                                                        L208:;
+                                                                                                                        L188:;
+                                                                                                                        L205:;
                                                                                                                         {
-                                                                                                                            const u32 t209 = load8(l8 + 56ull);
-                                                                                                                            const u32 t210 = load8(l8 + 48ull);
-                                                                                                                            const u32 t211 = load8(l8 + 40ull);
-                                                                                                                            const u32 t212 = load8(l8 + 32ull);
-                                                                                                                            const u32 t213 = load8(l8 + 24ull);
-                                                                                                                            const u32 t214 = load8(l8 + 16ull);
-                                                                                                                            const u32 t215 = load8(l8 + 8ull);
-                                                                                                                            const u32 t216 = load8(l8);
-                                                                                                                            if ((t209 | ((t210 + (t211 + (t212 + (t213 + (t214 + (t215 + t216)))))) & 255u)) == 0) {
+                                                                                                                            const u32 t206 = load8(l8 + 56ull);
+                                                                                                                            const u32 t207 = load8(l8 + 48ull);
+                                                                                                                            const u32 t208 = load8(l8 + 40ull);
+                                                                                                                            const u32 t209 = load8(l8 + 32ull);
+                                                                                                                            const u32 t210 = load8(l8 + 24ull);
+                                                                                                                            const u32 t211 = load8(l8 + 16ull);
+                                                                                                                            const u32 t212 = load8(l8 + 8ull);
+                                                                                                                            const u32 t213 = load8(l8);
+                                                                                                                            if ((t206 | ((t207 + (t208 + (t209 + (t210 + (t211 + (t212 + t213)))))) & 255u)) == 0) {
                                                                                                                                 l8 = l8 + 64ull;
                                                                                                                                 l2 = l2 - 8ull;
-                                                                                                                                if (l2 >= 9ull) goto L208;
-                                                                                                                                goto L190;
+                                                                                                                                if (l2 >= 9ull) goto L205;
+                                                                                                                                goto L187;
                                                                                                                             }
                                                                                                                         }
-                                                                                                                        l37 = 0u;
-                                                                                                                        v178 = 0u; goto L178;
+                                                                                                                        l35 = 0u;
+                                                                                                                        v175 = 0u; goto L175;
                                                                                                                     }
-                                                                                                                    L190:;
-                                                                                                                    l37 = 0u;
+                                                                                                                    L187:;
+                                                                                                                    l35 = 0u;
                                                                                                                     l2 = l1 + l11;
                                                                                                                     l8 = l3 + (l2 << 3);
-                                                                                                                    const u32 t218 = load8(l8 - 56ull);
-                                                                                                                    const u32 t219 = load8(l8 - 64ull);
-                                                                                                                    const u32 t220 = load8(l8 - 48ull);
-                                                                                                                    const u32 t221 = load8(l8 - 40ull);
-                                                                                                                    const u32 t222 = load8(l8 - 32ull);
-                                                                                                                    const u32 t223 = load8(l8 - 24ull);
-                                                                                                                    const u32 t224 = load8(l8 - 16ull);
-                                                                                                                    const u32 t225 = load8(l8 - 8ull);
-                                                                                                                    if ((((((((t218 + t219) + t220) + t221) + t222) + t223) + t224) & 255u) | t225) { v178 = 0u; goto L178; }
-                                                                                                                    l37 = l34 + l43;
-                                                                                                                    l17 = (u64)(l47 - l37);
-                                                                                                                    if (l34 > 24u) goto L188;
-                                                                                                                    if (l34 != 8u) {
-                                                                                                                        l24 = l17 << 3;
-                                                                                                                        l25 = l11 << 3;
-                                                                                                                        l26 = (l17 - l11) & 2305843009213693944ull;
+                                                                                                                    const u32 t215 = load8(l8 - 56ull);
+                                                                                                                    const u32 t216 = load8(l8 - 64ull);
+                                                                                                                    const u32 t217 = load8(l8 - 48ull);
+                                                                                                                    const u32 t218 = load8(l8 - 40ull);
+                                                                                                                    const u32 t219 = load8(l8 - 32ull);
+                                                                                                                    const u32 t220 = load8(l8 - 24ull);
+                                                                                                                    const u32 t221 = load8(l8 - 16ull);
+                                                                                                                    const u32 t222 = load8(l8 - 8ull);
+                                                                                                                    if ((((((((t215 + t216) + t217) + t218) + t219) + t220) + t221) & 255u) | t222) { v175 = 0u; goto L175; }
+                                                                                                                    l35 = l33 + l37;
+                                                                                                                    l19 = (u64)(l47 - l35);
+                                                                                                                    if (l33 > 24u) goto L185;
+                                                                                                                    if (l33 != 8u) {
+                                                                                                                        l23 = l19 << 3;
+                                                                                                                        l24 = l11 << 3;
+                                                                                                                        l25 = (l19 - l11) & 2305843009213693944ull;
                                                                                                                         l6 = l1;
                                                                                                                         l4 = l3;
-                                                                                                                        L227:;
+                                                                                                                        L224:;
                                                                                                                         {
-                                                                                                                            l8 = l4 + l25;
-                                                                                                                            l2 = l4 + l24;
+                                                                                                                            l8 = l4 + l24;
+                                                                                                                            l2 = l4 + l23;
                                                                                                                             {
-                                                                                                                                if (l26 == 0) {
-                                                                                                                                    const u32 t230 = load8(l8);
-                                                                                                                                    store8(l2, (u8)t230);
-                                                                                                                                    const u32 t231 = load8(l8 + 1ull);
-                                                                                                                                    store8(l2 + 1ull, (u8)t231);
-                                                                                                                                    const u32 t232 = load32(l8 + 4ull);
-                                                                                                                                    store32(l2 + 4ull, t232);
-                                                                                                                                    const u32 t233 = load16(l8 + 8ull);
-                                                                                                                                    store16(l2 + 8ull, (u16)t233);
-                                                                                                                                    const u32 t234 = load32(l8 + 12ull);
-                                                                                                                                    store32(l2 + 12ull, t234);
-                                                                                                                                    const u32 t235 = load16(l8 + 16ull);
-                                                                                                                                    store16(l2 + 16ull, (u16)t235);
-                                                                                                                                    const u32 t236 = load32(l8 + 20ull);
-                                                                                                                                    store32(l2 + 20ull, t236);
-                                                                                                                                    const u32 t237 = load16(l8 + 24ull);
-                                                                                                                                    store16(l2 + 24ull, (u16)t237);
-                                                                                                                                    const u32 t238 = load32(l8 + 28ull);
-                                                                                                                                    store32(l2 + 28ull, t238);
-                                                                                                                                    const u32 t239 = load16(l8 + 32ull);
-                                                                                                                                    store16(l2 + 32ull, (u16)t239);
-                                                                                                                                    const u32 t240 = load32(l8 + 36ull);
-                                                                                                                                    store32(l2 + 36ull, t240);
-                                                                                                                                    const u32 t241 = load16(l8 + 40ull);
-                                                                                                                                    store16(l2 + 40ull, (u16)t241);
-                                                                                                                                    const u32 t242 = load32(l8 + 44ull);
-                                                                                                                                    store32(l2 + 44ull, t242);
-                                                                                                                                    const u32 t243 = load16(l8 + 48ull);
-                                                                                                                                    store16(l2 + 48ull, (u16)t243);
-                                                                                                                                    const u32 t244 = load32(l8 + 52ull);
-                                                                                                                                    store32(l2 + 52ull, t244);
-                                                                                                                                    const u32 t245 = load16(l8 + 56ull);
-                                                                                                                                    l35 = t245;
-                                                                                                                                    const u32 t246 = load32(l8 + 60ull);
-                                                                                                                                    store32(l2 + 60ull, t246);
-                                                                                                                                    store16(l2 + 56ull, (u16)l35);
-                                                                                                                                    goto L228;
+                                                                                                                                if (l25 == 0) {
+                                                                                                                                    const u32 t227 = load8(l8);
+                                                                                                                                    store8(l2, (u8)t227);
+                                                                                                                                    const u32 t228 = load8(l8 + 1ull);
+                                                                                                                                    store8(l2 + 1ull, (u8)t228);
+                                                                                                                                    const u32 t229 = load32(l8 + 4ull);
+                                                                                                                                    store32(l2 + 4ull, t229);
+                                                                                                                                    const u32 t230 = load16(l8 + 8ull);
+                                                                                                                                    store16(l2 + 8ull, (u16)t230);
+                                                                                                                                    const u32 t231 = load32(l8 + 12ull);
+                                                                                                                                    store32(l2 + 12ull, t231);
+                                                                                                                                    const u32 t232 = load16(l8 + 16ull);
+                                                                                                                                    store16(l2 + 16ull, (u16)t232);
+                                                                                                                                    const u32 t233 = load32(l8 + 20ull);
+                                                                                                                                    store32(l2 + 20ull, t233);
+                                                                                                                                    const u32 t234 = load16(l8 + 24ull);
+                                                                                                                                    store16(l2 + 24ull, (u16)t234);
+                                                                                                                                    const u32 t235 = load32(l8 + 28ull);
+                                                                                                                                    store32(l2 + 28ull, t235);
+                                                                                                                                    const u32 t236 = load16(l8 + 32ull);
+                                                                                                                                    store16(l2 + 32ull, (u16)t236);
+                                                                                                                                    const u32 t237 = load32(l8 + 36ull);
+                                                                                                                                    store32(l2 + 36ull, t237);
+                                                                                                                                    const u32 t238 = load16(l8 + 40ull);
+                                                                                                                                    store16(l2 + 40ull, (u16)t238);
+                                                                                                                                    const u32 t239 = load32(l8 + 44ull);
+                                                                                                                                    store32(l2 + 44ull, t239);
+                                                                                                                                    const u32 t240 = load16(l8 + 48ull);
+                                                                                                                                    store16(l2 + 48ull, (u16)t240);
+                                                                                                                                    const u32 t241 = load32(l8 + 52ull);
+                                                                                                                                    store32(l2 + 52ull, t241);
+                                                                                                                                    const u32 t242 = load16(l8 + 56ull);
+                                                                                                                                    l34 = t242;
+                                                                                                                                    const u32 t243 = load32(l8 + 60ull);
+                                                                                                                                    store32(l2 + 60ull, t243);
+                                                                                                                                    store16(l2 + 56ull, (u16)l34);
+                                                                                                                                    goto L225;
                                                                                                                                 }
-                                                                                                                                const u64 t247 = load64(l8);
-                                                                                                                                l27 = t247;
-                                                                                                                                const u64 t248 = load64(l8 + 8u);
-                                                                                                                                l28 = t248;
-                                                                                                                                const u64 t249 = load64(l8 + 16u);
-                                                                                                                                l29 = t249;
-                                                                                                                                const u64 t250 = load64(l8 + 24u);
-                                                                                                                                l30 = t250;
-                                                                                                                                const u64 t251 = load64(l8 + 32u);
-                                                                                                                                l31 = t251;
-                                                                                                                                const u64 t252 = load64(l8 + 40u);
-                                                                                                                                l32 = t252;
-                                                                                                                                const u64 t253 = load64(l8 + 48u);
-                                                                                                                                l33 = t253;
-                                                                                                                                const u64 t254 = load64(l8 + 56u);
-                                                                                                                                store64(l2 + 56u, t254);
-                                                                                                                                store64(l2 + 48u, l33);
-                                                                                                                                store64(l2 + 40u, l32);
-                                                                                                                                store64(l2 + 32u, l31);
-                                                                                                                                store64(l2 + 24u, l30);
-                                                                                                                                store64(l2 + 16u, l29);
-                                                                                                                                store64(l2 + 8u, l28);
-                                                                                                                                store64(l2, l27);
+                                                                                                                                const u64 t244 = load64(l8);
+                                                                                                                                l26 = t244;
+                                                                                                                                const u64 t245 = load64(l8 + 8u);
+                                                                                                                                l27 = t245;
+                                                                                                                                const u64 t246 = load64(l8 + 16u);
+                                                                                                                                l28 = t246;
+                                                                                                                                const u64 t247 = load64(l8 + 24u);
+                                                                                                                                l29 = t247;
+                                                                                                                                const u64 t248 = load64(l8 + 32u);
+                                                                                                                                l30 = t248;
+                                                                                                                                const u64 t249 = load64(l8 + 40u);
+                                                                                                                                l31 = t249;
+                                                                                                                                const u64 t250 = load64(l8 + 48u);
+                                                                                                                                l32 = t250;
+                                                                                                                                const u64 t251 = load64(l8 + 56u);
+                                                                                                                                store64(l2 + 56u, t251);
+                                                                                                                                store64(l2 + 48u, l32);
+                                                                                                                                store64(l2 + 40u, l31);
+                                                                                                                                store64(l2 + 32u, l30);
+                                                                                                                                store64(l2 + 24u, l29);
+                                                                                                                                store64(l2 + 16u, l28);
+                                                                                                                                store64(l2 + 8u, l27);
+                                                                                                                                store64(l2, l26);
                                                                                                                             }
-                                                                                                                            L228:;
+                                                                                                                            L225:;
                                                                                                                             l4 = l4 + 64ull;
                                                                                                                             l6 = l6 - 8ull;
-                                                                                                                            if (l6 > 8ull) goto L227;
+                                                                                                                            if (l6 > 8ull) goto L224;
                                                                                                                         }
                                                                                                                     }
                                                                                                                     l8 = l1 - 8ull;
-                                                                                                                    core_slice_edits_slice_T_copy_from_slice(e, l3 + ((l8 + l17) << 3), l3 + ((l8 + l11) << 3), 8ull);
-                                                                                                                    store32(l9 + 24ull, l37);
-                                                                                                                    goto L186;
+                                                                                                                    core_slice_edits_slice_T_copy_from_slice(e, l3 + ((l8 + l19) << 3), l3 + ((l8 + l11) << 3), 8ull);
+                                                                                                                    store32(l9 + 24ull, l35);
+                                                                                                                    goto L183;
                                                                                                                 }
-                                                                                                                L189:;
-                                                                                                                l37 = 0u;
-                                                                                                                if (l38 & 255u) { v178 = 0u; goto L178; }
-                                                                                                                l37 = l34 + l43;
-                                                                                                                if (l34 != 1u) goto L187;
-                                                                                                                l8 = l3 + ((u64)(l47 - l37) << 3);
+                                                                                                                L186:;
+                                                                                                                l35 = 0u;
+                                                                                                                if (l38 & 255u) { v175 = 0u; goto L175; }
+                                                                                                                l35 = l33 + l37;
+                                                                                                                if (l33 != 1u) goto L184;
+                                                                                                                l8 = l3 + ((u64)(l47 - l35) << 3);
                                                                                                                 l2 = l3 + (l11 << 3);
-                                                                                                                const u32 t255 = load16(l2);
-                                                                                                                store16(l8, (u16)t255);
-                                                                                                                const u32 t256 = load32(l2 + 4ull);
-                                                                                                                store32(l8 + 4ull, t256);
-                                                                                                                goto L187;
+                                                                                                                const u32 t252 = load16(l2);
+                                                                                                                store16(l8, (u16)t252);
+                                                                                                                const u32 t253 = load32(l2 + 4ull);
+                                                                                                                store32(l8 + 4ull, t253);
+                                                                                                                goto L184;
                                                                                                             }
-                                                                                                            L188:;
-                                                                                                            space_copies_copy_long(e, l3, l11, l2, l17);
+                                                                                                            L185:;
+                                                                                                            space_copies_copy_long(e, l3, l11, l2, l19);
                                                                                                         }
-                                                                                                        L187:;
-                                                                                                        store32(l9 + 24ull, l37);
+                                                                                                        L184:;
+                                                                                                        store32(l9 + 24ull, l35);
                                                                                                     }
-                                                                                                    L186:;
-                                                                                                    l37 = 1u;
-                                                                                                    v178 = l34;
+                                                                                                    L183:;
+                                                                                                    l35 = 1u;
+                                                                                                    v175 = l33;
                                                                                                 }
-                                                                                                L178:;
-                                                                                                l35 = v178;
-                                                                                                if ((l37 & 255u) != 1u) goto L147;
+                                                                                                L175:;
+                                                                                                l34 = v175;
+                                                                                                if ((l35 & 255u) != 1u) goto L144;
                                                                                             }
-                                                                                            store32(l7 + 124u, l35);
-                                                                                            store16(l7 + 120u, (u16)2u);
-                                                                                            goto L53;
+                                                                                            store32(l7 + 108u, l34);
+                                                                                            store16(l7 + 104u, (u16)2u);
+                                                                                            goto L91;
                                                                                         }
-                                                                                        L147:;
-                                                                                        const u32 t257 = forms_work_Work_fill_body(e, l9, l44, l49, l48);
-                                                                                        l34 = t257;
-                                                                                        store32(l7 + 124u, 0u);
-                                                                                        store8(l7 + 121u, (u8)0u);
-                                                                                        store8(l7 + 120u, (u8)l34);
+                                                                                        L144:;
+                                                                                        const u32 t254 = forms_work_Work_fill_body(e, l9, l43, l49, l48);
+                                                                                        l33 = t254;
+                                                                                        store32(l7 + 108u, 0u);
+                                                                                        store8(l7 + 105u, (u8)0u);
+                                                                                        store8(l7 + 104u, (u8)l33);
                                                                                     }
-                                                                                    L53:;
-                                                                                    const u32 t258 = load32(l7 + 124u);
-                                                                                    l43 = t258;
-                                                                                    const u32 t259 = load8(l7 + 121u);
-                                                                                    l37 = t259;
-                                                                                    const u32 t260 = load8(l7 + 120u);
-                                                                                    l35 = t260;
+                                                                                    L91:;
+                                                                                    const u32 t255 = load32(l7 + 108u);
+                                                                                    l33 = t255;
+                                                                                    const u32 t256 = load8(l7 + 105u);
+                                                                                    l37 = t256;
+                                                                                    const u32 t257 = load8(l7 + 104u);
+                                                                                    l34 = t257;
+                                                                                    goto L53;
                                                                                 }
-                                                                                L52:;
-                                                                                store32(l7 + 116u, l43);
-                                                                                goto L49;
+                                                                                L55:;
+                                                                                store16(l21, (u16)0u);
+                                                                                store8(l21 + 2u, (u8)0u);
+                                                                                store8(l7 + 180u, (u8)l38);
+                                                                                store32(l7 + 176u, l35);
+                                                                                store32(l7 + 172u, l40);
+                                                                                store32(l7 + 168u, l42);
+                                                                                functions_arguments_Arguments_next(e, l7 + 24ull, l7 + 168ull, l9);
+                                                                                const u32 t258 = load32(l7 + 28u);
+                                                                                l33 = t258;
+                                                                                const u32 t259 = load32(l7 + 24u);
+                                                                                l34 = t259;
+                                                                                store64(l7 + 160u, 0ull);
+                                                                                store64(l7 + 152u, 0ull);
+                                                                                store64(l7 + 144u, 0ull);
+                                                                                store64(l7 + 136u, 0ull);
+                                                                                store64(l7 + 128u, 0ull);
+                                                                                {
+                                                                                    {
+                                                                                        u32 v262;
+                                                                                        {
+                                                                                            const u32 t263 = load32(l9 + 40ull);
+                                                                                            l35 = t263;
+                                                                                            if (l35 >= 8u) {
+                                                                                                forms_work_Work_find_among_more(e, l7 + 8ull, l9, l34, l33);
+                                                                                                const u32 t265 = load8(l7 + 8u);
+                                                                                                l33 = t265;
+                                                                                                const u32 t266 = load32(l7 + 12u);
+                                                                                                v262 = t266; goto L262;
+                                                                                            }
+                                                                                            {
+                                                                                                if (l35 == 0) goto L267;
+                                                                                                const u64 t268 = load32(l8 + 4ull);
+                                                                                                l3 = (u64)(l33 + l36);
+                                                                                                l2 = (u64)(l34 + l36);
+                                                                                                if (t268 != (l3 - l2)) goto L267;
+                                                                                                l11 = 17ull - (l2 << 3);
+                                                                                                l2 = (l3 ^ 18446744073709551615ull) + l2;
+                                                                                                l8 = l8 + (l3 << 3);
+                                                                                                L269:;
+                                                                                                {
+                                                                                                    l2 = l2 + 1ull;
+                                                                                                    if (l2 == 0) goto L261;
+                                                                                                    l3 = l8 - 7ull;
+                                                                                                    l4 = l8 + l11;
+                                                                                                    l8 = l8 - 8ull;
+                                                                                                    const u32 t270 = load8(l4);
+                                                                                                    const u32 t271 = load8(l3);
+                                                                                                    if (t270 == t271) goto L269;
+                                                                                                }
+                                                                                            }
+                                                                                            L267:;
+                                                                                            forms_work_Work_find_among_few(e, l7 + 16ull, l9, l34, l33);
+                                                                                            const u32 t272 = load8(l7 + 16u);
+                                                                                            l33 = t272;
+                                                                                            const u32 t273 = load32(l7 + 20u);
+                                                                                            v262 = t273;
+                                                                                        }
+                                                                                        L262:;
+                                                                                        l34 = v262;
+                                                                                        if ((l33 & 255u) == 1u) goto L260;
+                                                                                        l37 = 0u;
+                                                                                        l34 = 3u;
+                                                                                        l33 = 0u;
+                                                                                        goto L53;
+                                                                                    }
+                                                                                    L261:;
+                                                                                    store64(l9 + 44ull, 0ull);
+                                                                                    l34 = 0u;
+                                                                                }
+                                                                                L260:;
+                                                                                forms_work_Work_stored(e, l7 + 128ull, l9, l34);
+                                                                                l33 = 0u;
+                                                                                const u32 t274 = core_display_show_form(e, l7 + 128ull, l15);
+                                                                                l34 = t274 & 255u;
+                                                                                l37 = l34 ? 5u : 0u;
+                                                                                l34 = l34 + 3u;
+                                                                                goto L53;
                                                                             }
-                                                                            L51:;
-                                                                            l37 = 0u;
-                                                                            v50 = 1u;
+                                                                            L54:;
+                                                                            store16(l18, (u16)0u);
+                                                                            store8(l18 + 2u, (u8)0u);
+                                                                            store8(l7 + 140u, (u8)l38);
+                                                                            store32(l7 + 136u, l35);
+                                                                            store32(l7 + 132u, l40);
+                                                                            store32(l7 + 128u, l42);
+                                                                            functions_arguments_Arguments_next(e, l7, l7 + 128ull, l9);
+                                                                            l34 = 3u;
+                                                                            const u32 t275 = load32(l7 + 4u);
+                                                                            l35 = t275;
+                                                                            const u32 t276 = load32(l7);
+                                                                            l38 = t276;
+                                                                            if (l35 == l38) {
+                                                                                l37 = 0u;
+                                                                                goto L53;
+                                                                            }
+                                                                            l2 = (u64)(l36 + l38);
+                                                                            l8 = l8 + (l2 << 3);
+                                                                            {
+                                                                                l2 = (u64)(l35 + l36) - l2;
+                                                                                if (l2 < 16ull) {
+                                                                                    {
+                                                                                        L281:;
+                                                                                        {
+                                                                                            l35 = 0u;
+                                                                                            const u32 t282 = load8(l8);
+                                                                                            if (t282 == 0) {
+                                                                                                const u32 t284 = load8(l8 + 1ull);
+                                                                                                l35 = t284;
+                                                                                            }
+                                                                                            l3 = l15 + 16ull;
+                                                                                            const u64 t285 = load64(l3);
+                                                                                            l4 = t285;
+                                                                                            const u64 t286 = load64(l15 + 8ull);
+                                                                                            if (l4 >= t286) goto L280;
+                                                                                            const u64 t287 = load64(l15);
+                                                                                            store8(t287 + l4, (u8)l35);
+                                                                                            const u64 t288 = load64(l3);
+                                                                                            store64(l3, t288 + 1ull);
+                                                                                            l8 = l8 + 8ull;
+                                                                                            l2 = l2 - 1ull;
+                                                                                            if ((l2 == 0) == 0) goto L281;
+                                                                                        }
+                                                                                        l37 = 0u;
+                                                                                        goto L53;
+                                                                                    }
+                                                                                    L280:;
+                                                                                    l8 = l15 + 24ull;
+                                                                                    const u64 t289 = load64(l8);
+                                                                                    store64(l8, t289 + 1ull);
+                                                                                    goto L278;
+                                                                                }
+                                                                                {
+                                                                                    L291:;
+                                                                                    {
+                                                                                        l35 = 0u;
+                                                                                        const u32 t292 = load8(l8);
+                                                                                        if (t292 == 0) {
+                                                                                            const u32 t294 = load8(l8 + 1ull);
+                                                                                            l35 = t294;
+                                                                                        }
+                                                                                        l3 = l15 + 16ull;
+                                                                                        const u64 t295 = load64(l3);
+                                                                                        l4 = t295;
+                                                                                        const u64 t296 = load64(l15 + 8ull);
+                                                                                        if (l4 >= t296) goto L290;
+                                                                                        const u64 t297 = load64(l15);
+                                                                                        store8(t297 + l4, (u8)l35);
+                                                                                        const u64 t298 = load64(l3);
+                                                                                        store64(l3, t298 + 1ull);
+                                                                                        l8 = l8 + 8ull;
+                                                                                        l2 = l2 - 1ull;
+                                                                                        if ((l2 == 0) == 0) goto L291;
+                                                                                    }
+                                                                                    l37 = 0u;
+                                                                                    goto L53;
+                                                                                }
+                                                                                L290:;
+                                                                                l8 = l15 + 24ull;
+                                                                                const u64 t299 = load64(l8);
+                                                                                store64(l8, t299 + 1ull);
+                                                                            }
+                                                                            L278:;
+                                                                            l37 = 5u;
+                                                                            l34 = 4u;
                                                                         }
-                                                                        L50:;
-                                                                        l35 = v50;
-                                                                        store32(l7 + 116u, 0u);
+                                                                        L53:;
+                                                                        switch ((u32)(((u64)l34 & 255ull)) - 1u) {
+                                                                        case 0: goto L25;
+                                                                        case 1: goto L49;
+                                                                        case 2: goto L49;
+                                                                        case 3: goto L27;
+                                                                        default: goto L29;
+                                                                        }
                                                                     }
                                                                     L49:;
-                                                                    store8(l7 + 113u, (u8)l37);
-                                                                    store8(l7 + 112u, (u8)l35);
+                                                                    l44 = l44 + l45;
+                                                                    const u64 t300 = load64(l9);
+                                                                    const u32 t301 = load32(l9 + 16ull);
+                                                                    l45 = t301;
+                                                                    l8 = t300 + ((u64)l45 << 3);
+                                                                    {
+                                                                        {
+                                                                            const u32 t304 = load32(l9 + 32ull);
+                                                                            l36 = t304;
+                                                                            l40 = l36 <= l39;
+                                                                            if (l40) goto L303;
+                                                                            if ((l36 - l39) != 1u) goto L303;
+                                                                            const u32 t305 = load32((l8 + ((l13 << 3) & 34359738360ull)) + 4ull);
+                                                                            l36 = t305;
+                                                                            l40 = l36 ? (l46 - l36) : 0u;
+                                                                            goto L302;
+                                                                        }
+                                                                        L303:;
+                                                                        if (l40) {
+                                                                            l40 = l36;
+                                                                            goto L302;
+                                                                        }
+                                                                        L307:;
+                                                                        {
+                                                                            const u32 t308 = load32((l8 + ((u64)(l36 - 1u) << 3)) + 4ull);
+                                                                            l40 = t308;
+                                                                            l36 = l36 - l40;
+                                                                            l40 = l40 ? l36 : 0u;
+                                                                            if (l40 > l39) goto L307;
+                                                                        }
+                                                                    }
+                                                                    L302:;
+                                                                    store32(l9 + 20ull, l39);
+                                                                    store32(l9 + 32ull, l40);
+                                                                    l36 = l33 + l44;
+                                                                    goto L24;
                                                                 }
                                                                 L48:;
-                                                                const u32 t261 = load32(l7 + 116u);
-                                                                l34 = t261;
-                                                                switch ((u32)(((u64)l35 & 255ull)) - 1u) {
-                                                                case 0: goto L26;
-                                                                case 1: goto L47;
-                                                                case 2: goto L47;
-                                                                case 3: goto L27;
-                                                                default: goto L28;
+                                                                const u32 t309 = load8(l12 + 17ull);
+                                                                if (t309) {
+                                                                    l37 = 1u;
+                                                                    goto L27;
                                                                 }
-                                                            }
-                                                            L47:;
-                                                            l46 = l45 + l46;
-                                                            const u64 t262 = load64(l9);
-                                                            const u32 t263 = load32(l9 + 16ull);
-                                                            l45 = t263;
-                                                            l8 = t262 + ((u64)l45 << 3);
-                                                            {
                                                                 {
-                                                                    const u32 t266 = load32(l9 + 32ull);
-                                                                    l36 = t266;
-                                                                    l41 = l36 <= l39;
-                                                                    if (l41) goto L265;
-                                                                    if ((l36 - l39) != 1u) goto L265;
-                                                                    const u32 t267 = load32((l8 + ((l15 << 3) & 34359738360ull)) + 4ull);
-                                                                    l36 = t267;
-                                                                    l41 = l36 ? (l50 - l36) : 0u;
-                                                                    goto L264;
+                                                                    {
+                                                                        const u64 t313 = load64(l12 + 8u);
+                                                                        l8 = t313;
+                                                                        if (l8 == 0) {
+                                                                            const u32 t315 = load8(l12 + 16ull);
+                                                                            if (t315) goto L312;
+                                                                            l37 = 1u;
+                                                                            store8(l12 + 17ull, (u8)1u);
+                                                                            goto L27;
+                                                                        }
+                                                                        store64(l12 + 8u, l8 - 1ull);
+                                                                        const u64 t316 = load64(l12);
+                                                                        l8 = t316;
+                                                                        store64(l12, l8 + 1ull);
+                                                                        const u32 t317 = load8(l8);
+                                                                        l33 = t317;
+                                                                        store64(l7 + 128u, 0ull);
+                                                                        store8(l7 + 129u, (u8)l33);
+                                                                        const u32 t318 = load32(l9 + 28ull);
+                                                                        l8 = l9 + 20ull;
+                                                                        const u32 t319 = load32(l8);
+                                                                        l44 = t319;
+                                                                        const u32 t320 = load32(l9 + 16ull);
+                                                                        l46 = l44 + t320;
+                                                                        const u32 t321 = load32(l9 + 24ull);
+                                                                        if (t318 == (l46 + t321)) goto L311;
+                                                                        l2 = l9 + 32ull;
+                                                                        const u32 t322 = load32(l2);
+                                                                        l34 = t322;
+                                                                        const u64 t323 = load64(l9);
+                                                                        l13 = t323 + ((u64)l46 << 3);
+                                                                        store8(l13, (u8)0u);
+                                                                        store32(l13 + 4ull, 0u);
+                                                                        store8(l13 + 1ull, (u8)l33);
+                                                                        store32(l8, l44 + 1u);
+                                                                        store32(l2, l34);
+                                                                        goto L25;
+                                                                    }
+                                                                    L312:;
+                                                                    l8 = l12 + 24ull;
+                                                                    const u64 t324 = load64(l8);
+                                                                    store64(l8, t324 + 1ull);
+                                                                    goto L28;
                                                                 }
-                                                                L265:;
-                                                                if (l41) {
-                                                                    l41 = l36;
-                                                                    goto L264;
-                                                                }
-                                                                L269:;
-                                                                {
-                                                                    const u32 t270 = load32((l8 + ((u64)(l36 - 1u) << 3)) + 4ull);
-                                                                    l41 = t270;
-                                                                    l36 = l36 - l41;
-                                                                    l41 = l41 ? l36 : 0u;
-                                                                    if (l41 > l39) goto L269;
-                                                                }
+                                                                L311:;
+                                                                const u32 t325 = space_space_Space_push_in_way(e, l9, l7 + 128ull);
+                                                                if (t325) goto L25;
                                                             }
-                                                            L264:;
-                                                            store32(l9 + 20ull, l39);
-                                                            store32(l9 + 32ull, l41);
-                                                            l36 = l34 + l46;
-                                                            goto L25;
+                                                            L29:;
+                                                            l9 = l17 - l14;
+                                                            l37 = 2u;
+                                                            goto L26;
                                                         }
                                                         L28:;
-                                                        l9 = l16 - l12;
-                                                        l37 = 2u;
-                                                        goto L10;
+                                                        l37 = 4u;
                                                     }
                                                     L27:;
-                                                    const u32 t271 = load32(l9 + 24ull);
-                                                    const u32 t272 = load32(l9 + 20ull);
-                                                    const u32 t273 = load32(l9 + 16ull);
-                                                    l36 = t271 + (t272 + t273);
-                                                    l9 = l16 - l12;
+                                                    const u32 t326 = load32(l9 + 24ull);
+                                                    const u32 t327 = load32(l9 + 20ull);
+                                                    const u32 t328 = load32(l9 + 16ull);
+                                                    l36 = t326 + (t327 + t328);
+                                                    l9 = l17 - l14;
                                                     l39 = 1u << (l37 & 31);
-                                                    if (l39 & 3u) goto L15;
-                                                    if (l39 & 12u) goto L10;
-                                                    l40 = (l36 > l40) ? l36 : l40;
-                                                    goto L10;
+                                                    if ((l39 & 3u) == 0) {
+                                                        if (l39 & 12u) goto L26;
+                                                        l41 = (l36 > l41) ? l36 : l41;
+                                                        goto L26;
+                                                    }
+                                                    l41 = (l36 > l41) ? l36 : l41;
+                                                    l9 = l9 + 1ull;
                                                 }
                                                 L26:;
-                                                l8 = l9 + 20ull;
-                                                const u32 t274 = load32(l8);
-                                                l46 = t274;
-                                                core_delivery_deliver(e, l9, l39, l41);
-                                                l36 = l46 + (l36 + l45);
-                                                const u32 t275 = load32(l8);
-                                                l39 = t275;
-                                                const u32 t276 = load32(l9 + 16ull);
-                                                l45 = t276;
+                                                store32(l16 + 20u, 0u);
+                                                store32(l16 + 16u, l41);
+                                                store64(l16 + 8u, l9);
+                                                store64(l16, (u64)l37 & 255ull);
+                                                goto L14;
                                             }
                                             L25:;
-                                            store32(l7 + 72u, 0u);
-                                            store32(l7 + 76u, l39);
-                                            const u32 t277 = load32(l9 + 24ull);
-                                            l39 = t277 + (l39 + l45);
-                                            l40 = (l36 > l40) ? l36 : l40;
-                                            v21 = l12 - 1ull;
+                                            l8 = l9 + 20ull;
+                                            const u32 t330 = load32(l8);
+                                            l33 = t330;
+                                            core_delivery_deliver(e, l9, l39, l40);
+                                            l36 = l33 + (l36 + l45);
+                                            const u32 t331 = load32(l8);
+                                            l39 = t331;
+                                            const u32 t332 = load32(l9 + 16ull);
+                                            l45 = t332;
                                         }
-                                        L21:;
-                                        l12 = v21;
-                                        if (l12 != 0ull) goto L20;
+                                        L24:;
+                                        store32(l7 + 96u, 0u);
+                                        store32(l7 + 100u, l39);
+                                        const u32 t333 = load32(l9 + 24ull);
+                                        l39 = t333 + (l39 + l45);
+                                        l41 = (l36 > l41) ? l36 : l41;
+                                        v20 = l14 - 1ull;
                                     }
+                                    L20:;
+                                    l14 = v20;
+                                    if (l14 != 0ull) goto L19;
                                 }
-                                store32(l14 + 20u, 0u);
-                                store32(l14 + 16u, l40);
-                                store64(l14 + 8u, l16);
-                                store64(l14, 3ull);
-                                goto L9;
                             }
-                            L15:;
-                            l40 = (l36 > l40) ? l36 : l40;
-                            l9 = l9 + 1ull;
-                            goto L10;
+                            store32(l16 + 20u, 0u);
+                            store32(l16 + 16u, l41);
+                            store64(l16 + 8u, l17);
+                            store64(l16, 3ull);
                         }
-                        trap();
+                        L14:;
+                        e->stack_pointer = l7 + 192ull;
+                        goto L9;
                     }
-                    L10:;
-                    store32(l14 + 20u, 0u);
-                    store32(l14 + 16u, l40);
-                    store64(l14 + 8u, l9);
-                    store64(l14, (u64)l37 & 255ull);
+                    trap();
                 }
                 L9:;
-                e->stack_pointer = l7 + 192ull;
-                const u32 t278 = load8(l10 + 160u);
-                l35 = t278;
-                const u32 t279 = load32(l10 + 176u);
-                l34 = t279;
-                const u64 t280 = load64(l10 + 168u);
-                l8 = t280;
-                const u64 t281 = load64(l10 + 24u);
-                l6 = t281;
-                const u64 t282 = load64(l10 + 48u);
-                l4 = t282;
+                const u32 t334 = load8(l10 + 160u);
+                l34 = t334;
+                const u32 t335 = load32(l10 + 176u);
+                l33 = t335;
+                const u64 t336 = load64(l10 + 168u);
+                l8 = t336;
+                const u64 t337 = load64(l10 + 24u);
+                l6 = t337;
+                const u64 t338 = load64(l10 + 48u);
+                l4 = t338;
                 store64(l0 + 32u, 0ull);
                 l4 = l5 - l4;
                 store64(l0 + 24u, (l4 > l5) ? 0ull : l4);
                 store64(l0 + 16u, l6);
                 store64(l0 + 8u, l8);
-                store32(l0 + 4u, l34);
-                store32(l0, l35 + 1u);
+                store32(l0 + 4u, l33);
+                store32(l0, l34 + 1u);
             }
             L3:;
             e->stack_pointer = l10 + 208ull;
@@ -19165,50 +19225,51 @@ static void engine_turn(struct engine *e, u64 l0, u64 l1, u64 l2, u64 l3, u64 l4
     u64 l46 = 0;
     u64 l47 = 0;
     u64 l48 = 0;
-    l36 = l0;
+    l37 = l0;
     l28 = l1;
     l32 = l2;
     l24 = l6;
-    l26 = e->stack_pointer - 208ull;
+    l26 = e->stack_pointer - 224ull;
     e->stack_pointer = l26;
     {
         if ((i64)(l26 - e->stack) >= (i64)16ull) {
-            store64(l26 + 88u, 0ull);
-            store64(l26 + 80u, l3);
-            store64(l26 + 96u, 0ull);
-            store64(l26 + 56u, 0ull);
-            store64(l26 + 48u, l5);
+            store64(l26 + 104u, 0ull);
+            store64(l26 + 96u, l3);
+            store64(l26 + 112u, 0ull);
             store64(l26 + 64u, 0ull);
-            store64(l26 + 72u, l32 + ((l32 == 0) ? 4096ull : 0ull));
-            store64(l26 + 40u, l4 + ((l4 == 0) ? 4096ull : 0ull));
+            store64(l26 + 56u, l5);
+            store64(l26 + 72u, 0ull);
+            store64(l26 + 80u, 0ull);
+            store64(l26 + 88u, l32 + ((l32 == 0) ? 4096ull : 0ull));
+            store64(l26 + 48u, l4 + ((l4 == 0) ? 4096ull : 0ull));
             {
                 if (l7 == 0) goto L3;
                 l40 = l28 + 56ull;
-                l43 = l26 + 181ull;
-                l44 = l26 + 165ull;
-                l45 = l26 + 117ull;
+                l43 = l26 + 197ull;
+                l44 = l26 + 181ull;
+                l45 = l26 + 133ull;
                 l4 = 0ull;
                 L4:;
                 {
-                    store64(l26 + 144u, 0ull);
-                    store64(l26 + 104u, 0ull);
-                    store64(l26 + 112u, 0ull);
+                    store64(l26 + 160u, 0ull);
                     store64(l26 + 120u, 0ull);
+                    store64(l26 + 128u, 0ull);
+                    store64(l26 + 136u, 0ull);
                     l5 = l28 + 84ull;
                     const u32 t5 = load8(l5);
                     u64 v6;
                     if (t5 != 1u) {
                         l32 = l28 + 80ull;
                         const u32 t7 = load32(l32);
-                        store32(l26 + 144u, t7);
+                        store32(l26 + 160u, t7);
                         l41 = l28 + 72ull;
                         const u64 t8 = load64(l41);
-                        store64(l26 + 136u, t8);
+                        store64(l26 + 152u, t8);
                         const u64 t9 = load64(l28 + 64ull);
-                        store64(l26 + 128u, t9);
-                        l34 = l26 + 104ull;
+                        store64(l26 + 144u, t9);
+                        l35 = l26 + 120ull;
                         l1 = l28;
-                        l30 = l26 + 128ull;
+                        l30 = l26 + 144ull;
                         l29 = l7 - l4;
                         l27 = e->stack_pointer - 160ull;
                         e->stack_pointer = l27;
@@ -19217,7 +19278,7 @@ static void engine_turn(struct engine *e, u64 l0, u64 l1, u64 l2, u64 l3, u64 l4
                                 {
                                     if ((i64)(l27 - e->stack) >= (i64)16ull) {
                                         const u64 t14 = load64(l30 + 8u);
-                                        l37 = t14;
+                                        l38 = t14;
                                         store64(l27 + 56u, 0ull);
                                         store64(l27 + 64u, 0ull);
                                         store32(l27 + 76u, 0u);
@@ -19227,15 +19288,15 @@ static void engine_turn(struct engine *e, u64 l0, u64 l1, u64 l2, u64 l3, u64 l4
                                         const u32 t16 = load32(l30 + 16u);
                                         l13 = t16;
                                         const u64 t17 = load64(l30);
-                                        l30 = t17 - l37;
-                                        l35 = (l29 > l30) ? l30 : l29;
-                                        if ((l35 == 0) == 0) {
+                                        l30 = t17 - l38;
+                                        l33 = (l29 > l30) ? l30 : l29;
+                                        if ((l33 == 0) == 0) {
                                             const u32 t19 = load32(l1 + 24ull);
                                             const u32 t20 = load32(l1 + 16ull);
                                             l9 = t19 + (l8 + t20);
                                             l46 = l27 + 125ull;
                                             l47 = l27 + 109ull;
-                                            l30 = l35;
+                                            l30 = l33;
                                             L21:;
                                             {
                                                 core_scan_pass(e, l27 + 56ull, l1, l30, l27 + 80ull, l27 + 76ull);
@@ -19259,8 +19320,8 @@ static void engine_turn(struct engine *e, u64 l0, u64 l1, u64 l2, u64 l3, u64 l4
                                                             l2 = l1 + 24ull;
                                                             const u32 t30 = load32(l2);
                                                             l8 = t30;
-                                                            l38 = l1 + 16ull;
-                                                            const u32 t31 = load32(l38);
+                                                            l39 = l1 + 16ull;
+                                                            const u32 t31 = load32(l39);
                                                             if ((l9 - (l8 + t31)) <= 10u) {
                                                                 const u32 t33 = space_space_Space_find_way(e, l1, 11ull);
                                                                 if (t33 == 0) goto L12;
@@ -19274,7 +19335,7 @@ static void engine_turn(struct engine *e, u64 l0, u64 l1, u64 l2, u64 l3, u64 l4
                                                             space_space_write_bytes(e, t36 + ((u64)(l9 - l8) << 3), TABLES + 768u, 11ull);
                                                             store32(l2, l8);
                                                             const u32 t37 = load32(l29);
-                                                            const u32 t38 = load32(l38);
+                                                            const u32 t38 = load32(l39);
                                                             v26 = t37 + (t38 + l8); goto L26;
                                                         }
                                                         const u64 t39 = load64(l1);
@@ -19282,10 +19343,10 @@ static void engine_turn(struct engine *e, u64 l0, u64 l1, u64 l2, u64 l3, u64 l4
                                                         const u32 t40 = load32(l1 + 16ull);
                                                         l8 = t40;
                                                         const u64 t41 = load64(l27 + 64u);
-                                                        l38 = t41;
-                                                        l17 = (u32)l38;
+                                                        l39 = t41;
+                                                        l17 = (u32)l39;
                                                         const u32 t42 = load8((l2 + ((u64)(l8 + l17) << 3)) + 1ull);
-                                                        l15 = t42;
+                                                        l16 = t42;
                                                         const u32 t43 = load32(l1 + 20ull);
                                                         l9 = t43;
                                                         store8(l27 + 114u, (u8)0u);
@@ -19303,8 +19364,8 @@ static void engine_turn(struct engine *e, u64 l0, u64 l1, u64 l2, u64 l3, u64 l4
                                                                                                 {
                                                                                                     {
                                                                                                         l6 = l8 + l9;
-                                                                                                        l16 = l17 + 1u;
-                                                                                                        l29 = (u64)(l8 + l16);
+                                                                                                        l15 = l17 + 1u;
+                                                                                                        l29 = (u64)(l8 + l15);
                                                                                                         l31 = (u64)l6 - l29;
                                                                                                         if (l31 < 2ull) goto L55;
                                                                                                         l29 = l2 + (l29 << 3);
@@ -19320,22 +19381,22 @@ static void engine_turn(struct engine *e, u64 l0, u64 l1, u64 l2, u64 l3, u64 l4
                                                                                                     l14 = 0u;
                                                                                                     store8(l27 + 86u, (u8)0u);
                                                                                                     store16(l27 + 84u, (u16)0u);
-                                                                                                    l11 = 1u;
-                                                                                                    l10 = 0u;
-                                                                                                    l12 = l16;
+                                                                                                    l10 = 1u;
+                                                                                                    l11 = 0u;
+                                                                                                    l12 = l15;
                                                                                                     goto L53;
                                                                                                 }
                                                                                                 L54:;
                                                                                                 const u32 t59 = load8(l27 + 114u);
                                                                                                 l14 = t59;
                                                                                                 const u32 t60 = load8(l27 + 113u);
-                                                                                                l10 = t60;
-                                                                                                l11 = 0u;
+                                                                                                l11 = t60;
+                                                                                                l10 = 0u;
                                                                                                 store8(l27 + 86u, (u8)0u);
                                                                                                 store16(l27 + 84u, (u16)0u);
                                                                                                 l12 = l17 + 4u;
-                                                                                                if ((l10 - 11u) < 14u) goto L53;
-                                                                                                if (((1u << (l10 & 31)) & 1012u) == 0) goto L52;
+                                                                                                if ((l11 - 11u) < 14u) goto L53;
+                                                                                                if (((1u << (l11 & 31)) & 1012u) == 0) goto L52;
                                                                                             }
                                                                                             L53:;
                                                                                             l29 = l1 + 24ull;
@@ -19344,13 +19405,13 @@ static void engine_turn(struct engine *e, u64 l0, u64 l1, u64 l2, u64 l3, u64 l4
                                                                                             store32(l29, l22);
                                                                                             l18 = l6 + l22;
                                                                                             l6 = 0u;
-                                                                                            if (l11) goto L44;
-                                                                                            l11 = (u32)(l38 >> 32);
-                                                                                            l15 = l15 == 0;
+                                                                                            if (l10) goto L44;
+                                                                                            l10 = (u32)(l39 >> 32);
+                                                                                            l16 = l16 == 0;
                                                                                             {
-                                                                                                if ((l10 - 5u) < 20u) goto L62;
+                                                                                                if ((l11 - 5u) < 20u) goto L62;
                                                                                                 {
-                                                                                                    switch (l10 - 2u) {
+                                                                                                    switch (l11 - 2u) {
                                                                                                     case 0: goto L63;
                                                                                                     case 2: goto L51;
                                                                                                     default: goto L62;
@@ -19361,8 +19422,8 @@ static void engine_turn(struct engine *e, u64 l0, u64 l1, u64 l2, u64 l3, u64 l4
                                                                                                 store16(l46, (u16)t64);
                                                                                                 const u32 t65 = load8(l27 + 86u);
                                                                                                 store8(l46 + 2u, (u8)t65);
-                                                                                                store8(l27 + 124u, (u8)l15);
-                                                                                                store32(l27 + 120u, l11);
+                                                                                                store8(l27 + 124u, (u8)l16);
+                                                                                                store32(l27 + 120u, l10);
                                                                                                 store32(l27 + 116u, l9);
                                                                                                 store32(l27 + 112u, l12);
                                                                                                 functions_arguments_Arguments_next(e, l27 + 8ull, l27 + 112ull, l1);
@@ -19388,8 +19449,8 @@ static void engine_turn(struct engine *e, u64 l0, u64 l1, u64 l2, u64 l3, u64 l4
                                                                                             store16(l47, (u16)t72);
                                                                                             const u32 t73 = load8(l27 + 86u);
                                                                                             store8(l47 + 2u, (u8)t73);
-                                                                                            store8(l27 + 108u, (u8)l15);
-                                                                                            store32(l27 + 104u, l11);
+                                                                                            store8(l27 + 108u, (u8)l16);
+                                                                                            store32(l27 + 104u, l10);
                                                                                             store32(l27 + 100u, l9);
                                                                                             store32(l27 + 96u, l12);
                                                                                             store64(l27 + 88u, 0ull);
@@ -19412,7 +19473,7 @@ static void engine_turn(struct engine *e, u64 l0, u64 l1, u64 l2, u64 l3, u64 l4
                                                                                                                                                             {
                                                                                                                                                                 {
                                                                                                                                                                     {
-                                                                                                                                                                        switch (l10 - 5u) {
+                                                                                                                                                                        switch (l11 - 5u) {
                                                                                                                                                                         case 0: goto L80;
                                                                                                                                                                         case 1: goto L79;
                                                                                                                                                                         case 2: goto L77;
@@ -19460,22 +19521,22 @@ static void engine_turn(struct engine *e, u64 l0, u64 l1, u64 l2, u64 l3, u64 l4
                                                                                                                                                     store64(l27 + 124u, 0ull);
                                                                                                                                                     functions_arguments_Arguments_next(e, l27 + 16ull, l27 + 136ull, l1);
                                                                                                                                                     const u32 t95 = load32(l27 + 16u);
-                                                                                                                                                    l15 = t95;
+                                                                                                                                                    l16 = t95;
                                                                                                                                                     const u32 t96 = load32(l27 + 20u);
-                                                                                                                                                    l11 = t96;
-                                                                                                                                                    l29 = (u64)(l11 + l8);
-                                                                                                                                                    l31 = (u64)(l15 + l8) - l29;
+                                                                                                                                                    l10 = t96;
+                                                                                                                                                    l29 = (u64)(l10 + l8);
+                                                                                                                                                    l31 = (u64)(l16 + l8) - l29;
                                                                                                                                                     l29 = (l2 + (l29 << 3)) - 8ull;
-                                                                                                                                                    l6 = l11;
+                                                                                                                                                    l6 = l10;
                                                                                                                                                     L97:;
                                                                                                                                                     {
                                                                                                                                                         {
-                                                                                                                                                            l10 = l6;
+                                                                                                                                                            l11 = l6;
                                                                                                                                                             if (l31 == 0) goto L98;
                                                                                                                                                             const u32 t99 = load8(l29);
                                                                                                                                                             if (t99) goto L98;
                                                                                                                                                             l31 = l31 + 1ull;
-                                                                                                                                                            l6 = l10 - 1u;
+                                                                                                                                                            l6 = l11 - 1u;
                                                                                                                                                             l2 = l29 + 1ull;
                                                                                                                                                             l29 = l29 - 8ull;
                                                                                                                                                             const u32 t100 = load8(l2);
@@ -19483,10 +19544,10 @@ static void engine_turn(struct engine *e, u64 l0, u64 l1, u64 l2, u64 l3, u64 l4
                                                                                                                                                         }
                                                                                                                                                         L98:;
                                                                                                                                                     }
-                                                                                                                                                    store32(l27 + 120u, l11);
-                                                                                                                                                    store32(l27 + 116u, l10);
+                                                                                                                                                    store32(l27 + 120u, l10);
+                                                                                                                                                    store32(l27 + 116u, l11);
                                                                                                                                                     store32(l27 + 112u, 2u);
-                                                                                                                                                    functions_bit_strings_give_bits(e, l27 + 152ull, l1, l15, l10, l27 + 112ull);
+                                                                                                                                                    functions_bit_strings_give_bits(e, l27 + 152ull, l1, l16, l11, l27 + 112ull);
                                                                                                                                                     const u32 t101 = load16(l27 + 152u);
                                                                                                                                                     store16(l27 + 88u, (u16)t101);
                                                                                                                                                     const u32 t102 = load32(l27 + 156u);
@@ -19535,30 +19596,30 @@ static void engine_turn(struct engine *e, u64 l0, u64 l1, u64 l2, u64 l3, u64 l4
                                                                                                             const u64 t104 = load64(l27 + 96u);
                                                                                                             store64(l27 + 112u, t104);
                                                                                                             const u32 t105 = load8(l27 + 124u);
-                                                                                                            l11 = t105;
+                                                                                                            l10 = t105;
                                                                                                             functions_arguments_Arguments_next(e, l27 + 48ull, l27 + 112ull, l1);
                                                                                                             const u32 t106 = load32(l27 + 52u);
-                                                                                                            l10 = t106;
+                                                                                                            l11 = t106;
                                                                                                             const u32 t107 = load32(l27 + 48u);
                                                                                                             l6 = t107;
                                                                                                             u32 v108;
                                                                                                             {
                                                                                                                 const u32 t109 = load32(l1 + 40ull);
-                                                                                                                l15 = t109;
-                                                                                                                if (l15 >= 8u) {
-                                                                                                                    forms_work_Work_find_among_more(e, l27 + 32ull, l1, l6, l10);
+                                                                                                                l16 = t109;
+                                                                                                                if (l16 >= 8u) {
+                                                                                                                    forms_work_Work_find_among_more(e, l27 + 32ull, l1, l6, l11);
                                                                                                                     const u32 t111 = load8(l27 + 32u);
-                                                                                                                    l10 = t111;
+                                                                                                                    l11 = t111;
                                                                                                                     const u32 t112 = load32(l27 + 36u);
                                                                                                                     v108 = t112; goto L108;
                                                                                                                 }
                                                                                                                 {
-                                                                                                                    if (l15 == 0) goto L113;
+                                                                                                                    if (l16 == 0) goto L113;
                                                                                                                     const u64 t114 = load32(l2 + 4ull);
-                                                                                                                    l29 = (u64)(l8 + l10);
+                                                                                                                    l29 = (u64)(l8 + l11);
                                                                                                                     l31 = (u64)(l6 + l8);
                                                                                                                     if (t114 != (l29 - l31)) goto L113;
-                                                                                                                    l39 = 17ull - (l31 << 3);
+                                                                                                                    l36 = 17ull - (l31 << 3);
                                                                                                                     l31 = (l29 ^ 18446744073709551615ull) + l31;
                                                                                                                     l29 = l2 + (l29 << 3);
                                                                                                                     L115:;
@@ -19566,23 +19627,23 @@ static void engine_turn(struct engine *e, u64 l0, u64 l1, u64 l2, u64 l3, u64 l4
                                                                                                                         l31 = l31 + 1ull;
                                                                                                                         if (l31 == 0) goto L50;
                                                                                                                         l2 = l29 - 7ull;
-                                                                                                                        l33 = l29 + l39;
+                                                                                                                        l34 = l29 + l36;
                                                                                                                         l29 = l29 - 8ull;
-                                                                                                                        const u32 t116 = load8(l33);
+                                                                                                                        const u32 t116 = load8(l34);
                                                                                                                         const u32 t117 = load8(l2);
                                                                                                                         if (t116 == t117) goto L115;
                                                                                                                     }
                                                                                                                 }
                                                                                                                 L113:;
-                                                                                                                forms_work_Work_find_among_few(e, l27 + 40ull, l1, l6, l10);
+                                                                                                                forms_work_Work_find_among_few(e, l27 + 40ull, l1, l6, l11);
                                                                                                                 const u32 t118 = load8(l27 + 40u);
-                                                                                                                l10 = t118;
+                                                                                                                l11 = t118;
                                                                                                                 const u32 t119 = load32(l27 + 44u);
                                                                                                                 v108 = t119;
                                                                                                             }
                                                                                                             L108:;
                                                                                                             l6 = v108;
-                                                                                                            if ((l10 & 255u) != 1u) goto L49;
+                                                                                                            if ((l11 & 255u) != 1u) goto L49;
                                                                                                             goto L48;
                                                                                                         }
                                                                                                         L77:;
@@ -19602,16 +19663,16 @@ static void engine_turn(struct engine *e, u64 l0, u64 l1, u64 l2, u64 l3, u64 l4
                                                                                             goto L47;
                                                                                         }
                                                                                         L52:;
-                                                                                        store32(l34 + 20u, 0u);
-                                                                                        store32(l34 + 16u, l13);
-                                                                                        l1 = l35 - l30;
-                                                                                        store64(l34, l1);
-                                                                                        store64(l34 + 8u, l1 + l37);
+                                                                                        store32(l35 + 20u, 0u);
+                                                                                        store32(l35 + 16u, l13);
+                                                                                        l1 = l33 - l30;
+                                                                                        store64(l35, l1);
+                                                                                        store64(l35 + 8u, l1 + l38);
                                                                                         goto L10;
                                                                                     }
                                                                                     L51:;
-                                                                                    l30 = l35 - l30;
-                                                                                    l1 = l30 + l37;
+                                                                                    l30 = l33 - l30;
+                                                                                    l1 = l30 + l38;
                                                                                     l8 = 0u;
                                                                                     goto L46;
                                                                                 }
@@ -19627,97 +19688,97 @@ static void engine_turn(struct engine *e, u64 l0, u64 l1, u64 l2, u64 l3, u64 l4
                                                                         }
                                                                         L48:;
                                                                         const u32 t120 = load32(l27 + 116u);
-                                                                        l10 = t120;
+                                                                        l11 = t120;
                                                                         const u32 t121 = load32(l27 + 112u);
-                                                                        l15 = t121;
+                                                                        l16 = t121;
                                                                         {
-                                                                            if ((l11 & 1u) == 0) goto L122;
-                                                                            if (l10 >= l15) goto L122;
+                                                                            if ((l10 & 1u) == 0) goto L122;
+                                                                            if (l11 >= l16) goto L122;
                                                                             const u32 t123 = load32(l1 + 44ull);
                                                                             const u32 t124 = load32(l1 + 48ull);
                                                                             const u32 t125 = store_store_place_of(e, l1, t123, t124, l6);
-                                                                            l11 = t125;
+                                                                            l10 = t125;
                                                                             l12 = 0u;
                                                                             const u64 t126 = load64(l1);
                                                                             l31 = t126;
-                                                                            l29 = l31 + ((u64)l11 << 3);
+                                                                            l29 = l31 + ((u64)l10 << 3);
                                                                             const u32 t127 = load32(l29 + 12ull);
                                                                             l19 = t127;
                                                                             const u32 t128 = load32(l29 + 20ull);
                                                                             l14 = t128;
                                                                             if (l19 != l14) {
                                                                                 const u32 t130 = load32(l29 + 4ull);
-                                                                                l25 = (l11 + t130) + 3u;
+                                                                                l25 = (l10 + t130) + 3u;
                                                                                 l12 = l25 + l14;
                                                                                 u32 v131;
                                                                                 {
-                                                                                    l11 = l19 - l14;
+                                                                                    l10 = l19 - l14;
                                                                                     const u32 t132 = load32(l1 + 28ull);
                                                                                     l20 = t132;
                                                                                     const u32 t133 = load32(l1 + 20ull);
                                                                                     const u32 t134 = load32(l1 + 24ull);
                                                                                     l21 = t134;
                                                                                     const u32 t135 = load32(l1 + 16ull);
-                                                                                    if (l11 > (l20 - (t133 + (l21 + t135)))) {
+                                                                                    if (l10 > (l20 - (t133 + (l21 + t135)))) {
                                                                                         store_fill_load_items_in_way(e, l27 + 24ull, l1, l12, l19 + l25);
                                                                                         const u32 t137 = load8(l27 + 24u);
                                                                                         l14 = t137;
                                                                                         const u32 t138 = load32(l27 + 28u);
                                                                                         v131 = t138; goto L131;
                                                                                     }
-                                                                                    l0 = (u64)l11;
-                                                                                    l33 = (u64)l12;
+                                                                                    l0 = (u64)l10;
+                                                                                    l34 = (u64)l12;
                                                                                     {
                                                                                         {
                                                                                             {
                                                                                                 {
                                                                                                     {
                                                                                                         {
-                                                                                                            if (l11 >= 8u) {
-                                                                                                                if (l11 == 8u) goto L143;
-                                                                                                                l29 = l31 + (l33 << 3);
+                                                                                                            if (l10 >= 8u) {
+                                                                                                                if (l10 == 8u) goto L143;
+                                                                                                                l29 = l31 + (l34 << 3);
                                                                                                                 l2 = l0;
                                                                                                                 goto L144;
                                                                                                             }
-                                                                                                            if (l11 >= 4u) {
+                                                                                                            if (l10 >= 4u) {
                                                                                                                 l14 = 0u;
-                                                                                                                l29 = l31 + (l33 << 3);
+                                                                                                                l29 = l31 + (l34 << 3);
                                                                                                                 const u32 t147 = load8(l29 + 24ull);
                                                                                                                 const u32 t148 = load8(l29 + 16ull);
                                                                                                                 const u32 t149 = load8(l29 + 8ull);
                                                                                                                 const u32 t150 = load8(l29);
                                                                                                                 if (((t147 + t148) | (t149 + t150)) & 255u) { v131 = 0u; goto L131; }
-                                                                                                                l2 = l0 + l33;
+                                                                                                                l2 = l0 + l34;
                                                                                                                 l29 = l31 + (l2 << 3);
                                                                                                                 const u32 t151 = load8(l29 - 8ull);
                                                                                                                 const u32 t152 = load8(l29 - 16ull);
                                                                                                                 const u32 t153 = load8(l29 - 24ull);
                                                                                                                 const u32 t154 = load8(l29 - 32ull);
                                                                                                                 if (((t151 + t152) | (t153 + t154)) & 255u) { v131 = 0u; goto L131; }
-                                                                                                                l12 = l11 + l21;
+                                                                                                                l12 = l10 + l21;
                                                                                                                 l29 = (u64)(l20 - l12);
-                                                                                                                core_slice_edits_slice_T_copy_from_slice(e, l31 + (l29 << 3), l31 + (l33 << 3), 4ull);
-                                                                                                                const u64 t155 = l29 - l33;
+                                                                                                                core_slice_edits_slice_T_copy_from_slice(e, l31 + (l29 << 3), l31 + (l34 << 3), 4ull);
+                                                                                                                const u64 t155 = l29 - l34;
                                                                                                                 l29 = l2 - 4ull;
                                                                                                                 core_slice_edits_slice_T_copy_from_slice(e, l31 + ((t155 + l29) << 3), l31 + (l29 << 3), 4ull);
                                                                                                                 goto L140;
                                                                                                             }
-                                                                                                            l29 = l31 + (l33 << 3);
+                                                                                                            l29 = l31 + (l34 << 3);
                                                                                                             const u32 t156 = load8(l29);
                                                                                                             l19 = t156;
-                                                                                                            if (l11 < 2u) goto L142;
+                                                                                                            if (l10 < 2u) goto L142;
                                                                                                             l14 = 0u;
                                                                                                             const u32 t157 = load8(l29 + 8ull);
                                                                                                             if (t157 | (l19 & 255u)) { v131 = 0u; goto L131; }
-                                                                                                            l2 = l0 + l33;
+                                                                                                            l2 = l0 + l34;
                                                                                                             l29 = l31 + (l2 << 3);
                                                                                                             const u32 t158 = load8(l29 - 8ull);
                                                                                                             const u32 t159 = load8(l29 - 16ull);
                                                                                                             if (t158 | t159) { v131 = 0u; goto L131; }
-                                                                                                            l12 = l11 + l21;
+                                                                                                            l12 = l10 + l21;
                                                                                                             l29 = (u64)(l20 - l12);
-                                                                                                            core_slice_edits_slice_T_copy_from_slice(e, l31 + (l29 << 3), l31 + (l33 << 3), 2ull);
-                                                                                                            const u64 t160 = l29 - l33;
+                                                                                                            core_slice_edits_slice_T_copy_from_slice(e, l31 + (l29 << 3), l31 + (l34 << 3), 2ull);
+                                                                                                            const u64 t160 = l29 - l34;
                                                                                                             l29 = l2 - 2ull;
                                                                                                             core_slice_edits_slice_T_copy_from_slice(e, l31 + ((t160 + l29) << 3), l31 + (l29 << 3), 2ull);
                                                                                                             goto L140;
@@ -19745,7 +19806,7 @@ static void engine_turn(struct engine *e, u64 l0, u64 l1, u64 l2, u64 l3, u64 l4
                                                                                                     }
                                                                                                     L143:;
                                                                                                     l14 = 0u;
-                                                                                                    l2 = l0 + l33;
+                                                                                                    l2 = l0 + l34;
                                                                                                     l29 = l31 + (l2 << 3);
                                                                                                     const u32 t171 = load8(l29 - 56ull);
                                                                                                     const u32 t172 = load8(l29 - 64ull);
@@ -19756,34 +19817,34 @@ static void engine_turn(struct engine *e, u64 l0, u64 l1, u64 l2, u64 l3, u64 l4
                                                                                                     const u32 t177 = load8(l29 - 16ull);
                                                                                                     const u32 t178 = load8(l29 - 8ull);
                                                                                                     if ((((((((t171 + t172) + t173) + t174) + t175) + t176) + t177) & 255u) | t178) { v131 = 0u; goto L131; }
-                                                                                                    l12 = l11 + l21;
+                                                                                                    l12 = l10 + l21;
                                                                                                     l42 = (u64)(l20 - l12);
-                                                                                                    if (l11 > 24u) goto L141;
-                                                                                                    if (l11 != 8u) {
+                                                                                                    if (l10 > 24u) goto L141;
+                                                                                                    if (l10 != 8u) {
                                                                                                         l29 = l31 + (l42 << 3);
-                                                                                                        l2 = l31 + (l33 << 3);
-                                                                                                        l39 = l0;
+                                                                                                        l2 = l31 + (l34 << 3);
+                                                                                                        l36 = l0;
                                                                                                         L180:;
                                                                                                         {
                                                                                                             core_slice_edits_slice_T_copy_from_slice(e, l29, l2, 8ull);
                                                                                                             l29 = l29 + 64ull;
                                                                                                             l2 = l2 + 64ull;
-                                                                                                            l39 = l39 - 8ull;
-                                                                                                            if (l39 > 8ull) goto L180;
+                                                                                                            l36 = l36 - 8ull;
+                                                                                                            if (l36 > 8ull) goto L180;
                                                                                                         }
                                                                                                     }
                                                                                                     l29 = l0 - 8ull;
-                                                                                                    core_slice_edits_slice_T_copy_from_slice(e, l31 + ((l29 + l42) << 3), l31 + ((l29 + l33) << 3), 8ull);
+                                                                                                    core_slice_edits_slice_T_copy_from_slice(e, l31 + ((l29 + l42) << 3), l31 + ((l29 + l34) << 3), 8ull);
                                                                                                     store32(l1 + 24ull, l12);
                                                                                                     goto L139;
                                                                                                 }
                                                                                                 L142:;
                                                                                                 l14 = 0u;
                                                                                                 if (l19 & 255u) { v131 = 0u; goto L131; }
-                                                                                                l12 = l11 + l21;
-                                                                                                if (l11 != 1u) goto L140;
+                                                                                                l12 = l10 + l21;
+                                                                                                if (l10 != 1u) goto L140;
                                                                                                 l29 = l31 + ((u64)(l20 - l12) << 3);
-                                                                                                l2 = l31 + (l33 << 3);
+                                                                                                l2 = l31 + (l34 << 3);
                                                                                                 const u32 t181 = load16(l2);
                                                                                                 store16(l29, (u16)t181);
                                                                                                 const u32 t182 = load32(l2 + 4ull);
@@ -19791,14 +19852,14 @@ static void engine_turn(struct engine *e, u64 l0, u64 l1, u64 l2, u64 l3, u64 l4
                                                                                                 goto L140;
                                                                                             }
                                                                                             L141:;
-                                                                                            space_copies_copy_long(e, l31, l33, l2, l42);
+                                                                                            space_copies_copy_long(e, l31, l34, l2, l42);
                                                                                         }
                                                                                         L140:;
                                                                                         store32(l1 + 24ull, l12);
                                                                                     }
                                                                                     L139:;
                                                                                     l14 = 1u;
-                                                                                    v131 = l11;
+                                                                                    v131 = l10;
                                                                                 }
                                                                                 L131:;
                                                                                 l12 = v131;
@@ -19809,11 +19870,11 @@ static void engine_turn(struct engine *e, u64 l0, u64 l1, u64 l2, u64 l3, u64 l4
                                                                             goto L47;
                                                                         }
                                                                         L122:;
-                                                                        const u32 t183 = forms_work_Work_fill_body(e, l1, l6, l15, l10);
-                                                                        l10 = t183;
+                                                                        const u32 t183 = forms_work_Work_fill_body(e, l1, l6, l16, l11);
+                                                                        l11 = t183;
                                                                         store32(l27 + 92u, 0u);
                                                                         store8(l27 + 89u, (u8)0u);
-                                                                        store8(l27 + 88u, (u8)l10);
+                                                                        store8(l27 + 88u, (u8)l11);
                                                                     }
                                                                     L47:;
                                                                     const u32 t184 = load32(l27 + 92u);
@@ -19833,8 +19894,8 @@ static void engine_turn(struct engine *e, u64 l0, u64 l1, u64 l2, u64 l3, u64 l4
                                                                     const u32 t188 = load32(l1 + 20ull);
                                                                     const u32 t189 = load32(l1 + 16ull);
                                                                     l18 = t187 + (t188 + t189);
-                                                                    l30 = l35 - l30;
-                                                                    l1 = l30 + l37;
+                                                                    l30 = l33 - l30;
+                                                                    l1 = l30 + l38;
                                                                     const u32 t190 = load8(l27 + 89u);
                                                                     l8 = t190;
                                                                     l9 = 1u << (l8 & 31);
@@ -19850,9 +19911,9 @@ static void engine_turn(struct engine *e, u64 l0, u64 l1, u64 l2, u64 l3, u64 l4
                                                             }
                                                             L45:;
                                                             const u32 t191 = load32(l1 + 20ull);
-                                                            l10 = t191;
+                                                            l11 = t191;
                                                             core_delivery_deliver(e, l1, l17, l9);
-                                                            v26 = l10 + (l8 + l22); goto L26;
+                                                            v26 = l11 + (l8 + l22); goto L26;
                                                         }
                                                         L44:;
                                                         const u64 t192 = load64(l1);
@@ -19865,9 +19926,9 @@ static void engine_turn(struct engine *e, u64 l0, u64 l1, u64 l2, u64 l3, u64 l4
                                                                 l9 = l8 <= l17;
                                                                 if (l9) goto L195;
                                                                 if ((l8 - l17) != 1u) goto L195;
-                                                                const u32 t197 = load32((l29 + ((l38 << 3) & 34359738360ull)) + 4ull);
+                                                                const u32 t197 = load32((l29 + ((l39 << 3) & 34359738360ull)) + 4ull);
                                                                 l8 = t197;
-                                                                l9 = l8 ? (l16 - l8) : 0u;
+                                                                l9 = l8 ? (l15 - l8) : 0u;
                                                                 goto L194;
                                                             }
                                                             L195:;
@@ -19906,36 +19967,36 @@ static void engine_turn(struct engine *e, u64 l0, u64 l1, u64 l2, u64 l3, u64 l4
                                                 if (l30 != 0ull) goto L21;
                                             }
                                         }
-                                        store32(l34 + 20u, 0u);
-                                        store32(l34 + 16u, l13);
-                                        store64(l34, l35);
-                                        store64(l34 + 8u, l35 + l37);
+                                        store32(l35 + 20u, 0u);
+                                        store32(l35 + 16u, l13);
+                                        store64(l35, l33);
+                                        store64(l35 + 8u, l33 + l38);
                                         goto L10;
                                     }
                                     trap();
                                 }
                                 L12:;
-                                l30 = l35 - l30;
-                                l1 = l30 + l37;
+                                l30 = l33 - l30;
+                                l1 = l30 + l38;
                                 l8 = 2u;
                             }
                             L11:;
-                            store16(l34 + 22u, (u16)0u);
-                            store8(l34 + 21u, (u8)l8);
-                            store8(l34 + 20u, (u8)1u);
-                            store32(l34 + 16u, l13);
-                            store64(l34 + 8u, l1);
-                            store64(l34, l30);
+                            store16(l35 + 22u, (u16)0u);
+                            store8(l35 + 21u, (u8)l8);
+                            store8(l35 + 20u, (u8)1u);
+                            store32(l35 + 16u, l13);
+                            store64(l35 + 8u, l1);
+                            store64(l35, l30);
                         }
                         L10:;
                         e->stack_pointer = l27 + 160ull;
-                        const u64 t204 = load64(l26 + 112u);
+                        const u64 t204 = load64(l26 + 128u);
                         store64(l41, t204);
-                        const u32 t205 = load32(l26 + 120u);
+                        const u32 t205 = load32(l26 + 136u);
                         store32(l32, t205);
-                        const u32 t206 = load16(l26 + 124u);
+                        const u32 t206 = load16(l26 + 140u);
                         store16(l5, (u16)t206);
-                        const u64 t207 = load64(l26 + 104u);
+                        const u64 t207 = load64(l26 + 120u);
                         v6 = t207;
                     } else {
                         v6 = 0ull;
@@ -19944,9 +20005,9 @@ static void engine_turn(struct engine *e, u64 l0, u64 l1, u64 l2, u64 l3, u64 l4
                     if (l41 == l7) goto L3;
                     {
                         if (l24) goto L208;
-                        const u64 t209 = load64(l26 + 80u);
+                        const u64 t209 = load64(l26 + 96u);
                         l30 = t209;
-                        const u64 t210 = load64(l26 + 72u);
+                        const u64 t210 = load64(l26 + 88u);
                         l2 = t210;
                         {
                             {
@@ -20469,6 +20530,7 @@ static void engine_turn(struct engine *e, u64 l0, u64 l1, u64 l2, u64 l3, u64 l4
                         goto L3;
                     }
                     L208:;
+                    u32 v405;
                     {
                         {
                             u32 v407;
@@ -20481,311 +20543,646 @@ static void engine_turn(struct engine *e, u64 l0, u64 l1, u64 l2, u64 l3, u64 l4
                                                     {
                                                         {
                                                             {
-                                                                const u64 t416 = load64(l26 + 48u);
-                                                                const u64 t417 = load64(l26 + 56u);
-                                                                const u32 t418 = core_machine_Machine_prints(e, l28);
-                                                                if ((t416 - t417) >= (u64)t418) {
-                                                                    l8 = 1u;
-                                                                    const u32 t420 = load8(l28 + 84ull);
-                                                                    if (t420 == 1u) {
-                                                                        const u32 t422 = load8(l28 + 85ull);
-                                                                        l6 = t422;
-                                                                        goto L405;
-                                                                    }
-                                                                    const u64 t423 = load64(l28 + 72ull);
-                                                                    const u64 t424 = load64(l28 + 64ull);
-                                                                    if (t423 == t424) {
-                                                                        store16(l28 + 84ull, (u16)769u);
-                                                                        l6 = 3u;
-                                                                        goto L405;
-                                                                    }
-                                                                    const u32 t426 = load32(l28 + 24ull);
-                                                                    l8 = t426;
-                                                                    const u32 t427 = load32(l28 + 16ull);
-                                                                    l9 = t427;
-                                                                    const u32 t428 = load32(l28 + 20ull);
-                                                                    l14 = t428;
-                                                                    store32(l26 + 168u, l14);
-                                                                    l6 = 0u;
-                                                                    store32(l26 + 152u, 0u);
-                                                                    store64(l26 + 136u, 0ull);
-                                                                    store64(l26 + 128u, 0ull);
-                                                                    core_scan_pass(e, l26 + 128ull, l28, 1ull, l26 + 168ull, l26 + 152ull);
-                                                                    const u32 t429 = load8(l26 + 128u);
-                                                                    if (t429 == 1u) {
-                                                                        const u32 t431 = load8(l26 + 132u);
-                                                                        if (t431 == 0) {
-                                                                            l9 = 0u;
-                                                                            store32(l28 + 32ull, 0u);
-                                                                            l4 = l28 + 20ull;
-                                                                            store32(l4, 0u);
-                                                                            const u32 t433 = load32(l28 + 28ull);
-                                                                            l6 = t433;
-                                                                            l5 = l28 + 24ull;
-                                                                            const u32 t434 = load32(l5);
-                                                                            l8 = t434;
-                                                                            l32 = l28 + 16ull;
-                                                                            const u32 t435 = load32(l32);
-                                                                            if ((l6 - (l8 + t435)) <= 10u) {
-                                                                                const u32 t437 = space_space_Space_find_way(e, l28, 11ull);
-                                                                                if (t437 == 0) {
-                                                                                    l6 = 2u;
-                                                                                    goto L406;
-                                                                                }
-                                                                                const u32 t439 = load32(l28 + 24ull);
-                                                                                l8 = t439;
-                                                                                const u32 t440 = load32(l28 + 28ull);
-                                                                                l6 = t440;
-                                                                            }
-                                                                            const u64 t441 = load64(l28);
-                                                                            l8 = l8 + 11u;
-                                                                            space_space_write_bytes(e, t441 + ((u64)(l6 - l8) << 3), TABLES + 768u, 11ull);
-                                                                            store32(l5, l8);
-                                                                            const u32 t442 = load32(l4);
-                                                                            const u32 t443 = load32(l32);
-                                                                            l8 = t442 + (t443 + l8);
-                                                                            goto L408;
-                                                                        }
-                                                                        const u64 t444 = load64(l26 + 136u);
-                                                                        l32 = t444;
-                                                                        l4 = l28 + 24ull;
-                                                                        const u32 t445 = load32(l4);
-                                                                        l19 = t445 - 1u;
-                                                                        store32(l4, l19);
-                                                                        const u32 t446 = load32(l28 + 20ull);
-                                                                        l14 = t446;
-                                                                        const u32 t447 = load32(l28 + 16ull);
-                                                                        l8 = t447;
-                                                                        store64(l26 + 184u, 0ull);
-                                                                        store64(l26 + 168u, 0ull);
-                                                                        store64(l26 + 176u, 0ull);
-                                                                        store64(l26 + 152u, 0ull);
-                                                                        store64(l26 + 160u, 0ull);
-                                                                        const u64 t448 = load64(l28);
-                                                                        l4 = t448;
-                                                                        l9 = (u32)l32;
-                                                                        const u32 t449 = load8((l4 + ((u64)(l8 + l9) << 3)) + 1ull);
-                                                                        l6 = t449;
-                                                                        store8(l26 + 130u, (u8)0u);
-                                                                        store16(l26 + 128u, (u16)0u);
+                                                                {
+                                                                    const u32 t417 = load8(l28 + 84ull);
+                                                                    if (t417 == 1u) goto L416;
+                                                                    {
                                                                         {
-                                                                            l20 = l8 + l14;
-                                                                            l21 = l9 + 1u;
-                                                                            l5 = (u64)(l8 + l21);
-                                                                            l30 = (u64)l20 - l5;
-                                                                            if (l30 < 2ull) goto L450;
-                                                                            l5 = l4 + (l5 << 3);
-                                                                            if (l30 != 2ull) {
-                                                                                const u32 t452 = load8(l5 + 16ull);
-                                                                                if (t452 != 2u) goto L450;
+                                                                            const u64 t420 = load64(l28 + 72ull);
+                                                                            l4 = t420;
+                                                                            const u64 t421 = load64(l28 + 64ull);
+                                                                            l32 = t421;
+                                                                            if (l4 == l32) goto L419;
+                                                                            const u32 t422 = load32(l28 + 24ull);
+                                                                            l8 = t422;
+                                                                            if (l8 == 0) goto L419;
+                                                                            const u64 t423 = load64(l28);
+                                                                            l5 = t423;
+                                                                            const u32 t424 = load32(l28 + 28ull);
+                                                                            const u32 t425 = load8((l5 + ((u64)(t424 - l8) << 3)) + 1ull);
+                                                                            if (t425 != 41u) goto L419;
+                                                                            const u32 t426 = load32(l28 + 32ull);
+                                                                            l8 = t426;
+                                                                            if (l8 == 0) goto L419;
+                                                                            l8 = l8 - (l8 != 0u);
+                                                                            const u64 t427 = load64(l26 + 56u);
+                                                                            const u64 t428 = load64(l26 + 64u);
+                                                                            l30 = t427 - t428;
+                                                                            const u32 t429 = load32(l28 + 20ull);
+                                                                            l6 = t429;
+                                                                            if (l30 >= (u64)l6) {
+                                                                                store32(l26 + 152u, l6);
+                                                                                store32(l26 + 148u, l6);
+                                                                                store32(l26 + 156u, 0u);
+                                                                                store32(l26 + 144u, l8 + 1u);
+                                                                                functions_arguments_Arguments_next(e, l26 + 40ull, l26 + 144ull, l28);
+                                                                                const u32 t431 = load32(l28 + 16ull);
+                                                                                l6 = t431;
+                                                                                const u32 t432 = load32(l26 + 44u);
+                                                                                l9 = t432;
+                                                                                const u32 t433 = load32(l26 + 40u);
+                                                                                l13 = t433;
+                                                                                store8(l26 + 122u, (u8)0u);
+                                                                                store16(l26 + 120u, (u16)0u);
+                                                                                l2 = (u64)(l6 + l13);
+                                                                                if (((u64)(l6 + l9) - l2) != 2ull) goto L419;
+                                                                                l5 = l5 + (l2 << 3);
+                                                                                functions_function_function_of(e, l26 + 120ull, l5, l5 + 8ull);
+                                                                                const u32 t434 = load8(l26 + 120u);
+                                                                                if (t434 == 0) goto L419;
+                                                                                const u32 t435 = load8(l26 + 121u);
+                                                                                if (t435 != 10u) goto L419;
                                                                             }
-                                                                            functions_function_function_of(e, l26 + 128ull, l5, l5 + 8ull);
-                                                                            const u32 t453 = load8(l26 + 128u);
-                                                                            if (t453 != 1u) goto L450;
-                                                                            l11 = (u32)(l32 >> 32);
-                                                                            l6 = l6 == 0;
-                                                                            l12 = l9 + 4u;
+                                                                            const u32 t436 = core_machine_printing_call_len(e, l28, l8);
+                                                                            l8 = t436;
+                                                                            const u32 t437 = load8(l28 + 84ull);
+                                                                            l6 = t437;
+                                                                            if (l30 < (u64)l8) goto L418;
+                                                                            if ((l6 & 255u) == 1u) goto L416;
+                                                                            const u64 t438 = load64(l28 + 64ull);
+                                                                            l32 = t438;
+                                                                            const u64 t439 = load64(l28 + 72ull);
+                                                                            l4 = t439;
+                                                                        }
+                                                                        L419:;
+                                                                        if (l4 == l32) {
+                                                                            store16(l28 + 84ull, (u16)769u);
+                                                                            l6 = 3u;
+                                                                            v405 = 1u; goto L405;
+                                                                        }
+                                                                        const u32 t441 = load32(l28 + 24ull);
+                                                                        l8 = t441;
+                                                                        const u32 t442 = load32(l28 + 16ull);
+                                                                        l9 = t442;
+                                                                        const u32 t443 = load32(l28 + 20ull);
+                                                                        l13 = t443;
+                                                                        store32(l26 + 184u, l13);
+                                                                        l6 = 0u;
+                                                                        store32(l26 + 168u, 0u);
+                                                                        store64(l26 + 152u, 0ull);
+                                                                        store64(l26 + 144u, 0ull);
+                                                                        core_scan_pass(e, l26 + 144ull, l28, 1ull, l26 + 184ull, l26 + 168ull);
+                                                                        const u32 t444 = load8(l26 + 144u);
+                                                                        if (t444 == 1u) {
+                                                                            const u32 t446 = load8(l26 + 148u);
+                                                                            if (t446 == 0) {
+                                                                                l9 = 0u;
+                                                                                store32(l28 + 32ull, 0u);
+                                                                                l4 = l28 + 20ull;
+                                                                                store32(l4, 0u);
+                                                                                const u32 t448 = load32(l28 + 28ull);
+                                                                                l6 = t448;
+                                                                                l5 = l28 + 24ull;
+                                                                                const u32 t449 = load32(l5);
+                                                                                l8 = t449;
+                                                                                l32 = l28 + 16ull;
+                                                                                const u32 t450 = load32(l32);
+                                                                                if ((l6 - (l8 + t450)) <= 10u) {
+                                                                                    const u32 t452 = space_space_Space_find_way(e, l28, 11ull);
+                                                                                    if (t452 == 0) {
+                                                                                        l6 = 2u;
+                                                                                        goto L406;
+                                                                                    }
+                                                                                    const u32 t454 = load32(l28 + 24ull);
+                                                                                    l8 = t454;
+                                                                                    const u32 t455 = load32(l28 + 28ull);
+                                                                                    l6 = t455;
+                                                                                }
+                                                                                const u64 t456 = load64(l28);
+                                                                                l8 = l8 + 11u;
+                                                                                space_space_write_bytes(e, t456 + ((u64)(l6 - l8) << 3), TABLES + 768u, 11ull);
+                                                                                store32(l5, l8);
+                                                                                const u32 t457 = load32(l4);
+                                                                                const u32 t458 = load32(l32);
+                                                                                l8 = t457 + (t458 + l8);
+                                                                                goto L408;
+                                                                            }
+                                                                            const u64 t459 = load64(l26 + 152u);
+                                                                            l32 = t459;
+                                                                            l4 = l28 + 24ull;
+                                                                            const u32 t460 = load32(l4);
+                                                                            l19 = t460 - 1u;
+                                                                            store32(l4, l19);
+                                                                            const u32 t461 = load32(l28 + 20ull);
+                                                                            l13 = t461;
+                                                                            const u32 t462 = load32(l28 + 16ull);
+                                                                            l8 = t462;
+                                                                            store64(l26 + 200u, 0ull);
+                                                                            store64(l26 + 184u, 0ull);
+                                                                            store64(l26 + 192u, 0ull);
+                                                                            store64(l26 + 168u, 0ull);
+                                                                            store64(l26 + 176u, 0ull);
+                                                                            const u64 t463 = load64(l28);
+                                                                            l4 = t463;
+                                                                            l9 = (u32)l32;
+                                                                            const u32 t464 = load8((l4 + ((u64)(l8 + l9) << 3)) + 1ull);
+                                                                            l6 = t464;
+                                                                            store8(l26 + 146u, (u8)0u);
+                                                                            store16(l26 + 144u, (u16)0u);
                                                                             {
+                                                                                l20 = l8 + l13;
+                                                                                l21 = l9 + 1u;
+                                                                                l5 = (u64)(l8 + l21);
+                                                                                l30 = (u64)l20 - l5;
+                                                                                if (l30 < 2ull) goto L465;
+                                                                                l5 = l4 + (l5 << 3);
+                                                                                if (l30 != 2ull) {
+                                                                                    const u32 t467 = load8(l5 + 16ull);
+                                                                                    if (t467 != 2u) goto L465;
+                                                                                }
+                                                                                functions_function_function_of(e, l26 + 144ull, l5, l5 + 8ull);
+                                                                                const u32 t468 = load8(l26 + 144u);
+                                                                                if (t468 != 1u) goto L465;
+                                                                                l10 = (u32)(l32 >> 32);
+                                                                                l6 = l6 == 0;
+                                                                                l12 = l9 + 4u;
                                                                                 {
                                                                                     {
                                                                                         {
                                                                                             {
                                                                                                 {
-                                                                                                    const u32 t460 = load8(l26 + 129u);
-                                                                                                    l10 = t460;
-                                                                                                    switch (l10 - 1u) {
-                                                                                                    case 0: goto L459;
-                                                                                                    case 1: goto L456;
-                                                                                                    case 2: goto L458;
-                                                                                                    case 3: goto L456;
-                                                                                                    case 4: goto L456;
-                                                                                                    case 5: goto L456;
-                                                                                                    case 6: goto L456;
-                                                                                                    case 7: goto L456;
-                                                                                                    case 8: goto L456;
-                                                                                                    case 9: goto L457;
-                                                                                                    case 10: goto L456;
-                                                                                                    case 11: goto L456;
-                                                                                                    case 12: goto L456;
-                                                                                                    case 13: goto L456;
-                                                                                                    case 14: goto L456;
-                                                                                                    case 15: goto L456;
-                                                                                                    case 16: goto L456;
-                                                                                                    case 17: goto L456;
-                                                                                                    case 18: goto L456;
-                                                                                                    case 19: goto L456;
-                                                                                                    case 20: goto L456;
-                                                                                                    case 21: goto L456;
-                                                                                                    case 22: goto L456;
-                                                                                                    case 23: goto L456;
-                                                                                                    default: goto L455;
+                                                                                                    {
+                                                                                                        const u32 t475 = load8(l26 + 145u);
+                                                                                                        l11 = t475;
+                                                                                                        switch (l11 - 1u) {
+                                                                                                        case 0: goto L474;
+                                                                                                        case 1: goto L471;
+                                                                                                        case 2: goto L473;
+                                                                                                        case 3: goto L471;
+                                                                                                        case 4: goto L471;
+                                                                                                        case 5: goto L471;
+                                                                                                        case 6: goto L471;
+                                                                                                        case 7: goto L471;
+                                                                                                        case 8: goto L471;
+                                                                                                        case 9: goto L472;
+                                                                                                        case 10: goto L471;
+                                                                                                        case 11: goto L471;
+                                                                                                        case 12: goto L471;
+                                                                                                        case 13: goto L471;
+                                                                                                        case 14: goto L471;
+                                                                                                        case 15: goto L471;
+                                                                                                        case 16: goto L471;
+                                                                                                        case 17: goto L471;
+                                                                                                        case 18: goto L471;
+                                                                                                        case 19: goto L471;
+                                                                                                        case 20: goto L471;
+                                                                                                        case 21: goto L471;
+                                                                                                        case 22: goto L471;
+                                                                                                        case 23: goto L471;
+                                                                                                        default: goto L470;
+                                                                                                        }
                                                                                                     }
+                                                                                                    L474:;
+                                                                                                    l5 = l26 + 200ull;
+                                                                                                    l0 = l28;
+                                                                                                    l1 = l26 + 88ull;
+                                                                                                    l4 = e->stack_pointer - 16ull;
+                                                                                                    e->stack_pointer = l4;
+                                                                                                    u32 v476;
+                                                                                                    {
+                                                                                                        {
+                                                                                                            if ((i64)(l4 - e->stack) >= (i64)16ull) {
+                                                                                                                l6 = 4u;
+                                                                                                                const u32 t479 = load8(l1 + 17ull);
+                                                                                                                if (t479) { v476 = 1u; goto L476; }
+                                                                                                                {
+                                                                                                                    const u64 t481 = load64(l1 + 8u);
+                                                                                                                    l2 = t481;
+                                                                                                                    if (l2 == 0) {
+                                                                                                                        const u32 t483 = load8(l1 + 16ull);
+                                                                                                                        if (t483) goto L480;
+                                                                                                                        store8(l1 + 17ull, (u8)1u);
+                                                                                                                        v476 = 1u; goto L476;
+                                                                                                                    }
+                                                                                                                    store64(l1 + 8u, l2 - 1ull);
+                                                                                                                    const u64 t484 = load64(l1);
+                                                                                                                    l2 = t484;
+                                                                                                                    store64(l1, l2 + 1ull);
+                                                                                                                    const u32 t485 = load8(l2);
+                                                                                                                    l6 = t485;
+                                                                                                                    store64(l4 + 8u, 0ull);
+                                                                                                                    store8(l4 + 9u, (u8)l6);
+                                                                                                                    const u32 t486 = load32(l0 + 28ull);
+                                                                                                                    l1 = l0 + 20ull;
+                                                                                                                    const u32 t487 = load32(l1);
+                                                                                                                    l10 = t487;
+                                                                                                                    const u32 t488 = load32(l0 + 16ull);
+                                                                                                                    l11 = l10 + t488;
+                                                                                                                    const u32 t489 = load32(l0 + 24ull);
+                                                                                                                    if (t486 != (l11 + t489)) {
+                                                                                                                        l2 = l0 + 32ull;
+                                                                                                                        const u32 t491 = load32(l2);
+                                                                                                                        l12 = t491;
+                                                                                                                        const u64 t492 = load64(l0);
+                                                                                                                        l0 = t492 + ((u64)l11 << 3);
+                                                                                                                        store8(l0, (u8)0u);
+                                                                                                                        store32(l0 + 4ull, 0u);
+                                                                                                                        store8(l0 + 1ull, (u8)l6);
+                                                                                                                        store32(l1, l10 + 1u);
+                                                                                                                        store32(l2, l12);
+                                                                                                                        goto L477;
+                                                                                                                    }
+                                                                                                                    const u32 t493 = space_space_Space_push_in_way(e, l0, l4 + 8ull);
+                                                                                                                    if (t493) goto L477;
+                                                                                                                    l6 = 0u;
+                                                                                                                    v476 = 0u; goto L476;
+                                                                                                                }
+                                                                                                                L480:;
+                                                                                                                l1 = l1 + 24ull;
+                                                                                                                const u64 t494 = load64(l1);
+                                                                                                                store64(l1, t494 + 1ull);
+                                                                                                                v476 = 4u; goto L476;
+                                                                                                            }
+                                                                                                            trap();
+                                                                                                        }
+                                                                                                        L477:;
+                                                                                                        l6 = 1u;
+                                                                                                        v476 = 0u;
+                                                                                                    }
+                                                                                                    L476:;
+                                                                                                    l10 = v476;
+                                                                                                    store8(l5, (u8)l6);
+                                                                                                    store32(l5 + 4ull, 0u);
+                                                                                                    store8(l5 + 1ull, (u8)l10);
+                                                                                                    e->stack_pointer = l4 + 16ull;
+                                                                                                    goto L469;
                                                                                                 }
-                                                                                                L459:;
+                                                                                                L473:;
+                                                                                                store16(l43, (u16)0u);
+                                                                                                store8(l43 + 2u, (u8)0u);
+                                                                                                store8(l26 + 196u, (u8)l6);
+                                                                                                store32(l26 + 192u, l10);
+                                                                                                store32(l26 + 188u, l13);
+                                                                                                store32(l26 + 184u, l12);
+                                                                                                l33 = l26 + 200ull;
+                                                                                                l1 = l28;
                                                                                                 l5 = l26 + 184ull;
-                                                                                                l0 = l28;
-                                                                                                l1 = l26 + 72ull;
-                                                                                                l4 = e->stack_pointer - 16ull;
-                                                                                                e->stack_pointer = l4;
-                                                                                                u32 v461;
+                                                                                                l4 = l26 + 48ull;
+                                                                                                l0 = e->stack_pointer - 32ull;
+                                                                                                e->stack_pointer = l0;
+                                                                                                {
+                                                                                                    l2 = l0;
+                                                                                                    if ((i64)(l2 - e->stack) >= (i64)16ull) {
+                                                                                                        const u64 t497 = load64(l5 + 8u);
+                                                                                                        store64(l2 + 24u, t497);
+                                                                                                        const u64 t498 = load64(l5);
+                                                                                                        store64(l2 + 16u, t498);
+                                                                                                        functions_arguments_Arguments_next(e, l2 + 8ull, l2 + 16ull, l1);
+                                                                                                        l11 = 3u;
+                                                                                                        u32 v499;
+                                                                                                        {
+                                                                                                            const u32 t500 = load32(l2 + 12u);
+                                                                                                            l6 = t500;
+                                                                                                            const u32 t501 = load32(l2 + 8u);
+                                                                                                            l10 = t501;
+                                                                                                            if (l6 == l10) { v499 = 0u; goto L499; }
+                                                                                                            const u64 t502 = load64(l1);
+                                                                                                            const u32 t503 = load32(l1 + 16ull);
+                                                                                                            const u32 t504 = l10;
+                                                                                                            l10 = t503;
+                                                                                                            l1 = (u64)(t504 + l10);
+                                                                                                            l5 = t502 + (l1 << 3);
+                                                                                                            {
+                                                                                                                l1 = (u64)(l6 + l10) - l1;
+                                                                                                                if (l1 < 16ull) {
+                                                                                                                    {
+                                                                                                                        L508:;
+                                                                                                                        {
+                                                                                                                            l6 = 0u;
+                                                                                                                            const u32 t509 = load8(l5);
+                                                                                                                            if (t509 == 0) {
+                                                                                                                                const u32 t511 = load8(l5 + 1ull);
+                                                                                                                                l6 = t511;
+                                                                                                                            }
+                                                                                                                            {
+                                                                                                                                l0 = l4 + 16ull;
+                                                                                                                                const u64 t513 = load64(l0);
+                                                                                                                                l30 = t513;
+                                                                                                                                const u64 t514 = load64(l4 + 8ull);
+                                                                                                                                if (l30 < t514) {
+                                                                                                                                    const u64 t516 = load64(l4);
+                                                                                                                                    store8(t516 + l30, (u8)l6);
+                                                                                                                                    const u64 t517 = load64(l0);
+                                                                                                                                    store64(l0, t517 + 1ull);
+                                                                                                                                    goto L512;
+                                                                                                                                }
+                                                                                                                                l0 = l4 + 24ull;
+                                                                                                                                const u32 t518 = load8(l0);
+                                                                                                                                if (t518 == 1u) goto L507;
+                                                                                                                                store8(l4 + 25ull, (u8)l6);
+                                                                                                                                store8(l0, (u8)1u);
+                                                                                                                            }
+                                                                                                                            L512:;
+                                                                                                                            l5 = l5 + 8ull;
+                                                                                                                            l1 = l1 - 1ull;
+                                                                                                                            if ((l1 == 0) == 0) goto L508;
+                                                                                                                        }
+                                                                                                                        v499 = 0u; goto L499;
+                                                                                                                    }
+                                                                                                                    L507:;
+                                                                                                                    l4 = l4 + 32ull;
+                                                                                                                    const u64 t519 = load64(l4);
+                                                                                                                    store64(l4, t519 + 1ull);
+                                                                                                                    goto L505;
+                                                                                                                }
+                                                                                                                {
+                                                                                                                    L521:;
+                                                                                                                    {
+                                                                                                                        l6 = 0u;
+                                                                                                                        const u32 t522 = load8(l5);
+                                                                                                                        if (t522 == 0) {
+                                                                                                                            const u32 t524 = load8(l5 + 1ull);
+                                                                                                                            l6 = t524;
+                                                                                                                        }
+                                                                                                                        {
+                                                                                                                            l0 = l4 + 16ull;
+                                                                                                                            const u64 t526 = load64(l0);
+                                                                                                                            l30 = t526;
+                                                                                                                            const u64 t527 = load64(l4 + 8ull);
+                                                                                                                            if (l30 < t527) {
+                                                                                                                                const u64 t529 = load64(l4);
+                                                                                                                                store8(t529 + l30, (u8)l6);
+                                                                                                                                const u64 t530 = load64(l0);
+                                                                                                                                store64(l0, t530 + 1ull);
+                                                                                                                                goto L525;
+                                                                                                                            }
+                                                                                                                            l0 = l4 + 24ull;
+                                                                                                                            const u32 t531 = load8(l0);
+                                                                                                                            if (t531 == 1u) goto L520;
+                                                                                                                            store8(l4 + 25ull, (u8)l6);
+                                                                                                                            store8(l0, (u8)1u);
+                                                                                                                        }
+                                                                                                                        L525:;
+                                                                                                                        l5 = l5 + 8ull;
+                                                                                                                        l1 = l1 - 1ull;
+                                                                                                                        if ((l1 == 0) == 0) goto L521;
+                                                                                                                    }
+                                                                                                                    v499 = 0u; goto L499;
+                                                                                                                }
+                                                                                                                L520:;
+                                                                                                                l4 = l4 + 32ull;
+                                                                                                                const u64 t532 = load64(l4);
+                                                                                                                store64(l4, t532 + 1ull);
+                                                                                                            }
+                                                                                                            L505:;
+                                                                                                            l11 = 4u;
+                                                                                                            v499 = 5u;
+                                                                                                        }
+                                                                                                        L499:;
+                                                                                                        l6 = v499;
+                                                                                                        store8(l33, (u8)l11);
+                                                                                                        store32(l33 + 4ull, 0u);
+                                                                                                        store8(l33 + 1ull, (u8)l6);
+                                                                                                        e->stack_pointer = l2 + 32ull;
+                                                                                                        goto L495;
+                                                                                                    }
+                                                                                                    trap();
+                                                                                                }
+                                                                                                L495:;
+                                                                                                goto L469;
+                                                                                            }
+                                                                                            L472:;
+                                                                                            store16(l44, (u16)0u);
+                                                                                            store8(l44 + 2u, (u8)0u);
+                                                                                            store8(l26 + 180u, (u8)l6);
+                                                                                            store32(l26 + 176u, l10);
+                                                                                            store32(l26 + 172u, l13);
+                                                                                            store32(l26 + 168u, l12);
+                                                                                            l33 = l26 + 200ull;
+                                                                                            l0 = l28;
+                                                                                            l4 = l26 + 168ull;
+                                                                                            l5 = l26 + 48ull;
+                                                                                            l1 = e->stack_pointer - 80ull;
+                                                                                            e->stack_pointer = l1;
+                                                                                            u32 v533;
+                                                                                            {
                                                                                                 {
                                                                                                     {
-                                                                                                        if ((i64)(l4 - e->stack) >= (i64)16ull) {
-                                                                                                            l6 = 4u;
-                                                                                                            const u32 t464 = load8(l1 + 17ull);
-                                                                                                            if (t464) { v461 = 1u; goto L461; }
+                                                                                                        {
                                                                                                             {
-                                                                                                                const u64 t466 = load64(l1 + 8u);
-                                                                                                                l2 = t466;
-                                                                                                                if (l2 == 0) {
-                                                                                                                    const u32 t468 = load8(l1 + 16ull);
-                                                                                                                    if (t468) goto L465;
-                                                                                                                    store8(l1 + 17ull, (u8)1u);
-                                                                                                                    v461 = 1u; goto L461;
+                                                                                                                {
+                                                                                                                    if ((i64)(l1 - e->stack) >= (i64)16ull) {
+                                                                                                                        const u64 t540 = load64(l4 + 8u);
+                                                                                                                        store64(l1 + 32u, t540);
+                                                                                                                        const u64 t541 = load64(l4);
+                                                                                                                        store64(l1 + 24u, t541);
+                                                                                                                        functions_arguments_Arguments_next(e, l1 + 16ull, l1 + 24ull, l0);
+                                                                                                                        const u32 t542 = load32(l1 + 20u);
+                                                                                                                        l10 = t542;
+                                                                                                                        const u32 t543 = load32(l1 + 16u);
+                                                                                                                        l6 = t543;
+                                                                                                                        store64(l1 + 72u, 0ull);
+                                                                                                                        store64(l1 + 64u, 0ull);
+                                                                                                                        store64(l1 + 56u, 0ull);
+                                                                                                                        store64(l1 + 48u, 0ull);
+                                                                                                                        store64(l1 + 40u, 0ull);
+                                                                                                                        u32 v544;
+                                                                                                                        {
+                                                                                                                            const u32 t545 = load32(l0 + 40ull);
+                                                                                                                            l11 = t545;
+                                                                                                                            if (l11 >= 8u) {
+                                                                                                                                forms_work_Work_find_among_more(e, l1, l0, l6, l10);
+                                                                                                                                const u32 t547 = load32(l1 + 4u);
+                                                                                                                                l6 = t547;
+                                                                                                                                const u32 t548 = load8(l1);
+                                                                                                                                v544 = t548; goto L544;
+                                                                                                                            }
+                                                                                                                            {
+                                                                                                                                if (l11 == 0) goto L549;
+                                                                                                                                const u64 t550 = load64(l0);
+                                                                                                                                l30 = t550;
+                                                                                                                                const u64 t551 = load32(l30 + 4ull);
+                                                                                                                                const u32 t552 = load32(l0 + 16ull);
+                                                                                                                                l11 = t552;
+                                                                                                                                l4 = (u64)(l11 + l10);
+                                                                                                                                l2 = (u64)(l6 + l11);
+                                                                                                                                if (t551 != (l4 - l2)) goto L549;
+                                                                                                                                l36 = 17ull - (l2 << 3);
+                                                                                                                                l2 = (l4 ^ 18446744073709551615ull) + l2;
+                                                                                                                                l4 = l30 + (l4 << 3);
+                                                                                                                                L553:;
+                                                                                                                                {
+                                                                                                                                    l2 = l2 + 1ull;
+                                                                                                                                    if (l2 == 0) goto L538;
+                                                                                                                                    l30 = l4 - 7ull;
+                                                                                                                                    l27 = l4 + l36;
+                                                                                                                                    l4 = l4 - 8ull;
+                                                                                                                                    const u32 t554 = load8(l27);
+                                                                                                                                    const u32 t555 = load8(l30);
+                                                                                                                                    if (t554 == t555) goto L553;
+                                                                                                                                }
+                                                                                                                            }
+                                                                                                                            L549:;
+                                                                                                                            forms_work_Work_find_among_few(e, l1 + 8ull, l0, l6, l10);
+                                                                                                                            const u32 t556 = load32(l1 + 12u);
+                                                                                                                            l6 = t556;
+                                                                                                                            const u32 t557 = load8(l1 + 8u);
+                                                                                                                            v544 = t557;
+                                                                                                                        }
+                                                                                                                        L544:;
+                                                                                                                        if ((v544 & 255u) != 1u) goto L536;
+                                                                                                                        goto L537;
+                                                                                                                    }
+                                                                                                                    trap();
                                                                                                                 }
-                                                                                                                store64(l1 + 8u, l2 - 1ull);
-                                                                                                                const u64 t469 = load64(l1);
-                                                                                                                l2 = t469;
-                                                                                                                store64(l1, l2 + 1ull);
-                                                                                                                const u32 t470 = load8(l2);
-                                                                                                                l6 = t470;
-                                                                                                                store64(l4 + 8u, 0ull);
-                                                                                                                store8(l4 + 9u, (u8)l6);
-                                                                                                                const u32 t471 = load32(l0 + 28ull);
-                                                                                                                l1 = l0 + 20ull;
-                                                                                                                const u32 t472 = load32(l1);
-                                                                                                                l11 = t472;
-                                                                                                                const u32 t473 = load32(l0 + 16ull);
-                                                                                                                l10 = l11 + t473;
-                                                                                                                const u32 t474 = load32(l0 + 24ull);
-                                                                                                                if (t471 != (l10 + t474)) {
-                                                                                                                    l2 = l0 + 32ull;
-                                                                                                                    const u32 t476 = load32(l2);
-                                                                                                                    l12 = t476;
-                                                                                                                    const u64 t477 = load64(l0);
-                                                                                                                    l0 = t477 + ((u64)l10 << 3);
-                                                                                                                    store8(l0, (u8)0u);
-                                                                                                                    store32(l0 + 4ull, 0u);
-                                                                                                                    store8(l0 + 1ull, (u8)l6);
-                                                                                                                    store32(l1, l11 + 1u);
-                                                                                                                    store32(l2, l12);
-                                                                                                                    goto L462;
-                                                                                                                }
-                                                                                                                const u32 t478 = space_space_Space_push_in_way(e, l0, l4 + 8ull);
-                                                                                                                if (t478) goto L462;
+                                                                                                                L538:;
+                                                                                                                store64(l0 + 44ull, 0ull);
                                                                                                                 l6 = 0u;
-                                                                                                                v461 = 0u; goto L461;
                                                                                                             }
-                                                                                                            L465:;
-                                                                                                            l1 = l1 + 24ull;
-                                                                                                            const u64 t479 = load64(l1);
-                                                                                                            store64(l1, t479 + 1ull);
-                                                                                                            v461 = 4u; goto L461;
+                                                                                                            L537:;
+                                                                                                            forms_work_Work_stored(e, l1 + 40ull, l0, l6);
+                                                                                                            const u64 t558 = load64(l1 + 64u);
+                                                                                                            l4 = t558;
+                                                                                                            const u32 t559 = load32(l1 + 72u);
+                                                                                                            l10 = t559;
+                                                                                                            const u32 t560 = core_display_show_items2(e, l1 + 40ull, 0u, l10, l5);
+                                                                                                            if (t560 & 255u) goto L534;
+                                                                                                            l0 = l5 + 16ull;
+                                                                                                            const u64 t561 = load64(l0);
+                                                                                                            l2 = t561;
+                                                                                                            l30 = l5 + 8ull;
+                                                                                                            const u64 t562 = load64(l30);
+                                                                                                            if (l2 >= t562) {
+                                                                                                                l4 = l5 + 24ull;
+                                                                                                                const u32 t564 = load8(l4);
+                                                                                                                if (t564 == 1u) goto L535;
+                                                                                                                store16(l4, (u16)15361u);
+                                                                                                                goto L535;
+                                                                                                            }
+                                                                                                            const u64 t565 = load64(l5);
+                                                                                                            store8(t565 + l2, (u8)60u);
+                                                                                                            const u64 t566 = load64(l0);
+                                                                                                            l2 = t566 + 1ull;
+                                                                                                            store64(l0, l2);
+                                                                                                            {
+                                                                                                                const u64 t568 = load64(l30);
+                                                                                                                l0 = t568;
+                                                                                                                if (l0 <= l2) {
+                                                                                                                    l30 = l5 + 24ull;
+                                                                                                                    const u32 t570 = load8(l30);
+                                                                                                                    if (t570 == 1u) goto L535;
+                                                                                                                    store16(l30, (u16)24065u);
+                                                                                                                    goto L567;
+                                                                                                                }
+                                                                                                                const u64 t571 = load64(l5);
+                                                                                                                store8(t571 + l2, (u8)94u);
+                                                                                                                l2 = l5 + 16ull;
+                                                                                                                const u64 t572 = load64(l2);
+                                                                                                                const u64 t573 = l2;
+                                                                                                                l2 = t572 + 1ull;
+                                                                                                                store64(t573, l2);
+                                                                                                                const u64 t574 = load64(l5 + 8ull);
+                                                                                                                l0 = t574;
+                                                                                                            }
+                                                                                                            L567:;
+                                                                                                            {
+                                                                                                                if (l0 <= l2) {
+                                                                                                                    l2 = l5 + 24ull;
+                                                                                                                    const u32 t577 = load8(l2);
+                                                                                                                    if (t577 == 1u) goto L535;
+                                                                                                                    store16(l2, (u16)15873u);
+                                                                                                                    goto L575;
+                                                                                                                }
+                                                                                                                const u64 t578 = load64(l5);
+                                                                                                                store8(t578 + l2, (u8)62u);
+                                                                                                                l2 = l5 + 16ull;
+                                                                                                                const u64 t579 = load64(l2);
+                                                                                                                store64(l2, t579 + 1ull);
+                                                                                                            }
+                                                                                                            L575:;
+                                                                                                            const u32 t580 = core_display_show_items2(e, l1 + 40ull, l10, (u32)l4, l5);
+                                                                                                            if (t580 & 255u) goto L534;
                                                                                                         }
-                                                                                                        trap();
+                                                                                                        L536:;
+                                                                                                        l6 = 3u;
+                                                                                                        v533 = 0u; goto L533;
                                                                                                     }
-                                                                                                    L462:;
-                                                                                                    l6 = 1u;
-                                                                                                    v461 = 0u;
+                                                                                                    L535:;
+                                                                                                    l4 = l5 + 32ull;
+                                                                                                    const u64 t581 = load64(l4);
+                                                                                                    store64(l4, t581 + 1ull);
                                                                                                 }
-                                                                                                L461:;
-                                                                                                l11 = v461;
-                                                                                                store8(l5, (u8)l6);
-                                                                                                store32(l5 + 4ull, 0u);
-                                                                                                store8(l5 + 1ull, (u8)l11);
-                                                                                                e->stack_pointer = l4 + 16ull;
-                                                                                                goto L454;
+                                                                                                L534:;
+                                                                                                l6 = 4u;
+                                                                                                v533 = 5u;
                                                                                             }
-                                                                                            L458:;
-                                                                                            store16(l43, (u16)0u);
-                                                                                            store8(l43 + 2u, (u8)0u);
-                                                                                            store8(l26 + 180u, (u8)l6);
-                                                                                            store32(l26 + 176u, l11);
-                                                                                            store32(l26 + 172u, l14);
-                                                                                            store32(l26 + 168u, l12);
-                                                                                            core_input_output_print_string(e, l26 + 184ull, l28, l26 + 168ull, l26 + 40ull);
-                                                                                            goto L454;
+                                                                                            L533:;
+                                                                                            l10 = v533;
+                                                                                            store8(l33, (u8)l6);
+                                                                                            store32(l33 + 4ull, 0u);
+                                                                                            store8(l33 + 1ull, (u8)l10);
+                                                                                            e->stack_pointer = l1 + 80ull;
+                                                                                            goto L469;
                                                                                         }
-                                                                                        L457:;
-                                                                                        store16(l44, (u16)0u);
-                                                                                        store8(l44 + 2u, (u8)0u);
-                                                                                        store8(l26 + 164u, (u8)l6);
-                                                                                        store32(l26 + 160u, l11);
-                                                                                        store32(l26 + 156u, l14);
-                                                                                        store32(l26 + 152u, l12);
-                                                                                        core_display_print_form(e, l26 + 184ull, l28, l26 + 152ull, l26 + 40ull);
-                                                                                        goto L454;
-                                                                                    }
-                                                                                    L456:;
-                                                                                    const u32 t480 = load8(l26 + 130u);
-                                                                                    l13 = t480;
-                                                                                    l16 = 0u;
-                                                                                    store16(l45, (u16)0u);
-                                                                                    store8(l45 + 2u, (u8)0u);
-                                                                                    store8(l26 + 116u, (u8)l6);
-                                                                                    store32(l26 + 112u, l11);
-                                                                                    store32(l26 + 108u, l14);
-                                                                                    store32(l26 + 104u, l12);
-                                                                                    store64(l26 + 192u, 0ull);
-                                                                                    {
-                                                                                        if ((l10 - 5u) < 20u) goto L481;
-                                                                                        l11 = 0u;
+                                                                                        L471:;
+                                                                                        const u32 t582 = load8(l26 + 146u);
+                                                                                        l14 = t582;
+                                                                                        l15 = 0u;
+                                                                                        store16(l45, (u16)0u);
+                                                                                        store8(l45 + 2u, (u8)0u);
+                                                                                        store8(l26 + 132u, (u8)l6);
+                                                                                        store32(l26 + 128u, l10);
+                                                                                        store32(l26 + 124u, l13);
+                                                                                        store32(l26 + 120u, l12);
+                                                                                        store64(l26 + 208u, 0ull);
                                                                                         {
-                                                                                            switch (l10 - 3u) {
-                                                                                            case 0: goto L481;
-                                                                                            case 1: goto L411;
-                                                                                            default: goto L482;
+                                                                                            if ((l11 - 5u) < 20u) goto L583;
+                                                                                            l10 = 0u;
+                                                                                            {
+                                                                                                switch (l11 - 3u) {
+                                                                                                case 0: goto L583;
+                                                                                                case 1: goto L411;
+                                                                                                default: goto L584;
+                                                                                                }
                                                                                             }
-                                                                                        }
-                                                                                        L482:;
-                                                                                        l2 = l26 + 192ull;
-                                                                                        l1 = l26 + 104ull;
-                                                                                        l0 = e->stack_pointer - 32ull;
-                                                                                        e->stack_pointer = l0;
-                                                                                        {
-                                                                                            if ((i64)(l0 - e->stack) >= (i64)16ull) {
-                                                                                                const u64 t485 = load64(l1 + 8u);
-                                                                                                store64(l0 + 24u, t485);
-                                                                                                const u64 t486 = load64(l1);
-                                                                                                store64(l0 + 16u, t486);
-                                                                                                functions_arguments_Arguments_next(e, l0 + 8ull, l0 + 16ull, l28);
-                                                                                                const u32 t487 = load32(l0 + 8u);
-                                                                                                l6 = t487;
-                                                                                                const u32 t488 = load32(l0 + 12u);
-                                                                                                if (l6 != t488) {
-                                                                                                    const u64 t490 = load64(l28);
-                                                                                                    const u32 t491 = load32(l28 + 16ull);
-                                                                                                    l1 = t490 + ((u64)(t491 + l6) << 3);
-                                                                                                    const u32 t492 = load8(l1);
-                                                                                                    const u64 t493 = l40;
-                                                                                                    u32 v494;
-                                                                                                    if (t492) {
-                                                                                                        v494 = 0u;
-                                                                                                    } else {
-                                                                                                        const u32 t495 = load8(l1 + 1ull);
-                                                                                                        v494 = t495;
+                                                                                            L584:;
+                                                                                            l2 = l26 + 208ull;
+                                                                                            l1 = l26 + 120ull;
+                                                                                            l0 = e->stack_pointer - 32ull;
+                                                                                            e->stack_pointer = l0;
+                                                                                            {
+                                                                                                if ((i64)(l0 - e->stack) >= (i64)16ull) {
+                                                                                                    const u64 t587 = load64(l1 + 8u);
+                                                                                                    store64(l0 + 24u, t587);
+                                                                                                    const u64 t588 = load64(l1);
+                                                                                                    store64(l0 + 16u, t588);
+                                                                                                    functions_arguments_Arguments_next(e, l0 + 8ull, l0 + 16ull, l28);
+                                                                                                    const u32 t589 = load32(l0 + 8u);
+                                                                                                    l6 = t589;
+                                                                                                    const u32 t590 = load32(l0 + 12u);
+                                                                                                    if (l6 != t590) {
+                                                                                                        const u64 t592 = load64(l28);
+                                                                                                        const u32 t593 = load32(l28 + 16ull);
+                                                                                                        l1 = t592 + ((u64)(t593 + l6) << 3);
+                                                                                                        const u32 t594 = load8(l1);
+                                                                                                        const u64 t595 = l40;
+                                                                                                        u32 v596;
+                                                                                                        if (t594) {
+                                                                                                            v596 = 0u;
+                                                                                                        } else {
+                                                                                                            const u32 t597 = load8(l1 + 1ull);
+                                                                                                            v596 = t597;
+                                                                                                        }
+                                                                                                        store8(t595, (u8)v596);
                                                                                                     }
-                                                                                                    store8(t493, (u8)v494);
+                                                                                                    store16(l2, (u16)3u);
+                                                                                                    store32(l2 + 4ull, 0u);
+                                                                                                    e->stack_pointer = l0 + 32ull;
+                                                                                                    goto L585;
                                                                                                 }
-                                                                                                store16(l2, (u16)3u);
-                                                                                                store32(l2 + 4ull, 0u);
-                                                                                                e->stack_pointer = l0 + 32ull;
-                                                                                                goto L483;
+                                                                                                trap();
                                                                                             }
-                                                                                            trap();
+                                                                                            L585:;
+                                                                                            const u32 t598 = load32(l26 + 212u);
+                                                                                            l15 = t598;
+                                                                                            const u32 t599 = load8(l26 + 209u);
+                                                                                            l10 = t599;
+                                                                                            const u32 t600 = load8(l26 + 208u);
+                                                                                            l11 = t600;
+                                                                                            goto L411;
                                                                                         }
-                                                                                        L483:;
-                                                                                        const u32 t496 = load32(l26 + 196u);
-                                                                                        l16 = t496;
-                                                                                        const u32 t497 = load8(l26 + 193u);
-                                                                                        l11 = t497;
-                                                                                        const u32 t498 = load8(l26 + 192u);
-                                                                                        l10 = t498;
-                                                                                        goto L411;
-                                                                                    }
-                                                                                    L481:;
-                                                                                    store64(l26 + 200u, 0ull);
-                                                                                    {
+                                                                                        L583:;
+                                                                                        store64(l26 + 216u, 0ull);
                                                                                         {
                                                                                             {
                                                                                                 {
@@ -20805,298 +21202,411 @@ static void engine_turn(struct engine *e, u64 l0, u64 l1, u64 l2, u64 l3, u64 l4
                                                                                                                                                         {
                                                                                                                                                             {
                                                                                                                                                                 {
-                                                                                                                                                                    switch (l10 - 5u) {
-                                                                                                                                                                    case 0: goto L505;
-                                                                                                                                                                    case 1: goto L504;
-                                                                                                                                                                    case 2: goto L502;
-                                                                                                                                                                    case 3: goto L501;
-                                                                                                                                                                    case 4: goto L500;
-                                                                                                                                                                    case 6: goto L503;
-                                                                                                                                                                    case 7: goto L510;
-                                                                                                                                                                    case 8: goto L509;
-                                                                                                                                                                    case 9: goto L508;
-                                                                                                                                                                    case 10: goto L507;
-                                                                                                                                                                    case 11: goto L506;
-                                                                                                                                                                    case 12: goto L518;
-                                                                                                                                                                    case 13: goto L517;
-                                                                                                                                                                    case 14: goto L516;
-                                                                                                                                                                    case 15: goto L515;
-                                                                                                                                                                    case 16: goto L514;
-                                                                                                                                                                    case 17: goto L513;
-                                                                                                                                                                    case 18: goto L512;
-                                                                                                                                                                    case 19: goto L511;
-                                                                                                                                                                    default: goto L499;
+                                                                                                                                                                    {
+                                                                                                                                                                        switch (l11 - 5u) {
+                                                                                                                                                                        case 0: goto L607;
+                                                                                                                                                                        case 1: goto L606;
+                                                                                                                                                                        case 2: goto L604;
+                                                                                                                                                                        case 3: goto L603;
+                                                                                                                                                                        case 4: goto L602;
+                                                                                                                                                                        case 6: goto L605;
+                                                                                                                                                                        case 7: goto L612;
+                                                                                                                                                                        case 8: goto L611;
+                                                                                                                                                                        case 9: goto L610;
+                                                                                                                                                                        case 10: goto L609;
+                                                                                                                                                                        case 11: goto L608;
+                                                                                                                                                                        case 12: goto L620;
+                                                                                                                                                                        case 13: goto L619;
+                                                                                                                                                                        case 14: goto L618;
+                                                                                                                                                                        case 15: goto L617;
+                                                                                                                                                                        case 16: goto L616;
+                                                                                                                                                                        case 17: goto L615;
+                                                                                                                                                                        case 18: goto L614;
+                                                                                                                                                                        case 19: goto L613;
+                                                                                                                                                                        default: goto L601;
+                                                                                                                                                                        }
                                                                                                                                                                     }
+                                                                                                                                                                    L620:;
+                                                                                                                                                                    functions_comparing_equal(e, l26 + 216ull, l28, l26 + 120ull);
+                                                                                                                                                                    goto L412;
                                                                                                                                                                 }
-                                                                                                                                                                L518:;
-                                                                                                                                                                functions_comparing_equal(e, l26 + 200ull, l28, l26 + 104ull);
+                                                                                                                                                                L619:;
+                                                                                                                                                                functions_comparing_greater(e, l26 + 216ull, l28, l26 + 120ull);
                                                                                                                                                                 goto L412;
                                                                                                                                                             }
-                                                                                                                                                            L517:;
-                                                                                                                                                            functions_comparing_greater(e, l26 + 200ull, l28, l26 + 104ull);
+                                                                                                                                                            L618:;
+                                                                                                                                                            functions_arithmetic_arithmetic(e, l26 + 216ull, l28, l14, l26 + 120ull);
                                                                                                                                                             goto L412;
                                                                                                                                                         }
-                                                                                                                                                        L516:;
-                                                                                                                                                        functions_arithmetic_arithmetic(e, l26 + 200ull, l28, l13, l26 + 104ull);
+                                                                                                                                                        L617:;
+                                                                                                                                                        functions_bit_strings_union(e, l26 + 216ull, l28, l26 + 120ull);
                                                                                                                                                         goto L412;
                                                                                                                                                     }
-                                                                                                                                                    L515:;
-                                                                                                                                                    functions_bit_strings_union(e, l26 + 200ull, l28, l26 + 104ull);
+                                                                                                                                                    L616:;
+                                                                                                                                                    functions_bit_strings_intersection(e, l26 + 216ull, l28, l26 + 120ull);
                                                                                                                                                     goto L412;
                                                                                                                                                 }
-                                                                                                                                                L514:;
-                                                                                                                                                functions_bit_strings_intersection(e, l26 + 200ull, l28, l26 + 104ull);
+                                                                                                                                                L615:;
+                                                                                                                                                l4 = l26 + 216ull;
+                                                                                                                                                l2 = l26 + 120ull;
+                                                                                                                                                l1 = e->stack_pointer - 64ull;
+                                                                                                                                                e->stack_pointer = l1;
+                                                                                                                                                {
+                                                                                                                                                    l0 = l1;
+                                                                                                                                                    if ((i64)(l0 - e->stack) >= (i64)16ull) {
+                                                                                                                                                        store64(l0 + 32u, 0ull);
+                                                                                                                                                        store64(l0 + 56u, 0ull);
+                                                                                                                                                        const u64 t623 = load64(l2);
+                                                                                                                                                        store64(l0 + 40u, t623);
+                                                                                                                                                        const u64 t624 = load64(l2 + 8u);
+                                                                                                                                                        store64(l0 + 48u, t624);
+                                                                                                                                                        functions_arguments_Arguments_next(e, l0 + 8ull, l0 + 40ull, l28);
+                                                                                                                                                        const u32 t625 = load32(l28 + 16ull);
+                                                                                                                                                        l10 = t625;
+                                                                                                                                                        const u32 t626 = load32(l0 + 8u);
+                                                                                                                                                        l12 = t626;
+                                                                                                                                                        const u32 t627 = load32(l0 + 12u);
+                                                                                                                                                        l11 = t627;
+                                                                                                                                                        l2 = (u64)(l10 + l11);
+                                                                                                                                                        l1 = (u64)(l10 + l12) - l2;
+                                                                                                                                                        const u64 t628 = load64(l28);
+                                                                                                                                                        l2 = (t628 + (l2 << 3)) - 8ull;
+                                                                                                                                                        l6 = l11;
+                                                                                                                                                        L629:;
+                                                                                                                                                        {
+                                                                                                                                                            {
+                                                                                                                                                                l10 = l6;
+                                                                                                                                                                if (l1 == 0) goto L630;
+                                                                                                                                                                const u32 t631 = load8(l2);
+                                                                                                                                                                if (t631) goto L630;
+                                                                                                                                                                l1 = l1 + 1ull;
+                                                                                                                                                                l6 = l10 - 1u;
+                                                                                                                                                                l5 = l2 + 1ull;
+                                                                                                                                                                l2 = l2 - 8ull;
+                                                                                                                                                                const u32 t632 = load8(l5);
+                                                                                                                                                                if ((t632 & 248u) == 48u) goto L629;
+                                                                                                                                                            }
+                                                                                                                                                            L630:;
+                                                                                                                                                        }
+                                                                                                                                                        store32(l0 + 28u, l11);
+                                                                                                                                                        store32(l0 + 24u, l10);
+                                                                                                                                                        store32(l0 + 20u, 2u);
+                                                                                                                                                        functions_bit_strings_give_bits(e, l0 + 56ull, l28, l12, l10, l0 + 20ull);
+                                                                                                                                                        const u32 t633 = load16(l0 + 56u);
+                                                                                                                                                        store16(l4, (u16)t633);
+                                                                                                                                                        const u32 t634 = load32(l0 + 60u);
+                                                                                                                                                        store32(l4 + 4ull, t634);
+                                                                                                                                                        e->stack_pointer = l0 + 64ull;
+                                                                                                                                                        goto L621;
+                                                                                                                                                    }
+                                                                                                                                                    trap();
+                                                                                                                                                }
+                                                                                                                                                L621:;
                                                                                                                                                 goto L412;
                                                                                                                                             }
-                                                                                                                                            L513:;
-                                                                                                                                            l4 = l26 + 200ull;
-                                                                                                                                            l2 = l26 + 104ull;
-                                                                                                                                            l1 = e->stack_pointer - 64ull;
-                                                                                                                                            e->stack_pointer = l1;
-                                                                                                                                            {
-                                                                                                                                                l0 = l1;
-                                                                                                                                                if ((i64)(l0 - e->stack) >= (i64)16ull) {
-                                                                                                                                                    store64(l0 + 32u, 0ull);
-                                                                                                                                                    store64(l0 + 56u, 0ull);
-                                                                                                                                                    const u64 t521 = load64(l2);
-                                                                                                                                                    store64(l0 + 40u, t521);
-                                                                                                                                                    const u64 t522 = load64(l2 + 8u);
-                                                                                                                                                    store64(l0 + 48u, t522);
-                                                                                                                                                    functions_arguments_Arguments_next(e, l0 + 8ull, l0 + 40ull, l28);
-                                                                                                                                                    const u32 t523 = load32(l28 + 16ull);
-                                                                                                                                                    l11 = t523;
-                                                                                                                                                    const u32 t524 = load32(l0 + 8u);
-                                                                                                                                                    l12 = t524;
-                                                                                                                                                    const u32 t525 = load32(l0 + 12u);
-                                                                                                                                                    l10 = t525;
-                                                                                                                                                    l2 = (u64)(l11 + l10);
-                                                                                                                                                    l1 = (u64)(l11 + l12) - l2;
-                                                                                                                                                    const u64 t526 = load64(l28);
-                                                                                                                                                    l2 = (t526 + (l2 << 3)) - 8ull;
-                                                                                                                                                    l6 = l10;
-                                                                                                                                                    L527:;
-                                                                                                                                                    {
-                                                                                                                                                        {
-                                                                                                                                                            l11 = l6;
-                                                                                                                                                            if (l1 == 0) goto L528;
-                                                                                                                                                            const u32 t529 = load8(l2);
-                                                                                                                                                            if (t529) goto L528;
-                                                                                                                                                            l1 = l1 + 1ull;
-                                                                                                                                                            l6 = l11 - 1u;
-                                                                                                                                                            l5 = l2 + 1ull;
-                                                                                                                                                            l2 = l2 - 8ull;
-                                                                                                                                                            const u32 t530 = load8(l5);
-                                                                                                                                                            if ((t530 & 248u) == 48u) goto L527;
-                                                                                                                                                        }
-                                                                                                                                                        L528:;
-                                                                                                                                                    }
-                                                                                                                                                    store32(l0 + 28u, l10);
-                                                                                                                                                    store32(l0 + 24u, l11);
-                                                                                                                                                    store32(l0 + 20u, 2u);
-                                                                                                                                                    functions_bit_strings_give_bits(e, l0 + 56ull, l28, l12, l11, l0 + 20ull);
-                                                                                                                                                    const u32 t531 = load16(l0 + 56u);
-                                                                                                                                                    store16(l4, (u16)t531);
-                                                                                                                                                    const u32 t532 = load32(l0 + 60u);
-                                                                                                                                                    store32(l4 + 4ull, t532);
-                                                                                                                                                    e->stack_pointer = l0 + 64ull;
-                                                                                                                                                    goto L519;
-                                                                                                                                                }
-                                                                                                                                                trap();
-                                                                                                                                            }
-                                                                                                                                            L519:;
+                                                                                                                                            L614:;
+                                                                                                                                            functions_bit_strings_shift(e, l26 + 216ull, l28, l26 + 120ull);
                                                                                                                                             goto L412;
                                                                                                                                         }
-                                                                                                                                        L512:;
-                                                                                                                                        functions_bit_strings_shift(e, l26 + 200ull, l28, l26 + 104ull);
+                                                                                                                                        L613:;
+                                                                                                                                        functions_bit_strings_rotate(e, l26 + 216ull, l28, l26 + 120ull);
                                                                                                                                         goto L412;
                                                                                                                                     }
-                                                                                                                                    L511:;
-                                                                                                                                    functions_bit_strings_rotate(e, l26 + 200ull, l28, l26 + 104ull);
+                                                                                                                                    L612:;
+                                                                                                                                    functions_form_parts_call_segment(e, l26 + 216ull, l28, l26 + 120ull);
                                                                                                                                     goto L412;
                                                                                                                                 }
-                                                                                                                                L510:;
-                                                                                                                                functions_form_parts_call_segment(e, l26 + 200ull, l28, l26 + 104ull);
+                                                                                                                                L611:;
+                                                                                                                                functions_form_parts_call_character(e, l26 + 216ull, l28, l26 + 120ull);
                                                                                                                                 goto L412;
                                                                                                                             }
-                                                                                                                            L509:;
-                                                                                                                            functions_form_parts_call_character(e, l26 + 200ull, l28, l26 + 104ull);
+                                                                                                                            L610:;
+                                                                                                                            functions_form_parts_call_number(e, l26 + 216ull, l28, l26 + 120ull);
                                                                                                                             goto L412;
                                                                                                                         }
-                                                                                                                        L508:;
-                                                                                                                        functions_form_parts_call_number(e, l26 + 200ull, l28, l26 + 104ull);
+                                                                                                                        L609:;
+                                                                                                                        functions_form_parts_initial_part(e, l26 + 216ull, l28, l26 + 120ull);
                                                                                                                         goto L412;
                                                                                                                     }
-                                                                                                                    L507:;
-                                                                                                                    functions_form_parts_initial_part(e, l26 + 200ull, l28, l26 + 104ull);
+                                                                                                                    L608:;
+                                                                                                                    functions_form_parts_call_restore(e, l26 + 216ull, l28, l26 + 120ull);
                                                                                                                     goto L412;
                                                                                                                 }
-                                                                                                                L506:;
-                                                                                                                functions_form_parts_call_restore(e, l26 + 200ull, l28, l26 + 104ull);
+                                                                                                                L607:;
+                                                                                                                functions_form_calls_define_string(e, l26 + 216ull, l28, l26 + 120ull);
                                                                                                                 goto L412;
                                                                                                             }
-                                                                                                            L505:;
-                                                                                                            functions_form_calls_define_string(e, l26 + 200ull, l28, l26 + 104ull);
+                                                                                                            L606:;
+                                                                                                            functions_form_calls_segment_string(e, l26 + 216ull, l28, l26 + 120ull);
                                                                                                             goto L412;
                                                                                                         }
-                                                                                                        L504:;
-                                                                                                        functions_form_calls_segment_string(e, l26 + 200ull, l28, l26 + 104ull);
-                                                                                                        goto L412;
-                                                                                                    }
-                                                                                                    L503:;
-                                                                                                    const u64 t533 = load64(l26 + 112u);
-                                                                                                    store64(l26 + 136u, t533);
-                                                                                                    const u64 t534 = load64(l26 + 104u);
-                                                                                                    store64(l26 + 128u, t534);
-                                                                                                    const u32 t535 = load8(l26 + 140u);
-                                                                                                    l10 = t535;
-                                                                                                    functions_arguments_Arguments_next(e, l26 + 32ull, l26 + 128ull, l28);
-                                                                                                    const u32 t536 = load32(l26 + 36u);
-                                                                                                    l6 = t536;
-                                                                                                    const u32 t537 = load32(l26 + 32u);
-                                                                                                    l16 = t537;
-                                                                                                    u32 v538;
-                                                                                                    {
-                                                                                                        const u32 t539 = load32(l28 + 40ull);
-                                                                                                        l11 = t539;
-                                                                                                        if (l11 >= 8u) {
-                                                                                                            forms_work_Work_find_among_more(e, l26 + 16ull, l28, l16, l6);
-                                                                                                            const u32 t541 = load32(l26 + 20u);
-                                                                                                            l16 = t541;
-                                                                                                            const u32 t542 = load8(l26 + 16u);
-                                                                                                            v538 = t542; goto L538;
-                                                                                                        }
+                                                                                                        L605:;
+                                                                                                        const u64 t635 = load64(l26 + 128u);
+                                                                                                        store64(l26 + 152u, t635);
+                                                                                                        const u64 t636 = load64(l26 + 120u);
+                                                                                                        store64(l26 + 144u, t636);
+                                                                                                        const u32 t637 = load8(l26 + 156u);
+                                                                                                        l11 = t637;
+                                                                                                        functions_arguments_Arguments_next(e, l26 + 32ull, l26 + 144ull, l28);
+                                                                                                        const u32 t638 = load32(l26 + 36u);
+                                                                                                        l6 = t638;
+                                                                                                        const u32 t639 = load32(l26 + 32u);
+                                                                                                        l15 = t639;
+                                                                                                        u32 v640;
                                                                                                         {
-                                                                                                            if (l11 == 0) goto L543;
-                                                                                                            const u64 t544 = load32(l4 + 4ull);
-                                                                                                            l30 = (u64)(l6 + l8);
-                                                                                                            l5 = (u64)(l8 + l16);
-                                                                                                            if (t544 != (l30 - l5)) goto L543;
-                                                                                                            l1 = 17ull - (l5 << 3);
-                                                                                                            l5 = (l30 ^ 18446744073709551615ull) + l5;
-                                                                                                            l4 = l4 + (l30 << 3);
-                                                                                                            L545:;
-                                                                                                            {
-                                                                                                                l5 = l5 + 1ull;
-                                                                                                                if (l5 == 0) goto L415;
-                                                                                                                l30 = l4 - 7ull;
-                                                                                                                l2 = l1 + l4;
-                                                                                                                l4 = l4 - 8ull;
-                                                                                                                const u32 t546 = load8(l2);
-                                                                                                                const u32 t547 = load8(l30);
-                                                                                                                if (t546 == t547) goto L545;
+                                                                                                            const u32 t641 = load32(l28 + 40ull);
+                                                                                                            l10 = t641;
+                                                                                                            if (l10 >= 8u) {
+                                                                                                                forms_work_Work_find_among_more(e, l26 + 16ull, l28, l15, l6);
+                                                                                                                const u32 t643 = load32(l26 + 20u);
+                                                                                                                l15 = t643;
+                                                                                                                const u32 t644 = load8(l26 + 16u);
+                                                                                                                v640 = t644; goto L640;
                                                                                                             }
+                                                                                                            {
+                                                                                                                if (l10 == 0) goto L645;
+                                                                                                                const u64 t646 = load32(l4 + 4ull);
+                                                                                                                l30 = (u64)(l6 + l8);
+                                                                                                                l5 = (u64)(l8 + l15);
+                                                                                                                if (t646 != (l30 - l5)) goto L645;
+                                                                                                                l1 = 17ull - (l5 << 3);
+                                                                                                                l5 = (l30 ^ 18446744073709551615ull) + l5;
+                                                                                                                l4 = l4 + (l30 << 3);
+                                                                                                                L647:;
+                                                                                                                {
+                                                                                                                    l5 = l5 + 1ull;
+                                                                                                                    if (l5 == 0) goto L415;
+                                                                                                                    l30 = l4 - 7ull;
+                                                                                                                    l2 = l1 + l4;
+                                                                                                                    l4 = l4 - 8ull;
+                                                                                                                    const u32 t648 = load8(l2);
+                                                                                                                    const u32 t649 = load8(l30);
+                                                                                                                    if (t648 == t649) goto L647;
+                                                                                                                }
+                                                                                                            }
+                                                                                                            L645:;
+                                                                                                            forms_work_Work_find_among_few(e, l26 + 24ull, l28, l15, l6);
+                                                                                                            const u32 t650 = load32(l26 + 28u);
+                                                                                                            l15 = t650;
+                                                                                                            const u32 t651 = load8(l26 + 24u);
+                                                                                                            v640 = t651;
                                                                                                         }
-                                                                                                        L543:;
-                                                                                                        forms_work_Work_find_among_few(e, l26 + 24ull, l28, l16, l6);
-                                                                                                        const u32 t548 = load32(l26 + 28u);
-                                                                                                        l16 = t548;
-                                                                                                        const u32 t549 = load8(l26 + 24u);
-                                                                                                        v538 = t549;
+                                                                                                        L640:;
+                                                                                                        if ((v640 & 255u) != 1u) goto L414;
+                                                                                                        goto L413;
                                                                                                     }
-                                                                                                    L538:;
-                                                                                                    if ((v538 & 255u) != 1u) goto L414;
-                                                                                                    goto L413;
+                                                                                                    L604:;
+                                                                                                    functions_form_calls_delete_definition(e, l26 + 216ull, l28, l26 + 120ull);
+                                                                                                    goto L412;
                                                                                                 }
-                                                                                                L502:;
-                                                                                                functions_form_calls_delete_definition(e, l26 + 200ull, l28, l26 + 104ull);
+                                                                                                L603:;
+                                                                                                functions_form_calls_delete_all(e, l26 + 216ull, l28);
                                                                                                 goto L412;
                                                                                             }
-                                                                                            L501:;
-                                                                                            functions_form_calls_delete_all(e, l26 + 200ull, l28);
+                                                                                            L602:;
+                                                                                            functions_form_calls_list_names(e, l26 + 216ull, l28, l26 + 120ull);
                                                                                             goto L412;
                                                                                         }
-                                                                                        L500:;
-                                                                                        functions_form_calls_list_names(e, l26 + 200ull, l28, l26 + 104ull);
+                                                                                        L601:;
+                                                                                        store8(l26 + 216u, (u8)1u);
                                                                                         goto L412;
                                                                                     }
-                                                                                    L499:;
-                                                                                    store8(l26 + 200u, (u8)1u);
-                                                                                    goto L412;
+                                                                                    L470:;
+                                                                                    l5 = l26 + 200ull;
+                                                                                    l0 = l28;
+                                                                                    const u32 t652 = load8(l28 + 56ull);
+                                                                                    l10 = t652;
+                                                                                    l1 = l26 + 88ull;
+                                                                                    l4 = e->stack_pointer - 16ull;
+                                                                                    e->stack_pointer = l4;
+                                                                                    {
+                                                                                        if ((i64)(l4 - e->stack) >= (i64)16ull) {
+                                                                                            l33 = l0 + 20ull;
+                                                                                            const u32 t655 = load32(l33);
+                                                                                            l11 = t655;
+                                                                                            devices_slice_source_SliceSourceSource_take_held(e, l1, l10, l0);
+                                                                                            const u64 t656 = l5;
+                                                                                            u32 v657;
+                                                                                            {
+                                                                                                {
+                                                                                                    {
+                                                                                                        const u32 t660 = load8(l1 + 17ull);
+                                                                                                        if (t660) goto L659;
+                                                                                                        L661:;
+                                                                                                        {
+                                                                                                            const u64 t662 = load64(l1 + 8u);
+                                                                                                            l2 = t662;
+                                                                                                            if (l2 == 0) {
+                                                                                                                const u32 t664 = load8(l1 + 16ull);
+                                                                                                                if (t664) goto L658;
+                                                                                                                store8(l1 + 17ull, (u8)1u);
+                                                                                                                goto L659;
+                                                                                                            }
+                                                                                                            store64(l1 + 8u, l2 - 1ull);
+                                                                                                            const u64 t665 = load64(l1);
+                                                                                                            l2 = t665;
+                                                                                                            store64(l1, l2 + 1ull);
+                                                                                                            const u32 t666 = load8(l2);
+                                                                                                            l6 = t666;
+                                                                                                            if (l6 == l10) {
+                                                                                                                l6 = 0u;
+                                                                                                                v657 = 1u; goto L657;
+                                                                                                            }
+                                                                                                            store64(l4 + 8u, 0ull);
+                                                                                                            store8(l4 + 9u, (u8)l6);
+                                                                                                            {
+                                                                                                                const u32 t669 = load32(l0 + 28ull);
+                                                                                                                l2 = l0 + 20ull;
+                                                                                                                const u32 t670 = load32(l2);
+                                                                                                                l12 = t670;
+                                                                                                                const u32 t671 = load32(l0 + 16ull);
+                                                                                                                l15 = l12 + t671;
+                                                                                                                const u32 t672 = load32(l0 + 24ull);
+                                                                                                                if (t669 == (l15 + t672)) {
+                                                                                                                    const u32 t674 = space_space_Space_push_in_way(e, l0, l4 + 8ull);
+                                                                                                                    if (t674) goto L668;
+                                                                                                                    l6 = 0u;
+                                                                                                                    v657 = 0u; goto L657;
+                                                                                                                }
+                                                                                                                l36 = l0 + 32ull;
+                                                                                                                const u32 t675 = load32(l36);
+                                                                                                                l14 = t675;
+                                                                                                                const u64 t676 = load64(l0);
+                                                                                                                l30 = t676 + ((u64)l15 << 3);
+                                                                                                                store8(l30, (u8)0u);
+                                                                                                                store32(l30 + 4ull, 0u);
+                                                                                                                store8(l30 + 1ull, (u8)l6);
+                                                                                                                store32(l2, l12 + 1u);
+                                                                                                                store32(l36, l14);
+                                                                                                            }
+                                                                                                            L668:;
+                                                                                                            devices_slice_source_SliceSourceSource_take_held(e, l1, l10, l0);
+                                                                                                            const u32 t677 = load8(l1 + 17ull);
+                                                                                                            if (t677 == 0) goto L661;
+                                                                                                        }
+                                                                                                    }
+                                                                                                    L659:;
+                                                                                                    const u32 t678 = load32(l33);
+                                                                                                    l6 = t678 == l11;
+                                                                                                    v657 = l6 ? 4u : 1u; goto L657;
+                                                                                                }
+                                                                                                L658:;
+                                                                                                l0 = l1 + 24ull;
+                                                                                                const u64 t679 = load64(l0);
+                                                                                                store64(l0, t679 + 1ull);
+                                                                                                l6 = 4u;
+                                                                                                v657 = 4u;
+                                                                                            }
+                                                                                            L657:;
+                                                                                            store8(t656, (u8)v657);
+                                                                                            store32(l5 + 4ull, 0u);
+                                                                                            store8(l5 + 1ull, (u8)l6);
+                                                                                            e->stack_pointer = l4 + 16ull;
+                                                                                            goto L653;
+                                                                                        }
+                                                                                        trap();
+                                                                                    }
+                                                                                    L653:;
                                                                                 }
-                                                                                L455:;
-                                                                                const u32 t550 = load8(l28 + 56ull);
-                                                                                core_input_output_read_string(e, l26 + 184ull, l28, t550, l26 + 72ull);
+                                                                                L469:;
+                                                                                const u32 t680 = load32(l26 + 204u);
+                                                                                l15 = t680;
+                                                                                const u32 t681 = load8(l26 + 201u);
+                                                                                l10 = t681;
+                                                                                const u32 t682 = load8(l26 + 200u);
+                                                                                l11 = t682;
+                                                                                goto L411;
                                                                             }
-                                                                            L454:;
-                                                                            const u32 t551 = load32(l26 + 188u);
-                                                                            l16 = t551;
-                                                                            const u32 t552 = load8(l26 + 185u);
-                                                                            l11 = t552;
-                                                                            const u32 t553 = load8(l26 + 184u);
-                                                                            l10 = t553;
-                                                                            goto L411;
+                                                                            L465:;
+                                                                            l15 = 0u;
+                                                                            goto L410;
                                                                         }
-                                                                        L450:;
-                                                                        l16 = 0u;
-                                                                        goto L410;
+                                                                        l4 = l28 + 72ull;
+                                                                        const u64 t683 = load64(l4);
+                                                                        store64(l4, t683 + 1ull);
+                                                                        l4 = l28 + 80ull;
+                                                                        l8 = (l9 + l13) + l8;
+                                                                        const u32 t684 = load32(l4);
+                                                                        l9 = t684;
+                                                                        store32(l4, (l8 > l9) ? l8 : l9);
+                                                                        v405 = 0u; goto L405;
                                                                     }
-                                                                    l4 = l28 + 72ull;
-                                                                    const u64 t554 = load64(l4);
-                                                                    store64(l4, t554 + 1ull);
-                                                                    l4 = l28 + 80ull;
-                                                                    l8 = (l9 + l14) + l8;
-                                                                    const u32 t555 = load32(l4);
-                                                                    l9 = t555;
-                                                                    store32(l4, (l8 > l9) ? l8 : l9);
-                                                                    l8 = 0u;
-                                                                    goto L405;
+                                                                    L418:;
+                                                                    l23 = 8u;
+                                                                    if ((l6 & 255u) == 1u) goto L3;
+                                                                    const u64 t685 = load64(l28 + 72ull);
+                                                                    const u64 t686 = load64(l28 + 64ull);
+                                                                    if (t685 == t686) goto L3;
+                                                                    const u32 t687 = load32(l28 + 24ull);
+                                                                    l8 = t687;
+                                                                    if (l8 == 0) goto L3;
+                                                                    const u64 t688 = load64(l28);
+                                                                    const u32 t689 = load32(l28 + 28ull);
+                                                                    const u32 t690 = load8((t688 + ((u64)(t689 - l8) << 3)) + 1ull);
+                                                                    if (t690 != 41u) goto L3;
+                                                                    const u32 t691 = load32(l28 + 32ull);
+                                                                    l8 = t691;
+                                                                    if (l8 == 0) goto L3;
+                                                                    const u32 t692 = core_machine_printing_call_len(e, l28, l8 - 1u);
+                                                                    l48 = (u64)t692;
+                                                                    goto L3;
                                                                 }
-                                                                const u32 t556 = core_machine_Machine_prints(e, l28);
-                                                                l48 = (u64)t556;
-                                                                l23 = 8u;
-                                                                goto L3;
+                                                                L416:;
+                                                                const u32 t693 = load8(l28 + 85ull);
+                                                                l6 = t693;
+                                                                v405 = 1u; goto L405;
                                                             }
                                                             L415:;
                                                             store64(l28 + 44ull, 0ull);
-                                                            l16 = 0u;
+                                                            l15 = 0u;
                                                             goto L413;
                                                         }
                                                         L414:;
-                                                        store32(l26 + 204u, 0u);
-                                                        store16(l26 + 200u, (u16)1u);
+                                                        store32(l26 + 220u, 0u);
+                                                        store16(l26 + 216u, (u16)1u);
                                                         goto L412;
                                                     }
                                                     L413:;
-                                                    const u32 t557 = load32(l26 + 132u);
-                                                    l6 = t557;
-                                                    const u32 t558 = load32(l26 + 128u);
-                                                    l11 = t558;
+                                                    const u32 t694 = load32(l26 + 148u);
+                                                    l6 = t694;
+                                                    const u32 t695 = load32(l26 + 144u);
+                                                    l10 = t695;
                                                     {
-                                                        if ((l10 & 1u) == 0) goto L559;
-                                                        if (l6 >= l11) goto L559;
-                                                        const u32 t560 = load32(l28 + 44ull);
-                                                        const u32 t561 = load32(l28 + 48ull);
-                                                        const u32 t562 = store_store_place_of(e, l28, t560, t561, l16);
-                                                        l10 = t562;
+                                                        if ((l11 & 1u) == 0) goto L696;
+                                                        if (l6 >= l10) goto L696;
+                                                        const u32 t697 = load32(l28 + 44ull);
+                                                        const u32 t698 = load32(l28 + 48ull);
+                                                        const u32 t699 = store_store_place_of(e, l28, t697, t698, l15);
+                                                        l11 = t699;
                                                         l12 = 0u;
-                                                        const u64 t563 = load64(l28);
-                                                        l30 = t563;
-                                                        l4 = l30 + ((u64)l10 << 3);
-                                                        const u32 t564 = load32(l4 + 12ull);
-                                                        l15 = t564;
-                                                        const u32 t565 = load32(l4 + 20ull);
-                                                        l13 = t565;
-                                                        if (l15 != l13) {
-                                                            const u32 t567 = load32(l4 + 4ull);
-                                                            l22 = (l10 + t567) + 3u;
-                                                            l12 = l22 + l13;
-                                                            u32 v568;
+                                                        const u64 t700 = load64(l28);
+                                                        l30 = t700;
+                                                        l4 = l30 + ((u64)l11 << 3);
+                                                        const u32 t701 = load32(l4 + 12ull);
+                                                        l16 = t701;
+                                                        const u32 t702 = load32(l4 + 20ull);
+                                                        l14 = t702;
+                                                        if (l16 != l14) {
+                                                            const u32 t704 = load32(l4 + 4ull);
+                                                            l22 = (l11 + t704) + 3u;
+                                                            l12 = l22 + l14;
+                                                            u32 v705;
                                                             {
-                                                                l10 = l15 - l13;
-                                                                const u32 t569 = load32(l28 + 28ull);
-                                                                l17 = t569;
-                                                                const u32 t570 = load32(l28 + 20ull);
-                                                                const u32 t571 = load32(l28 + 24ull);
-                                                                l18 = t571;
-                                                                const u32 t572 = load32(l28 + 16ull);
-                                                                if (l10 > (l17 - (t570 + (l18 + t572)))) {
-                                                                    store_fill_load_items_in_way(e, l26 + 8ull, l28, l12, l15 + l22);
-                                                                    const u32 t574 = load8(l26 + 8u);
-                                                                    l13 = t574;
-                                                                    const u32 t575 = load32(l26 + 12u);
-                                                                    v568 = t575; goto L568;
+                                                                l11 = l16 - l14;
+                                                                const u32 t706 = load32(l28 + 28ull);
+                                                                l17 = t706;
+                                                                const u32 t707 = load32(l28 + 20ull);
+                                                                const u32 t708 = load32(l28 + 24ull);
+                                                                l18 = t708;
+                                                                const u32 t709 = load32(l28 + 16ull);
+                                                                if (l11 > (l17 - (t707 + (l18 + t709)))) {
+                                                                    store_fill_load_items_in_way(e, l26 + 8ull, l28, l12, l16 + l22);
+                                                                    const u32 t711 = load8(l26 + 8u);
+                                                                    l14 = t711;
+                                                                    const u32 t712 = load32(l26 + 12u);
+                                                                    v705 = t712; goto L705;
                                                                 }
-                                                                l0 = (u64)l10;
+                                                                l0 = (u64)l11;
                                                                 l2 = (u64)l12;
                                                                 {
                                                                     {
@@ -21104,226 +21614,226 @@ static void engine_turn(struct engine *e, u64 l0, u64 l1, u64 l2, u64 l3, u64 l4
                                                                             {
                                                                                 {
                                                                                     {
-                                                                                        if (l10 >= 8u) {
-                                                                                            if (l10 == 8u) goto L580;
+                                                                                        if (l11 >= 8u) {
+                                                                                            if (l11 == 8u) goto L717;
                                                                                             l4 = l30 + (l2 << 3);
                                                                                             l5 = l0;
-                                                                                            goto L581;
+                                                                                            goto L718;
                                                                                         }
-                                                                                        if (l10 >= 4u) {
-                                                                                            l13 = 0u;
+                                                                                        if (l11 >= 4u) {
+                                                                                            l14 = 0u;
                                                                                             l4 = l30 + (l2 << 3);
-                                                                                            const u32 t584 = load8(l4 + 24ull);
-                                                                                            const u32 t585 = load8(l4 + 16ull);
-                                                                                            const u32 t586 = load8(l4 + 8ull);
-                                                                                            const u32 t587 = load8(l4);
-                                                                                            if (((t584 + t585) | (t586 + t587)) & 255u) { v568 = 0u; goto L568; }
+                                                                                            const u32 t721 = load8(l4 + 24ull);
+                                                                                            const u32 t722 = load8(l4 + 16ull);
+                                                                                            const u32 t723 = load8(l4 + 8ull);
+                                                                                            const u32 t724 = load8(l4);
+                                                                                            if (((t721 + t722) | (t723 + t724)) & 255u) { v705 = 0u; goto L705; }
                                                                                             l1 = l0 + l2;
                                                                                             l5 = l30 + (l1 << 3);
-                                                                                            const u32 t588 = load8(l5 - 8ull);
-                                                                                            const u32 t589 = load8(l5 - 16ull);
-                                                                                            const u32 t590 = load8(l5 - 24ull);
-                                                                                            const u32 t591 = load8(l5 - 32ull);
-                                                                                            if (((t588 + t589) | (t590 + t591)) & 255u) { v568 = 0u; goto L568; }
-                                                                                            l12 = l10 + l18;
+                                                                                            const u32 t725 = load8(l5 - 8ull);
+                                                                                            const u32 t726 = load8(l5 - 16ull);
+                                                                                            const u32 t727 = load8(l5 - 24ull);
+                                                                                            const u32 t728 = load8(l5 - 32ull);
+                                                                                            if (((t725 + t726) | (t727 + t728)) & 255u) { v705 = 0u; goto L705; }
+                                                                                            l12 = l11 + l18;
                                                                                             l5 = (u64)(l17 - l12);
                                                                                             core_slice_edits_slice_T_copy_from_slice(e, l30 + (l5 << 3), l4, 4ull);
                                                                                             l4 = l1 - 4ull;
                                                                                             core_slice_edits_slice_T_copy_from_slice(e, l30 + ((l4 + (l5 - l2)) << 3), l30 + (l4 << 3), 4ull);
-                                                                                            goto L577;
+                                                                                            goto L714;
                                                                                         }
                                                                                         l4 = l30 + (l2 << 3);
-                                                                                        const u32 t592 = load8(l4);
-                                                                                        l15 = t592;
-                                                                                        if (l10 < 2u) goto L579;
-                                                                                        l13 = 0u;
-                                                                                        const u32 t593 = load8(l4 + 8ull);
-                                                                                        if (t593 | (l15 & 255u)) { v568 = 0u; goto L568; }
+                                                                                        const u32 t729 = load8(l4);
+                                                                                        l16 = t729;
+                                                                                        if (l11 < 2u) goto L716;
+                                                                                        l14 = 0u;
+                                                                                        const u32 t730 = load8(l4 + 8ull);
+                                                                                        if (t730 | (l16 & 255u)) { v705 = 0u; goto L705; }
                                                                                         l1 = l0 + l2;
                                                                                         l5 = l30 + (l1 << 3);
-                                                                                        const u32 t594 = load8(l5 - 8ull);
-                                                                                        const u32 t595 = load8(l5 - 16ull);
-                                                                                        if (t594 | t595) { v568 = 0u; goto L568; }
-                                                                                        l12 = l10 + l18;
+                                                                                        const u32 t731 = load8(l5 - 8ull);
+                                                                                        const u32 t732 = load8(l5 - 16ull);
+                                                                                        if (t731 | t732) { v705 = 0u; goto L705; }
+                                                                                        l12 = l11 + l18;
                                                                                         l5 = (u64)(l17 - l12);
                                                                                         core_slice_edits_slice_T_copy_from_slice(e, l30 + (l5 << 3), l4, 2ull);
                                                                                         l4 = l1 - 2ull;
                                                                                         core_slice_edits_slice_T_copy_from_slice(e, l30 + ((l4 + (l5 - l2)) << 3), l30 + (l4 << 3), 2ull);
-                                                                                        goto L577;
+                                                                                        goto L714;
                                                                                     }
-                                                                                    L581:;
-                                                                                    L596:;
+                                                                                    L718:;
+                                                                                    L733:;
                                                                                     {
-                                                                                        const u32 t597 = load8(l4 + 56ull);
-                                                                                        const u32 t598 = load8(l4 + 48ull);
-                                                                                        const u32 t599 = load8(l4 + 40ull);
-                                                                                        const u32 t600 = load8(l4 + 32ull);
-                                                                                        const u32 t601 = load8(l4 + 24ull);
-                                                                                        const u32 t602 = load8(l4 + 16ull);
-                                                                                        const u32 t603 = load8(l4 + 8ull);
-                                                                                        const u32 t604 = load8(l4);
-                                                                                        if ((t597 | ((t598 + (t599 + (t600 + (t601 + (t602 + (t603 + t604)))))) & 255u)) == 0) {
+                                                                                        const u32 t734 = load8(l4 + 56ull);
+                                                                                        const u32 t735 = load8(l4 + 48ull);
+                                                                                        const u32 t736 = load8(l4 + 40ull);
+                                                                                        const u32 t737 = load8(l4 + 32ull);
+                                                                                        const u32 t738 = load8(l4 + 24ull);
+                                                                                        const u32 t739 = load8(l4 + 16ull);
+                                                                                        const u32 t740 = load8(l4 + 8ull);
+                                                                                        const u32 t741 = load8(l4);
+                                                                                        if ((t734 | ((t735 + (t736 + (t737 + (t738 + (t739 + (t740 + t741)))))) & 255u)) == 0) {
                                                                                             l4 = l4 + 64ull;
                                                                                             l5 = l5 - 8ull;
-                                                                                            if (l5 >= 9ull) goto L596;
-                                                                                            goto L580;
+                                                                                            if (l5 >= 9ull) goto L733;
+                                                                                            goto L717;
                                                                                         }
                                                                                     }
-                                                                                    l13 = 0u;
-                                                                                    v568 = 0u; goto L568;
+                                                                                    l14 = 0u;
+                                                                                    v705 = 0u; goto L705;
                                                                                 }
-                                                                                L580:;
-                                                                                l13 = 0u;
+                                                                                L717:;
+                                                                                l14 = 0u;
                                                                                 l5 = l0 + l2;
                                                                                 l4 = l30 + (l5 << 3);
-                                                                                const u32 t606 = load8(l4 - 56ull);
-                                                                                const u32 t607 = load8(l4 - 64ull);
-                                                                                const u32 t608 = load8(l4 - 48ull);
-                                                                                const u32 t609 = load8(l4 - 40ull);
-                                                                                const u32 t610 = load8(l4 - 32ull);
-                                                                                const u32 t611 = load8(l4 - 24ull);
-                                                                                const u32 t612 = load8(l4 - 16ull);
-                                                                                const u32 t613 = load8(l4 - 8ull);
-                                                                                if ((((((((t606 + t607) + t608) + t609) + t610) + t611) + t612) & 255u) | t613) { v568 = 0u; goto L568; }
-                                                                                l12 = l10 + l18;
-                                                                                l35 = (u64)(l17 - l12);
-                                                                                if (l10 > 24u) goto L578;
-                                                                                if (l10 != 8u) {
+                                                                                const u32 t743 = load8(l4 - 56ull);
+                                                                                const u32 t744 = load8(l4 - 64ull);
+                                                                                const u32 t745 = load8(l4 - 48ull);
+                                                                                const u32 t746 = load8(l4 - 40ull);
+                                                                                const u32 t747 = load8(l4 - 32ull);
+                                                                                const u32 t748 = load8(l4 - 24ull);
+                                                                                const u32 t749 = load8(l4 - 16ull);
+                                                                                const u32 t750 = load8(l4 - 8ull);
+                                                                                if ((((((((t743 + t744) + t745) + t746) + t747) + t748) + t749) & 255u) | t750) { v705 = 0u; goto L705; }
+                                                                                l12 = l11 + l18;
+                                                                                l33 = (u64)(l17 - l12);
+                                                                                if (l11 > 24u) goto L715;
+                                                                                if (l11 != 8u) {
                                                                                     l4 = l30 + (l2 << 3);
-                                                                                    l5 = l30 + (l35 << 3);
+                                                                                    l5 = l30 + (l33 << 3);
                                                                                     l1 = l0;
-                                                                                    L615:;
+                                                                                    L752:;
                                                                                     {
                                                                                         core_slice_edits_slice_T_copy_from_slice(e, l5, l4, 8ull);
                                                                                         l4 = l4 + 64ull;
                                                                                         l5 = l5 + 64ull;
                                                                                         l1 = l1 - 8ull;
-                                                                                        if (l1 > 8ull) goto L615;
+                                                                                        if (l1 > 8ull) goto L752;
                                                                                     }
                                                                                 }
                                                                                 l4 = l0 - 8ull;
-                                                                                core_slice_edits_slice_T_copy_from_slice(e, l30 + ((l4 + l35) << 3), l30 + ((l2 + l4) << 3), 8ull);
+                                                                                core_slice_edits_slice_T_copy_from_slice(e, l30 + ((l4 + l33) << 3), l30 + ((l2 + l4) << 3), 8ull);
                                                                                 store32(l28 + 24ull, l12);
-                                                                                goto L576;
+                                                                                goto L713;
                                                                             }
-                                                                            L579:;
-                                                                            l13 = 0u;
-                                                                            if (l15 & 255u) { v568 = 0u; goto L568; }
-                                                                            l12 = l10 + l18;
-                                                                            if (l10 != 1u) goto L577;
+                                                                            L716:;
+                                                                            l14 = 0u;
+                                                                            if (l16 & 255u) { v705 = 0u; goto L705; }
+                                                                            l12 = l11 + l18;
+                                                                            if (l11 != 1u) goto L714;
                                                                             l5 = l30 + ((u64)(l17 - l12) << 3);
                                                                             store8(l5, (u8)0u);
-                                                                            const u32 t616 = load32(l4 + 4ull);
-                                                                            store32(l5 + 4ull, t616);
-                                                                            const u32 t617 = load8(l4 + 1ull);
-                                                                            store8(l5 + 1ull, (u8)t617);
-                                                                            goto L577;
+                                                                            const u32 t753 = load32(l4 + 4ull);
+                                                                            store32(l5 + 4ull, t753);
+                                                                            const u32 t754 = load8(l4 + 1ull);
+                                                                            store8(l5 + 1ull, (u8)t754);
+                                                                            goto L714;
                                                                         }
-                                                                        L578:;
-                                                                        space_copies_copy_long(e, l30, l2, l5, l35);
+                                                                        L715:;
+                                                                        space_copies_copy_long(e, l30, l2, l5, l33);
                                                                     }
-                                                                    L577:;
+                                                                    L714:;
                                                                     store32(l28 + 24ull, l12);
                                                                 }
-                                                                L576:;
-                                                                l13 = 1u;
-                                                                v568 = l10;
+                                                                L713:;
+                                                                l14 = 1u;
+                                                                v705 = l11;
                                                             }
-                                                            L568:;
-                                                            l12 = v568;
-                                                            if ((l13 & 255u) != 1u) goto L559;
+                                                            L705:;
+                                                            l12 = v705;
+                                                            if ((l14 & 255u) != 1u) goto L696;
                                                         }
-                                                        store32(l26 + 204u, l12);
-                                                        store16(l26 + 200u, (u16)2u);
+                                                        store32(l26 + 220u, l12);
+                                                        store16(l26 + 216u, (u16)2u);
                                                         goto L412;
                                                     }
-                                                    L559:;
-                                                    const u32 t618 = forms_work_Work_fill_body(e, l28, l16, l11, l6);
-                                                    l6 = t618;
-                                                    store32(l26 + 204u, 0u);
-                                                    store8(l26 + 201u, (u8)0u);
-                                                    store8(l26 + 200u, (u8)l6);
+                                                    L696:;
+                                                    const u32 t755 = forms_work_Work_fill_body(e, l28, l15, l10, l6);
+                                                    l6 = t755;
+                                                    store32(l26 + 220u, 0u);
+                                                    store8(l26 + 217u, (u8)0u);
+                                                    store8(l26 + 216u, (u8)l6);
                                                 }
                                                 L412:;
-                                                const u32 t619 = load32(l26 + 204u);
-                                                l16 = t619;
-                                                const u32 t620 = load8(l26 + 201u);
-                                                l11 = t620;
-                                                const u32 t621 = load8(l26 + 200u);
-                                                l10 = t621;
+                                                const u32 t756 = load32(l26 + 220u);
+                                                l15 = t756;
+                                                const u32 t757 = load8(l26 + 217u);
+                                                l10 = t757;
+                                                const u32 t758 = load8(l26 + 216u);
+                                                l11 = t758;
                                             }
                                             L411:;
                                             l6 = 2u;
                                             {
-                                                switch ((u32)(((u64)l10 & 255ull)) - 1u) {
-                                                case 0: goto L622;
+                                                switch ((u32)(((u64)l11 & 255ull)) - 1u) {
+                                                case 0: goto L759;
                                                 case 1: goto L410;
                                                 case 2: goto L410;
                                                 case 3: goto L409;
                                                 default: goto L406;
                                                 }
                                             }
-                                            L622:;
-                                            const u32 t623 = load32(l28 + 20ull);
-                                            l6 = t623;
-                                            core_delivery_deliver(e, l28, l9, l14);
+                                            L759:;
+                                            const u32 t760 = load32(l28 + 20ull);
+                                            l6 = t760;
+                                            core_delivery_deliver(e, l28, l9, l13);
                                             l8 = l6 + (l8 + l19);
                                             l9 = 0u;
                                             goto L408;
                                         }
                                         L410:;
-                                        l14 = l19 + l20;
-                                        const u64 t624 = load64(l28);
-                                        const u64 t625 = load32(l28 + 16ull);
-                                        l4 = t624 + (t625 << 3);
+                                        l13 = l19 + l20;
+                                        const u64 t761 = load64(l28);
+                                        const u64 t762 = load32(l28 + 16ull);
+                                        l4 = t761 + (t762 << 3);
                                         {
                                             {
-                                                const u32 t628 = load32(l28 + 32ull);
-                                                l8 = t628;
+                                                const u32 t765 = load32(l28 + 32ull);
+                                                l8 = t765;
                                                 l6 = l8 <= l9;
-                                                if (l6) goto L627;
-                                                if ((l8 - l9) != 1u) goto L627;
-                                                const u32 t629 = load32((l4 + ((l32 << 3) & 34359738360ull)) + 4ull);
-                                                l8 = t629;
+                                                if (l6) goto L764;
+                                                if ((l8 - l9) != 1u) goto L764;
+                                                const u32 t766 = load32((l4 + ((l32 << 3) & 34359738360ull)) + 4ull);
+                                                l8 = t766;
                                                 l6 = l8 ? (l21 - l8) : 0u;
-                                                goto L626;
+                                                goto L763;
                                             }
-                                            L627:;
+                                            L764:;
                                             if (l6) {
                                                 l6 = l8;
-                                                goto L626;
+                                                goto L763;
                                             }
-                                            L631:;
+                                            L768:;
                                             {
-                                                const u32 t632 = load32((l4 + ((u64)(l8 - 1u) << 3)) + 4ull);
-                                                l6 = t632;
+                                                const u32 t769 = load32((l4 + ((u64)(l8 - 1u) << 3)) + 4ull);
+                                                l6 = t769;
                                                 l8 = l8 - l6;
                                                 l6 = l6 ? l8 : 0u;
-                                                if (l6 > l9) goto L631;
+                                                if (l6 > l9) goto L768;
                                             }
                                         }
-                                        L626:;
+                                        L763:;
                                         store32(l28 + 20ull, l9);
                                         store32(l28 + 32ull, l6);
-                                        l8 = l14 + l16;
+                                        l8 = l13 + l15;
                                         l9 = 0u;
                                         goto L408;
                                     }
                                     L409:;
-                                    const u32 t633 = load32(l28 + 24ull);
-                                    const u32 t634 = load32(l28 + 20ull);
-                                    const u32 t635 = load32(l28 + 16ull);
-                                    l8 = t633 + (t634 + t635);
+                                    const u32 t770 = load32(l28 + 24ull);
+                                    const u32 t771 = load32(l28 + 20ull);
+                                    const u32 t772 = load32(l28 + 16ull);
+                                    l8 = t770 + (t771 + t772);
                                     l9 = 1u;
-                                    l6 = 1u << (l11 & 31);
-                                    if (l6 & 3u) { v407 = l11; goto L407; }
+                                    l6 = 1u << (l10 & 31);
+                                    if (l6 & 3u) { v407 = l10; goto L407; }
                                     if ((l6 & 12u) == 0) {
                                         l4 = l28 + 80ull;
-                                        const u32 t637 = load32(l4);
-                                        l6 = t637;
+                                        const u32 t774 = load32(l4);
+                                        l6 = t774;
                                         store32(l4, (l6 < l8) ? l8 : l6);
                                     }
-                                    l6 = l11;
+                                    l6 = l10;
                                     goto L406;
                                 }
                                 L408:;
@@ -21332,22 +21842,21 @@ static void engine_turn(struct engine *e, u64 l0, u64 l1, u64 l2, u64 l3, u64 l4
                             L407:;
                             l6 = v407;
                             l4 = l28 + 72ull;
-                            const u64 t638 = load64(l4);
-                            store64(l4, t638 + 1ull);
+                            const u64 t775 = load64(l4);
+                            store64(l4, t775 + 1ull);
                             l4 = l28 + 80ull;
-                            const u32 t639 = load32(l4);
-                            l14 = t639;
-                            store32(l4, (l8 > l14) ? l8 : l14);
-                            l8 = 0u;
-                            if (l9 == 0) goto L405;
+                            const u32 t776 = load32(l4);
+                            l13 = t776;
+                            store32(l4, (l8 > l13) ? l8 : l13);
+                            if (l9 == 0) { v405 = 0u; goto L405; }
                         }
                         L406:;
                         store8(l28 + 85ull, (u8)l6);
-                        l8 = 1u;
                         store8(l28 + 84ull, (u8)1u);
+                        v405 = 1u;
                     }
                     L405:;
-                    if ((l8 & 255u) == 0) {
+                    if ((v405 & 255u) == 0) {
                         l4 = l41 + 1ull;
                         if (l4 < l7) goto L4;
                         goto L3;
@@ -21356,22 +21865,22 @@ static void engine_turn(struct engine *e, u64 l0, u64 l1, u64 l2, u64 l3, u64 l4
                 l23 = (l6 & 255u) + 1u;
             }
             L3:;
-            const u32 t641 = load32(l28 + 80ull);
-            l8 = t641;
-            const u64 t642 = load64(l28 + 72ull);
-            l4 = t642;
-            const u64 t643 = load64(l26 + 56u);
-            l32 = t643;
-            const u64 t644 = load64(l26 + 80u);
-            l28 = t644;
-            store64(l36 + 32u, l48);
+            const u32 t778 = load32(l28 + 80ull);
+            l8 = t778;
+            const u64 t779 = load64(l28 + 72ull);
+            l4 = t779;
+            const u64 t780 = load64(l26 + 64u);
+            l32 = t780;
+            const u64 t781 = load64(l26 + 96u);
+            l28 = t781;
+            store64(l37 + 32u, l48);
             l28 = l3 - l28;
-            store64(l36 + 24u, (l3 < l28) ? 0ull : l28);
-            store64(l36 + 16u, l32);
-            store64(l36 + 8u, l4);
-            store32(l36 + 4u, l8);
-            store32(l36, l23);
-            e->stack_pointer = l26 + 208ull;
+            store64(l37 + 24u, (l3 < l28) ? 0ull : l28);
+            store64(l37 + 16u, l32);
+            store64(l37 + 8u, l4);
+            store32(l37 + 4u, l8);
+            store32(l37, l23);
+            e->stack_pointer = l26 + 224ull;
             goto L1;
         }
         trap();
@@ -21381,14 +21890,13 @@ static void engine_turn(struct engine *e, u64 l0, u64 l1, u64 l2, u64 l3, u64 l4
 
 /* ---- The exports, each with a stack for the engine, which is gone when it returns. */
 
-/* The bytes of that stack, beside what the functions above take of C's. The engine traps before it needs more. */
-#ifndef TRAC_STACK
-#define TRAC_STACK 1024
-#endif
+/* The bytes of that stack, beside what the functions above take of C's: what the deepest calls can take, the 16 bytes
+ * that the engine keeps free, and what is lost where it is aligned. */
+enum { STACK = DEEPEST_STACK + 16 + 32 };
 
 struct lent {
     struct engine engine;
-    u8 stack[TRAC_STACK];
+    u8 stack[STACK];
 };
 
 static u64 address_of(const void *place) { return (u64)(uintptr_t)place; }
@@ -21396,7 +21904,7 @@ static u64 address_of(const void *place) { return (u64)(uintptr_t)place; }
 /* An engine with a stack whose ends are multiples of 16. */
 static struct engine *lend(struct lent *to) {
     to->engine.stack = (address_of(to->stack) + 15) & ~(u64)15;
-    to->engine.stack_pointer = address_of(to->stack + TRAC_STACK) & ~(u64)15;
+    to->engine.stack_pointer = address_of(to->stack + STACK) & ~(u64)15;
     return &to->engine;
 }
 

@@ -1,14 +1,13 @@
 
 /* ---- The exports, each with a stack for the engine, which is gone when it returns. */
 
-/* The bytes of that stack, beside what the functions above take of C's. The engine traps before it needs more. */
-#ifndef TRAC_STACK
-#define TRAC_STACK 1024
-#endif
+/* The bytes of that stack, beside what the functions above take of C's: what the deepest calls can take, the 16 bytes
+ * that the engine keeps free, and what is lost where it is aligned. */
+enum { STACK = DEEPEST_STACK + 16 + 32 };
 
 struct lent {
     struct engine engine;
-    u8 stack[TRAC_STACK];
+    u8 stack[STACK];
 };
 
 static u64 address_of(const void *place) { return (u64)(uintptr_t)place; }
@@ -16,7 +15,7 @@ static u64 address_of(const void *place) { return (u64)(uintptr_t)place; }
 /* An engine with a stack whose ends are multiples of 16. */
 static struct engine *lend(struct lent *to) {
     to->engine.stack = (address_of(to->stack) + 15) & ~(u64)15;
-    to->engine.stack_pointer = address_of(to->stack + TRAC_STACK) & ~(u64)15;
+    to->engine.stack_pointer = address_of(to->stack + STACK) & ~(u64)15;
     return &to->engine;
 }
 

@@ -3,6 +3,7 @@
 Both are wasm2wat's text of one module with 64-bit addresses, linked to two places, whose instructions are those of
 whole numbers alone. A number that differs between them is an address: of the module's tables, which the C has as an
 array. All other addresses are the caller's. So the C takes no memory, and has no state but a stack that is lent."""
+import functools
 import re
 import sys
 from collections import Counter
@@ -465,6 +466,26 @@ def without_guards(body):
     return kept
 
 
+def frame_of(body):
+    """The bytes of the stack that a function takes for itself: its frame, and those of what became a part of it."""
+    return sum(abs(int(second[1])) for first, second, third in zip(body, body[1:], body[2:])
+               if first == ['global.get', '$__stack_pointer'] and second[0] == 'i64.const'
+               and third[0] in ('i64.add', 'i64.sub'))
+
+
+def deepest(module):
+    """The bytes of the stack that the calls of any export take at the most. No call goes in a circle."""
+    frames = {name: frame_of(body) for name, _, body in module.functions}
+    calls = {name: {words[1] for words in body if words[0] == 'call'} for name, _, body in module.functions}
+
+    @functools.cache
+    def depth(name, above=()):
+        if name in above:
+            raise SystemExit(f'wasm_to_c.py: {name} calls itself')
+        return frames[name] + max((depth(callee, (*above, name)) for callee in calls[name]), default=0)
+    return max(map(depth, module.heads))
+
+
 def lines_of(path):
     with open(path, encoding='latin-1') as file:
         return file.read().splitlines()
@@ -481,6 +502,7 @@ def marked(line, same):
 
 def print_table(module):
     table = module.table()
+    print(f'enum {{ DEEPEST_STACK = {deepest(module)} }};\n')
     print(f'static const u8 tables[{len(table)}] = {{')
     for i in range(0, len(table), 24):
         print('    ' + ', '.join(map(str, table[i:i + 24])) + ',')
