@@ -4,7 +4,7 @@
  * and what compilers make of it (memcpy, memset) alone.
  *
  * Crates: trac_language trac_space trac_values trac_store trac_forms trac_devices trac_functions trac_laws trac_core trac_c
- * Sources: d4573c7aa26a4cb72ad24bf1796d24ff419c2f44e3f48e1049c1b7b5ef190b63
+ * Sources: c1b9918650851e2b442e4782914d4eb106d3426b5395bd474832fd427bc6ce5e
  * Kit: rattle-kit-13f logic dac8208d650f15bf
  * Tools: wasm-opt version 108, wabt 1.0.32
  */
@@ -91,7 +91,7 @@ static inline u64 clz64(u64 x) {
     return x >> 32 ? clz32((u32)(x >> 32)) : 32 + clz32((u32)x);
 }
 
-enum { DEEPEST_STACK = 928 };
+enum { DEEPEST_STACK = 912 };
 
 static const u8 tables[3040] = {
     0, 1, 2, 3, 4, 5, 6, 7, 8, 9, 10, 11, 12, 13, 14, 15, 16, 17, 18, 19, 20, 21, 22, 23,
@@ -235,6 +235,10 @@ static u32 space_space_Space_find_way(struct engine *e, u64 l0, u64 l1);
 static void space_space_write_bytes(struct engine *e, u64 l0, u64 l1, u64 l2);
 static void devices_slice_source_SliceSourceSource_take_held(struct engine *e, u64 l0, u32 l1, u64 l2);
 static u32 space_space_Space_push_in_way(struct engine *e, u64 l0, u64 l1);
+static void forms_work_Work_find_among_more(struct engine *e, u64 l0, u64 l1, u32 l2, u32 l3);
+static void forms_work_Work_find_among_few(struct engine *e, u64 l0, u64 l1, u32 l2, u32 l3);
+static void forms_work_Work_stored(struct engine *e, u64 l0, u64 l1, u32 l2);
+static u32 core_display_show_form(struct engine *e, u64 l0, u64 l1);
 static void functions_comparing_equal(struct engine *e, u64 l0, u64 l1, u64 l2);
 static void functions_comparing_greater(struct engine *e, u64 l0, u64 l1, u64 l2);
 static void functions_arithmetic_arithmetic(struct engine *e, u64 l0, u64 l1, u32 l2, u64 l3);
@@ -250,8 +254,6 @@ static void functions_form_parts_initial_part(struct engine *e, u64 l0, u64 l1, 
 static void functions_form_parts_call_restore(struct engine *e, u64 l0, u64 l1, u64 l2);
 static void functions_form_calls_define_string(struct engine *e, u64 l0, u64 l1, u64 l2);
 static void functions_form_calls_segment_string(struct engine *e, u64 l0, u64 l1, u64 l2);
-static void forms_work_Work_find_among_more(struct engine *e, u64 l0, u64 l1, u32 l2, u32 l3);
-static void forms_work_Work_find_among_few(struct engine *e, u64 l0, u64 l1, u32 l2, u32 l3);
 static void functions_form_calls_delete_definition(struct engine *e, u64 l0, u64 l1, u64 l2);
 static void functions_form_calls_delete_all(struct engine *e, u64 l0, u64 l1);
 static void functions_form_calls_list_names(struct engine *e, u64 l0, u64 l1, u64 l2);
@@ -259,8 +261,6 @@ static void store_fill_load_items_in_way(struct engine *e, u64 l0, u64 l1, u32 l
 static void core_slice_edits_slice_T_copy_from_slice(struct engine *e, u64 l0, u64 l1, u64 l2);
 static void space_copies_copy_long(struct engine *e, u64 l0, u64 l1, u64 l2, u64 l3);
 static u32 forms_work_Work_fill_body(struct engine *e, u64 l0, u32 l1, u32 l2, u32 l3);
-static void forms_work_Work_stored(struct engine *e, u64 l0, u64 l1, u32 l2);
-static u32 core_display_show_form(struct engine *e, u64 l0, u64 l1);
 static void core_delivery_deliver(struct engine *e, u64 l0, u32 l1, u32 l2);
 static void space_copies_copy_more(struct engine *e, u64 l0, u64 l1, u64 l2, u64 l3);
 static void space_copies_copy_parts(struct engine *e, u64 l0, u64 l1, u64 l2);
@@ -2148,6 +2148,778 @@ static u32 space_space_Space_push_in_way(struct engine *e, u64 l0, u64 l1) {
         }
         e->stack_pointer = l9;
         return l7;
+    }
+    trap();
+    return 0;
+}
+
+static void forms_work_Work_find_among_more(struct engine *e, u64 l0, u64 l1, u32 l2, u32 l3) {
+    u64 l4 = 0;
+    u64 l5 = 0;
+    u64 l6 = 0;
+    u64 l7 = 0;
+    u64 l8 = 0;
+    u64 l9 = 0;
+    u64 l10 = 0;
+    u64 l11 = 0;
+    u64 l12 = 0;
+    u64 l13 = 0;
+    u64 l14 = 0;
+    u64 l15 = 0;
+    u64 l16 = 0;
+    u64 l17 = 0;
+    u64 l18 = 0;
+    u64 l19 = 0;
+    u64 l20 = 0;
+    u64 l21 = 0;
+    u64 l22 = 0;
+    u32 l23 = 0;
+    u32 l24 = 0;
+    u32 l25 = 0;
+    u32 l26 = 0;
+    l4 = e->stack_pointer - 48ull;
+    e->stack_pointer = l4;
+    {
+        {
+            {
+                {
+                    {
+                        {
+                            l10 = l4;
+                            if ((i64)(l10 - e->stack) < (i64)16ull) goto L6;
+                            l11 = l1 + 52ull;
+                            {
+                                const u32 t8 = load32(l1 + 40ull);
+                                l23 = t8;
+                                if (l23 < 12u) goto L7;
+                                const u32 t9 = load32(l11);
+                                if (l23 >= (t9 >> 3)) goto L7;
+                                store_index_index_worthwhile(e, l1, l23, l11);
+                                const u32 t10 = load32(l1 + 40ull);
+                                l23 = t10;
+                            }
+                            L7:;
+                            const u32 t11 = load32(l1 + 48ull);
+                            l26 = t11;
+                            const u32 t12 = load32(l1 + 44ull);
+                            l25 = t12;
+                            store32(l10 + 8u, 0u);
+                            store64(l10, 0ull);
+                            const u32 t13 = load32(l1 + 16ull);
+                            l24 = t13;
+                            l15 = (u64)(l24 + l3);
+                            l4 = (u64)(l2 + l24);
+                            l7 = l15 - l4;
+                            const u64 t14 = load64(l1);
+                            l6 = t14;
+                            l16 = l4 << 3;
+                            l14 = l6 + l16;
+                            if (l23 >= 12u) {
+                                store64(l10 + 32u, 0ull);
+                                store32(l10 + 40u, 0u);
+                                store64(l10 + 16u, 0ull);
+                                store32(l10 + 24u, 0u);
+                                const u32 t16 = load32(l1 + 28ull);
+                                l3 = t16;
+                                const u64 t17 = load64(l1 + 8ull);
+                                l5 = t17;
+                                if (l3 != (u32)l5) {
+                                    l19 = (u64)l3;
+                                    l20 = (l5 - l19) >> 1;
+                                    l17 = l20 & 9223372036854775806ull;
+                                    if ((l7 == 0) == 0) {
+                                        l8 = l7 & 3ull;
+                                        l5 = 0ull;
+                                        l13 = l7;
+                                        {
+                                            if ((l4 - l15) <= 18446744073709551612ull) {
+                                                l9 = l7 & 18446744073709551612ull;
+                                                l4 = ((l15 << 3) + l6) - 31ull;
+                                                L22:;
+                                                {
+                                                    const u64 t23 = load8(l4);
+                                                    const u64 t24 = load8(l4 + 8ull);
+                                                    const u64 t25 = load8(l4 + 16ull);
+                                                    const u64 t26 = load8(l4 + 24ull);
+                                                    const u64 t27 = (t24 + ((t25 + ((l5 + t26) * 11400714819323198485ull)) * 11400714819323198485ull)) * 11400714819323198485ull;
+                                                    l5 = (t23 + t27) * 11400714819323198485ull;
+                                                    l4 = l4 - 32ull;
+                                                    l13 = l13 - 4ull;
+                                                    l9 = l9 - 4ull;
+                                                    if (l9 != 0ull) goto L22;
+                                                }
+                                                if (l8 == 0) goto L20;
+                                            }
+                                            l4 = (((l13 << 3) + l16) + l6) - 7ull;
+                                            L28:;
+                                            {
+                                                const u64 t29 = load8(l4);
+                                                l5 = (l5 + t29) * 11400714819323198485ull;
+                                                l4 = l4 - 8ull;
+                                                l8 = l8 - 1ull;
+                                                if (l8 != 0ull) goto L28;
+                                            }
+                                        }
+                                        L20:;
+                                        l18 = l5 >> 32;
+                                    }
+                                    if (l17 == 0) {
+                                        l3 = 0u;
+                                        goto L1;
+                                    }
+                                    l9 = l6 + (l19 << 3);
+                                    l21 = l6 + 25ull;
+                                    l15 = l20 & 2305843009213693950ull;
+                                    l16 = l17 + 2305843009213693951ull;
+                                    l20 = l14 + 1ull;
+                                    l8 = 0ull;
+                                    L31:;
+                                    {
+                                        if (l8 >= 6ull) {
+                                            const u32 t33 = load32(l11);
+                                            l23 = t33 + 1u;
+                                            store32(l11, l23 ? l23 : 4294967295u);
+                                        }
+                                        {
+                                            l4 = l9 + (((l8 + l18) & l16) << 3);
+                                            const u32 t35 = load8(l4);
+                                            l3 = t35;
+                                            if ((l3 - 1u) < 3u) goto L34;
+                                            {
+                                                switch (l3 - 1u) {
+                                                case 0: goto L6;
+                                                case 1: goto L6;
+                                                case 2: goto L6;
+                                                case 3: goto L36;
+                                                default: goto L1;
+                                                }
+                                            }
+                                            L36:;
+                                            const u64 t37 = load32(l4 + 4ull);
+                                            l14 = t37;
+                                            l4 = l9 + ((l15 + l14) << 3);
+                                            const u64 t38 = load32(l4 + 4ull);
+                                            const u32 t39 = load8(l4);
+                                            l19 = (t39 == 4u) ? t38 : 0ull;
+                                            l4 = l19 << 3;
+                                            const u32 t40 = load32((l6 + l4) + 4ull);
+                                            l23 = t40;
+                                            if (l7 != (u64)l23) goto L34;
+                                            if (l23 == 0) goto L5;
+                                            l4 = l4 + l21;
+                                            l5 = l20;
+                                            l13 = l7;
+                                            L41:;
+                                            {
+                                                const u32 t42 = load8(l4);
+                                                const u32 t43 = load8(l5);
+                                                if (t42 != t43) goto L34;
+                                                l4 = l4 + 8ull;
+                                                l5 = l5 + 8ull;
+                                                l13 = l13 - 1ull;
+                                                if ((l13 == 0) == 0) goto L41;
+                                            }
+                                            goto L5;
+                                        }
+                                        L34:;
+                                        l8 = l8 + 1ull;
+                                        if (l8 != l17) goto L31;
+                                    }
+                                    l3 = 0u;
+                                    goto L1;
+                                }
+                                l5 = 0ull;
+                                if (l7 == 0) {
+                                    l2 = 0u;
+                                    l4 = 0ull;
+                                    u32 v45;
+                                    {
+                                        {
+                                            L47:;
+                                            {
+                                                l8 = l6 + (l4 << 3);
+                                                const u32 t48 = load32(l8 + 4ull);
+                                                l3 = t48;
+                                                if (l3 == 0) goto L46;
+                                                const u64 t49 = load32(l8 + 12ull);
+                                                l4 = (t49 + (l4 + (u64)l3)) + 3ull;
+                                                l5 = l5 - 1ull;
+                                                l2 = l2 + 1u;
+                                                if (l23 != l2) goto L47;
+                                            }
+                                            v45 = 0u; goto L45;
+                                        }
+                                        L46:;
+                                        l12 = (l4 << 32) - l5;
+                                        l23 = l2;
+                                        v45 = 1u;
+                                    }
+                                    L45:;
+                                    l3 = v45;
+                                    if (l23 < 9u) goto L1;
+                                    l23 = l23 - 8u;
+                                    const u32 t50 = load32(l11);
+                                    l2 = l23 + t50;
+                                    store32(l11, (l2 < l23) ? 4294967295u : l2);
+                                    goto L1;
+                                }
+                                store_store_find_some(e, l10 + 16ull, l6, l25, l26, l23, l14, l7);
+                                const u32 t51 = load8(l10 + 16u);
+                                if (t51 == 1u) {
+                                    const u64 t53 = load64(l10 + 20u);
+                                    l12 = t53;
+                                    l23 = (u32)l12 - l25;
+                                    if (l23 < 9u) {
+                                        l3 = 1u;
+                                        goto L1;
+                                    }
+                                    l23 = l23 - 8u;
+                                    const u32 t55 = load32(l11);
+                                    l3 = l23 + t55;
+                                    store32(l11, (l3 < l23) ? 4294967295u : l3);
+                                    l3 = 1u;
+                                    goto L1;
+                                }
+                                store_store_find_some(e, l10 + 32ull, l6, 0u, 0u, l25, l14, l7);
+                                const u32 t56 = load32(l10 + 36u);
+                                const u32 t57 = load8(l10 + 32u);
+                                l3 = t57;
+                                l2 = (l3 == 1u) ? t56 : l25;
+                                l23 = l2 + (l23 - l25);
+                                l23 = (l2 > l23) ? 4294967295u : l23;
+                                if (l23 >= 9u) {
+                                    l23 = l23 - 8u;
+                                    const u32 t59 = load32(l11);
+                                    l2 = l23 + t59;
+                                    store32(l11, (l2 < l23) ? 4294967295u : l2);
+                                }
+                                const u64 t60 = load64(l10 + 36u);
+                                l12 = t60;
+                                goto L1;
+                            }
+                            if (l7 == 0) {
+                                if (l23) {
+                                    l3 = 0u;
+                                    l4 = 0ull;
+                                    L63:;
+                                    {
+                                        l5 = l6 + (l4 << 3);
+                                        const u32 t64 = load32(l5 + 4ull);
+                                        l2 = t64;
+                                        if (l2 == 0) {
+                                            store32(l10 + 8u, (u32)l4);
+                                            store32(l10 + 4u, l3);
+                                            l3 = 1u;
+                                            goto L2;
+                                        }
+                                        const u64 t66 = load32(l5 + 12ull);
+                                        l4 = (t66 + (l4 + (u64)l2)) + 3ull;
+                                        l3 = l3 + 1u;
+                                        if (l23 != l3) goto L63;
+                                    }
+                                }
+                                l3 = 0u;
+                                goto L2;
+                            }
+                            if (l23 <= 7u) {
+                                l3 = 0u;
+                                if (l23 == 0) goto L2;
+                                const u32 t68 = load8((l14 + (l7 << 3)) - 7ull);
+                                l24 = t68;
+                                {
+                                    const u64 t70 = load32(l6 + 4ull);
+                                    l8 = t70;
+                                    if (l7 != l8) goto L69;
+                                    const u32 t71 = load8((l6 + (l7 << 3)) + 17ull);
+                                    if (t71 != (l24 & 255u)) goto L69;
+                                    l4 = l6 + 25ull;
+                                    l5 = l7;
+                                    L72:;
+                                    {
+                                        const u32 t73 = load8(l4);
+                                        const u32 t74 = load8((l4 + l16) - 24ull);
+                                        if (t73 != t74) goto L69;
+                                        l4 = l4 + 8ull;
+                                        l5 = l5 - 1ull;
+                                        if ((l5 == 0) == 0) goto L72;
+                                    }
+                                    l2 = l23;
+                                    goto L3;
+                                }
+                                L69:;
+                                l2 = l23 - 1u;
+                                if (l2 == 0) goto L2;
+                                const u64 t75 = load32(l6 + 12ull);
+                                l11 = l8 + t75;
+                                l9 = l11 + 6ull;
+                                l13 = l9 - 3ull;
+                                const u64 t76 = load32((l6 + (l13 << 3)) + 4ull);
+                                l12 = t76;
+                                if (l7 != l12) goto L4;
+                                const u32 t77 = load8((l6 + ((l7 + l9) << 3)) - 7ull);
+                                if (t77 != (l24 & 255u)) goto L4;
+                                l4 = l14 + 1ull;
+                                l5 = ((l11 << 3) + l6) + 49ull;
+                                l8 = l7;
+                                L78:;
+                                {
+                                    const u32 t79 = load8(l5);
+                                    const u32 t80 = load8(l4);
+                                    if (t79 != t80) goto L4;
+                                    l5 = l5 + 8ull;
+                                    l4 = l4 + 8ull;
+                                    l8 = l8 - 1ull;
+                                    if ((l8 == 0) == 0) goto L78;
+                                }
+                                goto L3;
+                            }
+                            store_store_find_round(e, l10, l6, l25, l26, l23, l14, l7);
+                            const u32 t81 = load8(l10);
+                            l3 = t81;
+                            goto L2;
+                        }
+                        L6:;
+                        trap();
+                    }
+                    L5:;
+                    l12 = (l19 << 32) | l14;
+                    l3 = 1u;
+                    goto L1;
+                }
+                L4:;
+                l2 = l23 - 2u;
+                if (l2 == 0) goto L2;
+                {
+                    const u64 t83 = load32((l6 + (l9 << 3)) - 12ull);
+                    l18 = t83;
+                    l9 = (l18 + (l9 + l12)) + 3ull;
+                    l13 = l9 - 3ull;
+                    const u64 t84 = load32((l6 + (l13 << 3)) + 4ull);
+                    l17 = t84;
+                    if (l7 != l17) goto L82;
+                    const u32 t85 = load8((l6 + ((l7 + l9) << 3)) - 7ull);
+                    if (t85 != (l24 & 255u)) goto L82;
+                    l4 = l14 + 1ull;
+                    l5 = ((((l11 + l12) + l18) << 3) + l6) + 73ull;
+                    l8 = l7;
+                    L86:;
+                    {
+                        const u32 t87 = load8(l5);
+                        const u32 t88 = load8(l4);
+                        if (t87 != t88) goto L82;
+                        l5 = l5 + 8ull;
+                        l4 = l4 + 8ull;
+                        l8 = l8 - 1ull;
+                        if ((l8 == 0) == 0) goto L86;
+                    }
+                    goto L3;
+                }
+                L82:;
+                l2 = l23 - 3u;
+                if (l2 == 0) goto L2;
+                {
+                    const u64 t90 = load32((l6 + (l9 << 3)) - 12ull);
+                    l15 = t90;
+                    l9 = (l15 + (l9 + l17)) + 3ull;
+                    l13 = l9 - 3ull;
+                    const u64 t91 = load32((l6 + (l13 << 3)) + 4ull);
+                    l16 = t91;
+                    if (l7 != l16) goto L89;
+                    const u32 t92 = load8((l6 + ((l7 + l9) << 3)) - 7ull);
+                    if (t92 != (l24 & 255u)) goto L89;
+                    l4 = l14 + 1ull;
+                    l5 = ((((((l11 + l12) + l18) + l17) + l15) << 3) + l6) + 97ull;
+                    l8 = l7;
+                    L93:;
+                    {
+                        const u32 t94 = load8(l5);
+                        const u32 t95 = load8(l4);
+                        if (t94 != t95) goto L89;
+                        l5 = l5 + 8ull;
+                        l4 = l4 + 8ull;
+                        l8 = l8 - 1ull;
+                        if ((l8 == 0) == 0) goto L93;
+                    }
+                    goto L3;
+                }
+                L89:;
+                l2 = l23 - 4u;
+                if (l2 == 0) goto L2;
+                {
+                    const u64 t97 = load32((l6 + (l9 << 3)) - 12ull);
+                    l20 = t97;
+                    l9 = (l20 + (l9 + l16)) + 3ull;
+                    l13 = l9 - 3ull;
+                    const u64 t98 = load32((l6 + (l13 << 3)) + 4ull);
+                    l19 = t98;
+                    if (l7 != l19) goto L96;
+                    const u32 t99 = load8((l6 + ((l7 + l9) << 3)) - 7ull);
+                    if (t99 != (l24 & 255u)) goto L96;
+                    l4 = l14 + 1ull;
+                    l5 = ((((((((l11 + l12) + l18) + l17) + l15) + l16) + l20) << 3) + l6) + 121ull;
+                    l8 = l7;
+                    L100:;
+                    {
+                        const u32 t101 = load8(l5);
+                        const u32 t102 = load8(l4);
+                        if (t101 != t102) goto L96;
+                        l5 = l5 + 8ull;
+                        l4 = l4 + 8ull;
+                        l8 = l8 - 1ull;
+                        if ((l8 == 0) == 0) goto L100;
+                    }
+                    goto L3;
+                }
+                L96:;
+                l2 = l23 - 5u;
+                if (l2 == 0) goto L2;
+                {
+                    const u64 t104 = load32((l6 + (l9 << 3)) - 12ull);
+                    l22 = t104;
+                    l9 = (l22 + (l9 + l19)) + 3ull;
+                    l13 = l9 - 3ull;
+                    const u64 t105 = load32((l6 + (l13 << 3)) + 4ull);
+                    l21 = t105;
+                    if (l7 != l21) goto L103;
+                    const u32 t106 = load8((l6 + ((l7 + l9) << 3)) - 7ull);
+                    if (t106 != (l24 & 255u)) goto L103;
+                    l4 = l14 + 1ull;
+                    const u64 t107 = ((((((((((l11 + l12) + l18) + l17) + l15) + l16) + l20) + l19) + l22) << 3) + l6) + 145ull;
+                    l5 = t107;
+                    l8 = l7;
+                    L108:;
+                    {
+                        const u32 t109 = load8(l5);
+                        const u32 t110 = load8(l4);
+                        if (t109 != t110) goto L103;
+                        l5 = l5 + 8ull;
+                        l4 = l4 + 8ull;
+                        l8 = l8 - 1ull;
+                        if ((l8 == 0) == 0) goto L108;
+                    }
+                    goto L3;
+                }
+                L103:;
+                l2 = l23 - 6u;
+                if (l2 == 0) goto L2;
+                const u64 t111 = load32((l6 + (l9 << 3)) - 12ull);
+                l5 = t111;
+                l4 = (l5 + (l9 + l21)) + 3ull;
+                l13 = l4 - 3ull;
+                const u64 t112 = load32((l6 + (l13 << 3)) + 4ull);
+                if (l7 != t112) goto L2;
+                const u32 t113 = load8((l6 + ((l4 + l7) << 3)) - 7ull);
+                if (t113 != (l24 & 255u)) goto L2;
+                l4 = l14 + 1ull;
+                const u64 t114 = (((((((((((l11 + l12) + l18) + l17) + l15) + l16) + l20) + l19) + l22) + l21) + l5) << 3) + l6;
+                l5 = t114 + 169ull;
+                L115:;
+                {
+                    const u32 t116 = load8(l5);
+                    const u32 t117 = load8(l4);
+                    if (t116 != t117) goto L2;
+                    l5 = l5 + 8ull;
+                    l4 = l4 + 8ull;
+                    l7 = l7 - 1ull;
+                    if ((l7 == 0) == 0) goto L115;
+                }
+            }
+            L3:;
+            store32(l10 + 8u, (u32)l13);
+            store32(l10 + 4u, l23 - l2);
+            l3 = 1u;
+        }
+        L2:;
+        const u64 t118 = load64(l10 + 4u);
+        l12 = t118;
+    }
+    L1:;
+    l23 = 0u;
+    const u64 t119 = l0;
+    u32 v120;
+    if ((l3 & 255u) == 1u) {
+        store64(l1 + 44ull, l12);
+        v120 = (u32)l12;
+    } else {
+        v120 = l23;
+    }
+    store32(t119 + 4u, v120);
+    store8(l0, (u8)l3);
+    e->stack_pointer = l10 + 48ull;
+}
+
+static void forms_work_Work_find_among_few(struct engine *e, u64 l0, u64 l1, u32 l2, u32 l3) {
+    u64 l4 = 0;
+    u64 l5 = 0;
+    u64 l6 = 0;
+    u64 l7 = 0;
+    u64 l8 = 0;
+    u64 l9 = 0;
+    u64 l10 = 0;
+    u64 l11 = 0;
+    u64 l12 = 0;
+    u32 l13 = 0;
+    u32 l14 = 0;
+    u32 v1;
+    {
+        {
+            if ((i64)(e->stack_pointer - e->stack) >= (i64)16ull) {
+                const u64 t4 = load64(l1);
+                l5 = t4;
+                const u32 t5 = load32(l1 + 40ull);
+                l13 = t5;
+                const u64 t6 = l1 + 44ull;
+                u64 v7;
+                {
+                    if (l2 == l3) {
+                        if (l13 == 0) goto L2;
+                        l1 = 0ull;
+                        L9:;
+                        {
+                            l7 = l5 + (l4 << 3);
+                            const u32 t10 = load32(l7 + 4ull);
+                            l3 = t10;
+                            if (l3 == 0) { v7 = (l4 << 32) - l1; goto L7; }
+                            const u64 t11 = load32(l7 + 12ull);
+                            l4 = (t11 + (l4 + (u64)l3)) + 3ull;
+                            l1 = l1 - 1ull;
+                            l13 = l13 - 1u;
+                            if (l13) goto L9;
+                        }
+                        goto L2;
+                    }
+                    if (l13 == 0) goto L2;
+                    const u32 t12 = load32(l1 + 16ull);
+                    l14 = t12;
+                    l4 = (u64)(l14 + l2);
+                    l1 = l4 << 3;
+                    l8 = (u64)(l3 + l14) - l4;
+                    const u32 t13 = load8(((l5 + l1) + (l8 << 3)) - 7ull);
+                    l14 = t13;
+                    l9 = l5 + 1ull;
+                    l10 = l9 + l1;
+                    l6 = 3ull;
+                    l3 = l13;
+                    {
+                        L15:;
+                        {
+                            {
+                                l11 = l6 - 3ull;
+                                const u32 t17 = load32((l5 + (l11 << 3)) + 4ull);
+                                l2 = t17;
+                                l12 = (u64)l2;
+                                if (l8 != l12) goto L16;
+                                const u32 t18 = load8((l5 + ((l6 + l8) << 3)) - 7ull);
+                                if (t18 != (l14 & 255u)) goto L16;
+                                if (l2 == 0) goto L14;
+                                l4 = l9 + (l6 << 3);
+                                l1 = l10;
+                                l7 = l8;
+                                L19:;
+                                {
+                                    const u32 t20 = load8(l4);
+                                    const u32 t21 = load8(l1);
+                                    if (t20 != t21) goto L16;
+                                    l4 = l4 + 8ull;
+                                    l1 = l1 + 8ull;
+                                    l7 = l7 - 1ull;
+                                    if ((l7 == 0) == 0) goto L19;
+                                }
+                                goto L14;
+                            }
+                            L16:;
+                            const u64 t22 = load32((l5 + (l6 << 3)) - 12ull);
+                            l6 = (t22 + (l6 + l12)) + 3ull;
+                            l3 = l3 - 1u;
+                            if (l3) goto L15;
+                        }
+                        l13 = 0u;
+                        v1 = 0u; goto L1;
+                    }
+                    L14:;
+                    v7 = (u64)(l13 - l3) | (l11 << 32);
+                }
+                L7:;
+                l4 = v7;
+                store64(t6, l4);
+                l13 = (u32)l4;
+                v1 = 1u; goto L1;
+            }
+            trap();
+        }
+        L2:;
+        l13 = 0u;
+        v1 = 0u;
+    }
+    L1:;
+    l3 = v1;
+    store32(l0 + 4u, l13);
+    store8(l0, (u8)l3);
+}
+
+static void forms_work_Work_stored(struct engine *e, u64 l0, u64 l1, u32 l2) {
+    u32 l3 = 0;
+    u32 l4 = 0;
+    u32 l5 = 0;
+    u32 l6 = 0;
+    u32 l7 = 0;
+    u32 l8 = 0;
+    u64 l9 = 0;
+    u64 l10 = 0;
+    if ((i64)(e->stack_pointer - e->stack) >= (i64)16ull) {
+        const u32 t2 = load32(l1 + 48ull);
+        l3 = t2;
+        {
+            const u32 t4 = load32(l1 + 44ull);
+            l4 = t4;
+            if (l2 == l4) goto L3;
+            if (l2 > l4) {
+                l6 = l2 - l4;
+                const u32 t6 = load32(l1 + 16ull);
+                l5 = t6;
+                L7:;
+                {
+                    l2 = 3u;
+                    if (l3 < l5) {
+                        const u64 t9 = load64(l1);
+                        l9 = t9 + ((u64)l3 << 3);
+                        const u32 t10 = load32(l9 + 4ull);
+                        const u32 t11 = load8(l9);
+                        l2 = (t11 == 4u) ? (t10 + 3u) : 3u;
+                    }
+                    l4 = 0u;
+                    l7 = l3 + 1u;
+                    u32 v12;
+                    if (l5 > l7) {
+                        const u64 t13 = load64(l1);
+                        l9 = t13 + ((u64)l7 << 3);
+                        const u32 t14 = load32(l9 + 4ull);
+                        const u32 t15 = load8(l9);
+                        v12 = (t15 == 4u) ? t14 : 0u;
+                    } else {
+                        v12 = l4;
+                    }
+                    l3 = v12 + (l2 + l3);
+                    l6 = l6 - 1u;
+                    if (l6) goto L7;
+                }
+                goto L3;
+            }
+            if (l2 == 0) {
+                l3 = 0u;
+                goto L3;
+            }
+            const u32 t17 = load32(l1 + 16ull);
+            l5 = t17;
+            l3 = 0u;
+            L18:;
+            {
+                l4 = 3u;
+                if (l3 < l5) {
+                    const u64 t20 = load64(l1);
+                    l9 = t20 + ((u64)l3 << 3);
+                    const u32 t21 = load32(l9 + 4ull);
+                    const u32 t22 = load8(l9);
+                    l4 = (t22 == 4u) ? (t21 + 3u) : 3u;
+                }
+                l7 = l3 + 1u;
+                u32 v23;
+                if (l5 > l7) {
+                    const u64 t24 = load64(l1);
+                    l9 = t24 + ((u64)l7 << 3);
+                    const u32 t25 = load32(l9 + 4ull);
+                    const u32 t26 = load8(l9);
+                    v23 = (t26 == 4u) ? t25 : 0u;
+                } else {
+                    v23 = l6;
+                }
+                l3 = v23 + (l3 + l4);
+                l2 = l2 - 1u;
+                if (l2) goto L18;
+            }
+        }
+        L3:;
+        const u64 t27 = load64(l1);
+        l9 = t27;
+        l1 = l9 + ((u64)l3 << 3);
+        const u32 t28 = load32(l1 + 12ull);
+        l2 = t28;
+        const u32 t29 = load8(l1 + 8u);
+        l4 = t29;
+        const u32 t30 = load32(l1 + 4ull);
+        l6 = t30;
+        const u32 t31 = load8(l1);
+        l5 = t31;
+        const u32 t32 = load32(l1 + 20ull);
+        l7 = t32;
+        const u32 t33 = load8(l1 + 16u);
+        l8 = t33;
+        store32(l0 + 36u, 0u);
+        l3 = l3 + 3u;
+        l10 = (u64)l3;
+        store64(l0, l9 + (l10 << 3));
+        store32(l0 + 32u, (l8 == 4u) ? l7 : 0u);
+        l3 = ((l5 == 4u) ? l6 : 0u) + l3;
+        l1 = (u64)l3;
+        store64(l0 + 8u, l1 - l10);
+        store64(l0 + 24u, (u64)((((l4 == 4u) ? l2 : 0u) + l3)) - l1);
+        store64(l0 + 16u, l9 + (l1 << 3));
+        return;
+    }
+    trap();
+}
+
+static u32 core_display_show_form(struct engine *e, u64 l0, u64 l1) {
+    u64 l2 = 0;
+    u64 l3 = 0;
+    u64 l4 = 0;
+    u64 l5 = 0;
+    u32 l6 = 0;
+    l4 = e->stack_pointer;
+    if ((i64)(l4 - e->stack) >= (i64)16ull) {
+        const u32 t2 = load32(l0 + 32ull);
+        l6 = t2;
+        const u32 t3 = core_display_show_items(e, l0, 0u, l6, l1);
+        if ((t3 & 255u) == 0) {
+            {
+                l3 = l1 + 16ull;
+                const u64 t6 = load64(l3);
+                l2 = t6;
+                l5 = l1 + 8ull;
+                const u64 t7 = load64(l5);
+                if (l2 >= t7) goto L5;
+                const u64 t8 = load64(l1);
+                store8(t8 + l2, (u8)60u);
+                const u64 t9 = load64(l3);
+                l2 = t9 + 1ull;
+                store64(l3, l2);
+                const u64 t10 = load64(l5);
+                if (l2 >= t10) goto L5;
+                const u64 t11 = load64(l1);
+                store8(t11 + l2, (u8)94u);
+                l3 = l1 + 16ull;
+                const u64 t12 = load64(l3);
+                l2 = t12 + 1ull;
+                store64(l3, l2);
+                const u64 t13 = load64(l1 + 8ull);
+                if (l2 >= t13) goto L5;
+                const u64 t14 = load64(l1);
+                store8(t14 + l2, (u8)62u);
+                const u64 t15 = load64(l3);
+                store64(l3, t15 + 1ull);
+                const u32 t16 = load32(l0 + 24ull);
+                const u32 t17 = core_display_show_items(e, l0, l6, t16, l1);
+                l6 = t17;
+                e->stack_pointer = l4;
+                return l6 & 255u;
+            }
+            L5:;
+            l1 = l1 + 24ull;
+            const u64 t18 = load64(l1);
+            store64(l1, t18 + 1ull);
+        }
+        e->stack_pointer = l4;
+        return 1u;
     }
     trap();
     return 0;
@@ -6989,610 +7761,6 @@ static void functions_form_calls_segment_string(struct engine *e, u64 l0, u64 l1
     e->stack_pointer = l20 + 48ull;
 }
 
-static void forms_work_Work_find_among_more(struct engine *e, u64 l0, u64 l1, u32 l2, u32 l3) {
-    u64 l4 = 0;
-    u64 l5 = 0;
-    u64 l6 = 0;
-    u64 l7 = 0;
-    u64 l8 = 0;
-    u64 l9 = 0;
-    u64 l10 = 0;
-    u64 l11 = 0;
-    u64 l12 = 0;
-    u64 l13 = 0;
-    u64 l14 = 0;
-    u64 l15 = 0;
-    u64 l16 = 0;
-    u64 l17 = 0;
-    u64 l18 = 0;
-    u64 l19 = 0;
-    u64 l20 = 0;
-    u64 l21 = 0;
-    u64 l22 = 0;
-    u32 l23 = 0;
-    u32 l24 = 0;
-    u32 l25 = 0;
-    u32 l26 = 0;
-    l4 = e->stack_pointer - 48ull;
-    e->stack_pointer = l4;
-    {
-        {
-            {
-                {
-                    {
-                        {
-                            l10 = l4;
-                            if ((i64)(l10 - e->stack) < (i64)16ull) goto L6;
-                            l11 = l1 + 52ull;
-                            {
-                                const u32 t8 = load32(l1 + 40ull);
-                                l23 = t8;
-                                if (l23 < 12u) goto L7;
-                                const u32 t9 = load32(l11);
-                                if (l23 >= (t9 >> 3)) goto L7;
-                                store_index_index_worthwhile(e, l1, l23, l11);
-                                const u32 t10 = load32(l1 + 40ull);
-                                l23 = t10;
-                            }
-                            L7:;
-                            const u32 t11 = load32(l1 + 48ull);
-                            l26 = t11;
-                            const u32 t12 = load32(l1 + 44ull);
-                            l25 = t12;
-                            store32(l10 + 8u, 0u);
-                            store64(l10, 0ull);
-                            const u32 t13 = load32(l1 + 16ull);
-                            l24 = t13;
-                            l15 = (u64)(l24 + l3);
-                            l4 = (u64)(l2 + l24);
-                            l7 = l15 - l4;
-                            const u64 t14 = load64(l1);
-                            l6 = t14;
-                            l16 = l4 << 3;
-                            l14 = l6 + l16;
-                            if (l23 >= 12u) {
-                                store64(l10 + 32u, 0ull);
-                                store32(l10 + 40u, 0u);
-                                store64(l10 + 16u, 0ull);
-                                store32(l10 + 24u, 0u);
-                                const u32 t16 = load32(l1 + 28ull);
-                                l3 = t16;
-                                const u64 t17 = load64(l1 + 8ull);
-                                l5 = t17;
-                                if (l3 != (u32)l5) {
-                                    l19 = (u64)l3;
-                                    l20 = (l5 - l19) >> 1;
-                                    l17 = l20 & 9223372036854775806ull;
-                                    if ((l7 == 0) == 0) {
-                                        l8 = l7 & 3ull;
-                                        l5 = 0ull;
-                                        l13 = l7;
-                                        {
-                                            if ((l4 - l15) <= 18446744073709551612ull) {
-                                                l9 = l7 & 18446744073709551612ull;
-                                                l4 = ((l15 << 3) + l6) - 31ull;
-                                                L22:;
-                                                {
-                                                    const u64 t23 = load8(l4);
-                                                    const u64 t24 = load8(l4 + 8ull);
-                                                    const u64 t25 = load8(l4 + 16ull);
-                                                    const u64 t26 = load8(l4 + 24ull);
-                                                    const u64 t27 = (t24 + ((t25 + ((l5 + t26) * 11400714819323198485ull)) * 11400714819323198485ull)) * 11400714819323198485ull;
-                                                    l5 = (t23 + t27) * 11400714819323198485ull;
-                                                    l4 = l4 - 32ull;
-                                                    l13 = l13 - 4ull;
-                                                    l9 = l9 - 4ull;
-                                                    if (l9 != 0ull) goto L22;
-                                                }
-                                                if (l8 == 0) goto L20;
-                                            }
-                                            l4 = (((l13 << 3) + l16) + l6) - 7ull;
-                                            L28:;
-                                            {
-                                                const u64 t29 = load8(l4);
-                                                l5 = (l5 + t29) * 11400714819323198485ull;
-                                                l4 = l4 - 8ull;
-                                                l8 = l8 - 1ull;
-                                                if (l8 != 0ull) goto L28;
-                                            }
-                                        }
-                                        L20:;
-                                        l18 = l5 >> 32;
-                                    }
-                                    if (l17 == 0) {
-                                        l3 = 0u;
-                                        goto L1;
-                                    }
-                                    l9 = l6 + (l19 << 3);
-                                    l21 = l6 + 25ull;
-                                    l15 = l20 & 2305843009213693950ull;
-                                    l16 = l17 + 2305843009213693951ull;
-                                    l20 = l14 + 1ull;
-                                    l8 = 0ull;
-                                    L31:;
-                                    {
-                                        if (l8 >= 6ull) {
-                                            const u32 t33 = load32(l11);
-                                            l23 = t33 + 1u;
-                                            store32(l11, l23 ? l23 : 4294967295u);
-                                        }
-                                        {
-                                            l4 = l9 + (((l8 + l18) & l16) << 3);
-                                            const u32 t35 = load8(l4);
-                                            l3 = t35;
-                                            if ((l3 - 1u) < 3u) goto L34;
-                                            {
-                                                switch (l3 - 1u) {
-                                                case 0: goto L6;
-                                                case 1: goto L6;
-                                                case 2: goto L6;
-                                                case 3: goto L36;
-                                                default: goto L1;
-                                                }
-                                            }
-                                            L36:;
-                                            const u64 t37 = load32(l4 + 4ull);
-                                            l14 = t37;
-                                            l4 = l9 + ((l15 + l14) << 3);
-                                            const u64 t38 = load32(l4 + 4ull);
-                                            const u32 t39 = load8(l4);
-                                            l19 = (t39 == 4u) ? t38 : 0ull;
-                                            l4 = l19 << 3;
-                                            const u32 t40 = load32((l6 + l4) + 4ull);
-                                            l23 = t40;
-                                            if (l7 != (u64)l23) goto L34;
-                                            if (l23 == 0) goto L5;
-                                            l4 = l4 + l21;
-                                            l5 = l20;
-                                            l13 = l7;
-                                            L41:;
-                                            {
-                                                const u32 t42 = load8(l4);
-                                                const u32 t43 = load8(l5);
-                                                if (t42 != t43) goto L34;
-                                                l4 = l4 + 8ull;
-                                                l5 = l5 + 8ull;
-                                                l13 = l13 - 1ull;
-                                                if ((l13 == 0) == 0) goto L41;
-                                            }
-                                            goto L5;
-                                        }
-                                        L34:;
-                                        l8 = l8 + 1ull;
-                                        if (l8 != l17) goto L31;
-                                    }
-                                    l3 = 0u;
-                                    goto L1;
-                                }
-                                l5 = 0ull;
-                                if (l7 == 0) {
-                                    l2 = 0u;
-                                    l4 = 0ull;
-                                    u32 v45;
-                                    {
-                                        {
-                                            L47:;
-                                            {
-                                                l8 = l6 + (l4 << 3);
-                                                const u32 t48 = load32(l8 + 4ull);
-                                                l3 = t48;
-                                                if (l3 == 0) goto L46;
-                                                const u64 t49 = load32(l8 + 12ull);
-                                                l4 = (t49 + (l4 + (u64)l3)) + 3ull;
-                                                l5 = l5 - 1ull;
-                                                l2 = l2 + 1u;
-                                                if (l23 != l2) goto L47;
-                                            }
-                                            v45 = 0u; goto L45;
-                                        }
-                                        L46:;
-                                        l12 = (l4 << 32) - l5;
-                                        l23 = l2;
-                                        v45 = 1u;
-                                    }
-                                    L45:;
-                                    l3 = v45;
-                                    if (l23 < 9u) goto L1;
-                                    l23 = l23 - 8u;
-                                    const u32 t50 = load32(l11);
-                                    l2 = l23 + t50;
-                                    store32(l11, (l2 < l23) ? 4294967295u : l2);
-                                    goto L1;
-                                }
-                                store_store_find_some(e, l10 + 16ull, l6, l25, l26, l23, l14, l7);
-                                const u32 t51 = load8(l10 + 16u);
-                                if (t51 == 1u) {
-                                    const u64 t53 = load64(l10 + 20u);
-                                    l12 = t53;
-                                    l23 = (u32)l12 - l25;
-                                    if (l23 < 9u) {
-                                        l3 = 1u;
-                                        goto L1;
-                                    }
-                                    l23 = l23 - 8u;
-                                    const u32 t55 = load32(l11);
-                                    l3 = l23 + t55;
-                                    store32(l11, (l3 < l23) ? 4294967295u : l3);
-                                    l3 = 1u;
-                                    goto L1;
-                                }
-                                store_store_find_some(e, l10 + 32ull, l6, 0u, 0u, l25, l14, l7);
-                                const u32 t56 = load32(l10 + 36u);
-                                const u32 t57 = load8(l10 + 32u);
-                                l3 = t57;
-                                l2 = (l3 == 1u) ? t56 : l25;
-                                l23 = l2 + (l23 - l25);
-                                l23 = (l2 > l23) ? 4294967295u : l23;
-                                if (l23 >= 9u) {
-                                    l23 = l23 - 8u;
-                                    const u32 t59 = load32(l11);
-                                    l2 = l23 + t59;
-                                    store32(l11, (l2 < l23) ? 4294967295u : l2);
-                                }
-                                const u64 t60 = load64(l10 + 36u);
-                                l12 = t60;
-                                goto L1;
-                            }
-                            if (l7 == 0) {
-                                if (l23) {
-                                    l3 = 0u;
-                                    l4 = 0ull;
-                                    L63:;
-                                    {
-                                        l5 = l6 + (l4 << 3);
-                                        const u32 t64 = load32(l5 + 4ull);
-                                        l2 = t64;
-                                        if (l2 == 0) {
-                                            store32(l10 + 8u, (u32)l4);
-                                            store32(l10 + 4u, l3);
-                                            l3 = 1u;
-                                            goto L2;
-                                        }
-                                        const u64 t66 = load32(l5 + 12ull);
-                                        l4 = (t66 + (l4 + (u64)l2)) + 3ull;
-                                        l3 = l3 + 1u;
-                                        if (l23 != l3) goto L63;
-                                    }
-                                }
-                                l3 = 0u;
-                                goto L2;
-                            }
-                            if (l23 <= 7u) {
-                                l3 = 0u;
-                                if (l23 == 0) goto L2;
-                                const u32 t68 = load8((l14 + (l7 << 3)) - 7ull);
-                                l24 = t68;
-                                {
-                                    const u64 t70 = load32(l6 + 4ull);
-                                    l8 = t70;
-                                    if (l7 != l8) goto L69;
-                                    const u32 t71 = load8((l6 + (l7 << 3)) + 17ull);
-                                    if (t71 != (l24 & 255u)) goto L69;
-                                    l4 = l6 + 25ull;
-                                    l5 = l7;
-                                    L72:;
-                                    {
-                                        const u32 t73 = load8(l4);
-                                        const u32 t74 = load8((l4 + l16) - 24ull);
-                                        if (t73 != t74) goto L69;
-                                        l4 = l4 + 8ull;
-                                        l5 = l5 - 1ull;
-                                        if ((l5 == 0) == 0) goto L72;
-                                    }
-                                    l2 = l23;
-                                    goto L3;
-                                }
-                                L69:;
-                                l2 = l23 - 1u;
-                                if (l2 == 0) goto L2;
-                                const u64 t75 = load32(l6 + 12ull);
-                                l11 = l8 + t75;
-                                l9 = l11 + 6ull;
-                                l13 = l9 - 3ull;
-                                const u64 t76 = load32((l6 + (l13 << 3)) + 4ull);
-                                l12 = t76;
-                                if (l7 != l12) goto L4;
-                                const u32 t77 = load8((l6 + ((l7 + l9) << 3)) - 7ull);
-                                if (t77 != (l24 & 255u)) goto L4;
-                                l4 = l14 + 1ull;
-                                l5 = ((l11 << 3) + l6) + 49ull;
-                                l8 = l7;
-                                L78:;
-                                {
-                                    const u32 t79 = load8(l5);
-                                    const u32 t80 = load8(l4);
-                                    if (t79 != t80) goto L4;
-                                    l5 = l5 + 8ull;
-                                    l4 = l4 + 8ull;
-                                    l8 = l8 - 1ull;
-                                    if ((l8 == 0) == 0) goto L78;
-                                }
-                                goto L3;
-                            }
-                            store_store_find_round(e, l10, l6, l25, l26, l23, l14, l7);
-                            const u32 t81 = load8(l10);
-                            l3 = t81;
-                            goto L2;
-                        }
-                        L6:;
-                        trap();
-                    }
-                    L5:;
-                    l12 = (l19 << 32) | l14;
-                    l3 = 1u;
-                    goto L1;
-                }
-                L4:;
-                l2 = l23 - 2u;
-                if (l2 == 0) goto L2;
-                {
-                    const u64 t83 = load32((l6 + (l9 << 3)) - 12ull);
-                    l18 = t83;
-                    l9 = (l18 + (l9 + l12)) + 3ull;
-                    l13 = l9 - 3ull;
-                    const u64 t84 = load32((l6 + (l13 << 3)) + 4ull);
-                    l17 = t84;
-                    if (l7 != l17) goto L82;
-                    const u32 t85 = load8((l6 + ((l7 + l9) << 3)) - 7ull);
-                    if (t85 != (l24 & 255u)) goto L82;
-                    l4 = l14 + 1ull;
-                    l5 = ((((l11 + l12) + l18) << 3) + l6) + 73ull;
-                    l8 = l7;
-                    L86:;
-                    {
-                        const u32 t87 = load8(l5);
-                        const u32 t88 = load8(l4);
-                        if (t87 != t88) goto L82;
-                        l5 = l5 + 8ull;
-                        l4 = l4 + 8ull;
-                        l8 = l8 - 1ull;
-                        if ((l8 == 0) == 0) goto L86;
-                    }
-                    goto L3;
-                }
-                L82:;
-                l2 = l23 - 3u;
-                if (l2 == 0) goto L2;
-                {
-                    const u64 t90 = load32((l6 + (l9 << 3)) - 12ull);
-                    l15 = t90;
-                    l9 = (l15 + (l9 + l17)) + 3ull;
-                    l13 = l9 - 3ull;
-                    const u64 t91 = load32((l6 + (l13 << 3)) + 4ull);
-                    l16 = t91;
-                    if (l7 != l16) goto L89;
-                    const u32 t92 = load8((l6 + ((l7 + l9) << 3)) - 7ull);
-                    if (t92 != (l24 & 255u)) goto L89;
-                    l4 = l14 + 1ull;
-                    l5 = ((((((l11 + l12) + l18) + l17) + l15) << 3) + l6) + 97ull;
-                    l8 = l7;
-                    L93:;
-                    {
-                        const u32 t94 = load8(l5);
-                        const u32 t95 = load8(l4);
-                        if (t94 != t95) goto L89;
-                        l5 = l5 + 8ull;
-                        l4 = l4 + 8ull;
-                        l8 = l8 - 1ull;
-                        if ((l8 == 0) == 0) goto L93;
-                    }
-                    goto L3;
-                }
-                L89:;
-                l2 = l23 - 4u;
-                if (l2 == 0) goto L2;
-                {
-                    const u64 t97 = load32((l6 + (l9 << 3)) - 12ull);
-                    l20 = t97;
-                    l9 = (l20 + (l9 + l16)) + 3ull;
-                    l13 = l9 - 3ull;
-                    const u64 t98 = load32((l6 + (l13 << 3)) + 4ull);
-                    l19 = t98;
-                    if (l7 != l19) goto L96;
-                    const u32 t99 = load8((l6 + ((l7 + l9) << 3)) - 7ull);
-                    if (t99 != (l24 & 255u)) goto L96;
-                    l4 = l14 + 1ull;
-                    l5 = ((((((((l11 + l12) + l18) + l17) + l15) + l16) + l20) << 3) + l6) + 121ull;
-                    l8 = l7;
-                    L100:;
-                    {
-                        const u32 t101 = load8(l5);
-                        const u32 t102 = load8(l4);
-                        if (t101 != t102) goto L96;
-                        l5 = l5 + 8ull;
-                        l4 = l4 + 8ull;
-                        l8 = l8 - 1ull;
-                        if ((l8 == 0) == 0) goto L100;
-                    }
-                    goto L3;
-                }
-                L96:;
-                l2 = l23 - 5u;
-                if (l2 == 0) goto L2;
-                {
-                    const u64 t104 = load32((l6 + (l9 << 3)) - 12ull);
-                    l22 = t104;
-                    l9 = (l22 + (l9 + l19)) + 3ull;
-                    l13 = l9 - 3ull;
-                    const u64 t105 = load32((l6 + (l13 << 3)) + 4ull);
-                    l21 = t105;
-                    if (l7 != l21) goto L103;
-                    const u32 t106 = load8((l6 + ((l7 + l9) << 3)) - 7ull);
-                    if (t106 != (l24 & 255u)) goto L103;
-                    l4 = l14 + 1ull;
-                    const u64 t107 = ((((((((((l11 + l12) + l18) + l17) + l15) + l16) + l20) + l19) + l22) << 3) + l6) + 145ull;
-                    l5 = t107;
-                    l8 = l7;
-                    L108:;
-                    {
-                        const u32 t109 = load8(l5);
-                        const u32 t110 = load8(l4);
-                        if (t109 != t110) goto L103;
-                        l5 = l5 + 8ull;
-                        l4 = l4 + 8ull;
-                        l8 = l8 - 1ull;
-                        if ((l8 == 0) == 0) goto L108;
-                    }
-                    goto L3;
-                }
-                L103:;
-                l2 = l23 - 6u;
-                if (l2 == 0) goto L2;
-                const u64 t111 = load32((l6 + (l9 << 3)) - 12ull);
-                l5 = t111;
-                l4 = (l5 + (l9 + l21)) + 3ull;
-                l13 = l4 - 3ull;
-                const u64 t112 = load32((l6 + (l13 << 3)) + 4ull);
-                if (l7 != t112) goto L2;
-                const u32 t113 = load8((l6 + ((l4 + l7) << 3)) - 7ull);
-                if (t113 != (l24 & 255u)) goto L2;
-                l4 = l14 + 1ull;
-                const u64 t114 = (((((((((((l11 + l12) + l18) + l17) + l15) + l16) + l20) + l19) + l22) + l21) + l5) << 3) + l6;
-                l5 = t114 + 169ull;
-                L115:;
-                {
-                    const u32 t116 = load8(l5);
-                    const u32 t117 = load8(l4);
-                    if (t116 != t117) goto L2;
-                    l5 = l5 + 8ull;
-                    l4 = l4 + 8ull;
-                    l7 = l7 - 1ull;
-                    if ((l7 == 0) == 0) goto L115;
-                }
-            }
-            L3:;
-            store32(l10 + 8u, (u32)l13);
-            store32(l10 + 4u, l23 - l2);
-            l3 = 1u;
-        }
-        L2:;
-        const u64 t118 = load64(l10 + 4u);
-        l12 = t118;
-    }
-    L1:;
-    l23 = 0u;
-    const u64 t119 = l0;
-    u32 v120;
-    if ((l3 & 255u) == 1u) {
-        store64(l1 + 44ull, l12);
-        v120 = (u32)l12;
-    } else {
-        v120 = l23;
-    }
-    store32(t119 + 4u, v120);
-    store8(l0, (u8)l3);
-    e->stack_pointer = l10 + 48ull;
-}
-
-static void forms_work_Work_find_among_few(struct engine *e, u64 l0, u64 l1, u32 l2, u32 l3) {
-    u64 l4 = 0;
-    u64 l5 = 0;
-    u64 l6 = 0;
-    u64 l7 = 0;
-    u64 l8 = 0;
-    u64 l9 = 0;
-    u64 l10 = 0;
-    u64 l11 = 0;
-    u64 l12 = 0;
-    u32 l13 = 0;
-    u32 l14 = 0;
-    u32 v1;
-    {
-        {
-            if ((i64)(e->stack_pointer - e->stack) >= (i64)16ull) {
-                const u64 t4 = load64(l1);
-                l5 = t4;
-                const u32 t5 = load32(l1 + 40ull);
-                l13 = t5;
-                const u64 t6 = l1 + 44ull;
-                u64 v7;
-                {
-                    if (l2 == l3) {
-                        if (l13 == 0) goto L2;
-                        l1 = 0ull;
-                        L9:;
-                        {
-                            l7 = l5 + (l4 << 3);
-                            const u32 t10 = load32(l7 + 4ull);
-                            l3 = t10;
-                            if (l3 == 0) { v7 = (l4 << 32) - l1; goto L7; }
-                            const u64 t11 = load32(l7 + 12ull);
-                            l4 = (t11 + (l4 + (u64)l3)) + 3ull;
-                            l1 = l1 - 1ull;
-                            l13 = l13 - 1u;
-                            if (l13) goto L9;
-                        }
-                        goto L2;
-                    }
-                    if (l13 == 0) goto L2;
-                    const u32 t12 = load32(l1 + 16ull);
-                    l14 = t12;
-                    l4 = (u64)(l14 + l2);
-                    l1 = l4 << 3;
-                    l8 = (u64)(l3 + l14) - l4;
-                    const u32 t13 = load8(((l5 + l1) + (l8 << 3)) - 7ull);
-                    l14 = t13;
-                    l9 = l5 + 1ull;
-                    l10 = l9 + l1;
-                    l6 = 3ull;
-                    l3 = l13;
-                    {
-                        L15:;
-                        {
-                            {
-                                l11 = l6 - 3ull;
-                                const u32 t17 = load32((l5 + (l11 << 3)) + 4ull);
-                                l2 = t17;
-                                l12 = (u64)l2;
-                                if (l8 != l12) goto L16;
-                                const u32 t18 = load8((l5 + ((l6 + l8) << 3)) - 7ull);
-                                if (t18 != (l14 & 255u)) goto L16;
-                                if (l2 == 0) goto L14;
-                                l4 = l9 + (l6 << 3);
-                                l1 = l10;
-                                l7 = l8;
-                                L19:;
-                                {
-                                    const u32 t20 = load8(l4);
-                                    const u32 t21 = load8(l1);
-                                    if (t20 != t21) goto L16;
-                                    l4 = l4 + 8ull;
-                                    l1 = l1 + 8ull;
-                                    l7 = l7 - 1ull;
-                                    if ((l7 == 0) == 0) goto L19;
-                                }
-                                goto L14;
-                            }
-                            L16:;
-                            const u64 t22 = load32((l5 + (l6 << 3)) - 12ull);
-                            l6 = (t22 + (l6 + l12)) + 3ull;
-                            l3 = l3 - 1u;
-                            if (l3) goto L15;
-                        }
-                        l13 = 0u;
-                        v1 = 0u; goto L1;
-                    }
-                    L14:;
-                    v7 = (u64)(l13 - l3) | (l11 << 32);
-                }
-                L7:;
-                l4 = v7;
-                store64(t6, l4);
-                l13 = (u32)l4;
-                v1 = 1u; goto L1;
-            }
-            trap();
-        }
-        L2:;
-        l13 = 0u;
-        v1 = 0u;
-    }
-    L1:;
-    l3 = v1;
-    store32(l0 + 4u, l13);
-    store8(l0, (u8)l3);
-}
-
 static void functions_form_calls_delete_definition(struct engine *e, u64 l0, u64 l1, u64 l2) {
     u64 l3 = 0;
     u64 l4 = 0;
@@ -11564,174 +11732,6 @@ static u32 forms_work_Work_fill_body(struct engine *e, u64 l0, u32 l1, u32 l2, u
     L1:;
     e->stack_pointer = l22 + 48ull;
     return l1;
-}
-
-static void forms_work_Work_stored(struct engine *e, u64 l0, u64 l1, u32 l2) {
-    u32 l3 = 0;
-    u32 l4 = 0;
-    u32 l5 = 0;
-    u32 l6 = 0;
-    u32 l7 = 0;
-    u32 l8 = 0;
-    u64 l9 = 0;
-    u64 l10 = 0;
-    if ((i64)(e->stack_pointer - e->stack) >= (i64)16ull) {
-        const u32 t2 = load32(l1 + 48ull);
-        l3 = t2;
-        {
-            const u32 t4 = load32(l1 + 44ull);
-            l4 = t4;
-            if (l2 == l4) goto L3;
-            if (l2 > l4) {
-                l6 = l2 - l4;
-                const u32 t6 = load32(l1 + 16ull);
-                l5 = t6;
-                L7:;
-                {
-                    l2 = 3u;
-                    if (l3 < l5) {
-                        const u64 t9 = load64(l1);
-                        l9 = t9 + ((u64)l3 << 3);
-                        const u32 t10 = load32(l9 + 4ull);
-                        const u32 t11 = load8(l9);
-                        l2 = (t11 == 4u) ? (t10 + 3u) : 3u;
-                    }
-                    l4 = 0u;
-                    l7 = l3 + 1u;
-                    u32 v12;
-                    if (l5 > l7) {
-                        const u64 t13 = load64(l1);
-                        l9 = t13 + ((u64)l7 << 3);
-                        const u32 t14 = load32(l9 + 4ull);
-                        const u32 t15 = load8(l9);
-                        v12 = (t15 == 4u) ? t14 : 0u;
-                    } else {
-                        v12 = l4;
-                    }
-                    l3 = v12 + (l2 + l3);
-                    l6 = l6 - 1u;
-                    if (l6) goto L7;
-                }
-                goto L3;
-            }
-            if (l2 == 0) {
-                l3 = 0u;
-                goto L3;
-            }
-            const u32 t17 = load32(l1 + 16ull);
-            l5 = t17;
-            l3 = 0u;
-            L18:;
-            {
-                l4 = 3u;
-                if (l3 < l5) {
-                    const u64 t20 = load64(l1);
-                    l9 = t20 + ((u64)l3 << 3);
-                    const u32 t21 = load32(l9 + 4ull);
-                    const u32 t22 = load8(l9);
-                    l4 = (t22 == 4u) ? (t21 + 3u) : 3u;
-                }
-                l7 = l3 + 1u;
-                u32 v23;
-                if (l5 > l7) {
-                    const u64 t24 = load64(l1);
-                    l9 = t24 + ((u64)l7 << 3);
-                    const u32 t25 = load32(l9 + 4ull);
-                    const u32 t26 = load8(l9);
-                    v23 = (t26 == 4u) ? t25 : 0u;
-                } else {
-                    v23 = l6;
-                }
-                l3 = v23 + (l3 + l4);
-                l2 = l2 - 1u;
-                if (l2) goto L18;
-            }
-        }
-        L3:;
-        const u64 t27 = load64(l1);
-        l9 = t27;
-        l1 = l9 + ((u64)l3 << 3);
-        const u32 t28 = load32(l1 + 12ull);
-        l2 = t28;
-        const u32 t29 = load8(l1 + 8u);
-        l4 = t29;
-        const u32 t30 = load32(l1 + 4ull);
-        l6 = t30;
-        const u32 t31 = load8(l1);
-        l5 = t31;
-        const u32 t32 = load32(l1 + 20ull);
-        l7 = t32;
-        const u32 t33 = load8(l1 + 16u);
-        l8 = t33;
-        store32(l0 + 36u, 0u);
-        l3 = l3 + 3u;
-        l10 = (u64)l3;
-        store64(l0, l9 + (l10 << 3));
-        store32(l0 + 32u, (l8 == 4u) ? l7 : 0u);
-        l3 = ((l5 == 4u) ? l6 : 0u) + l3;
-        l1 = (u64)l3;
-        store64(l0 + 8u, l1 - l10);
-        store64(l0 + 24u, (u64)((((l4 == 4u) ? l2 : 0u) + l3)) - l1);
-        store64(l0 + 16u, l9 + (l1 << 3));
-        return;
-    }
-    trap();
-}
-
-static u32 core_display_show_form(struct engine *e, u64 l0, u64 l1) {
-    u64 l2 = 0;
-    u64 l3 = 0;
-    u64 l4 = 0;
-    u64 l5 = 0;
-    u32 l6 = 0;
-    l4 = e->stack_pointer;
-    if ((i64)(l4 - e->stack) >= (i64)16ull) {
-        const u32 t2 = load32(l0 + 32ull);
-        l6 = t2;
-        const u32 t3 = core_display_show_items(e, l0, 0u, l6, l1);
-        if ((t3 & 255u) == 0) {
-            {
-                l3 = l1 + 16ull;
-                const u64 t6 = load64(l3);
-                l2 = t6;
-                l5 = l1 + 8ull;
-                const u64 t7 = load64(l5);
-                if (l2 >= t7) goto L5;
-                const u64 t8 = load64(l1);
-                store8(t8 + l2, (u8)60u);
-                const u64 t9 = load64(l3);
-                l2 = t9 + 1ull;
-                store64(l3, l2);
-                const u64 t10 = load64(l5);
-                if (l2 >= t10) goto L5;
-                const u64 t11 = load64(l1);
-                store8(t11 + l2, (u8)94u);
-                l3 = l1 + 16ull;
-                const u64 t12 = load64(l3);
-                l2 = t12 + 1ull;
-                store64(l3, l2);
-                const u64 t13 = load64(l1 + 8ull);
-                if (l2 >= t13) goto L5;
-                const u64 t14 = load64(l1);
-                store8(t14 + l2, (u8)62u);
-                const u64 t15 = load64(l3);
-                store64(l3, t15 + 1ull);
-                const u32 t16 = load32(l0 + 24ull);
-                const u32 t17 = core_display_show_items(e, l0, l6, t16, l1);
-                l6 = t17;
-                e->stack_pointer = l4;
-                return l6 & 255u;
-            }
-            L5:;
-            l1 = l1 + 24ull;
-            const u64 t18 = load64(l1);
-            store64(l1, t18 + 1ull);
-        }
-        e->stack_pointer = l4;
-        return 1u;
-    }
-    trap();
-    return 0;
 }
 
 static void core_delivery_deliver(struct engine *e, u64 l0, u32 l1, u32 l2) {
@@ -17594,7 +17594,7 @@ static void engine_run(struct engine *e, u64 l0, u64 l1, u64 l2, u64 l3, u64 l4,
     u64 l30 = 0;
     u64 l31 = 0;
     u64 l32 = 0;
-    u32 l33 = 0;
+    u64 l33 = 0;
     u32 l34 = 0;
     u32 l35 = 0;
     u32 l36 = 0;
@@ -17611,6 +17611,7 @@ static void engine_run(struct engine *e, u64 l0, u64 l1, u64 l2, u64 l3, u64 l4,
     u32 l47 = 0;
     u32 l48 = 0;
     u32 l49 = 0;
+    u32 l50 = 0;
     l8 = e->stack_pointer - 208ull;
     e->stack_pointer = l8;
     {
@@ -17691,281 +17692,414 @@ static void engine_run(struct engine *e, u64 l0, u64 l1, u64 l2, u64 l3, u64 l4,
                 store64(l10 + 160u, 0ull);
                 store64(l10 + 168u, 0ull);
                 store64(l10 + 176u, 0ull);
-                l16 = l10 + 160ull;
-                l9 = l10 + 72ull;
-                l20 = l10 + 128ull;
-                l14 = l10 + 184ull;
+                l15 = l10 + 160ull;
+                l4 = l10 + 72ull;
+                l19 = l10 + 128ull;
+                l13 = l10 + 184ull;
                 l12 = l10 + 40ull;
-                l15 = l10 + 8ull;
-                l7 = e->stack_pointer - 192ull;
-                e->stack_pointer = l7;
+                l14 = l10 + 8ull;
+                l8 = e->stack_pointer - 208ull;
+                e->stack_pointer = l8;
                 {
-                    if ((i64)(l7 - e->stack) >= (i64)16ull) {
-                        const u64 t11 = load64(l14);
-                        l17 = t11;
-                        store64(l7 + 80u, 0ull);
-                        store64(l7 + 88u, 0ull);
-                        store32(l7 + 96u, 0u);
-                        const u32 t12 = load32(l9 + 20ull);
-                        l36 = t12;
-                        store32(l7 + 100u, l36);
-                        const u32 t13 = load32(l14 + 16u);
-                        l41 = t13;
-                        {
-                            const u64 t15 = load64(l14 + 8u);
-                            l14 = l17 - t15;
-                            if ((l14 == 0) == 0) {
-                                const u32 t17 = load32(l9 + 24ull);
-                                const u32 t18 = load32(l9 + 16ull);
-                                l39 = t17 + (l36 + t18);
-                                l18 = l7 + 141ull;
-                                l21 = l7 + 181ull;
-                                l22 = l7 + 125ull;
-                                L19:;
-                                {
-                                    core_scan_pass(e, l7 + 80ull, l9, l14, l7 + 100ull, l7 + 96ull);
-                                    u64 v20;
+                    {
+                        if ((i64)(l8 - e->stack) >= (i64)16ull) {
+                            const u64 t12 = load64(l13);
+                            l17 = t12;
+                            store64(l8 + 72u, 0ull);
+                            store64(l8 + 80u, 0ull);
+                            store32(l8 + 88u, 0u);
+                            const u32 t13 = load32(l4 + 20ull);
+                            l37 = t13;
+                            store32(l8 + 92u, l37);
+                            const u32 t14 = load32(l13 + 16u);
+                            l41 = t14;
+                            {
+                                const u64 t16 = load64(l13 + 8u);
+                                l13 = l17 - t16;
+                                if ((l13 == 0) == 0) {
+                                    const u32 t18 = load32(l4 + 24ull);
+                                    const u32 t19 = load32(l4 + 16ull);
+                                    l39 = t18 + (l37 + t19);
+                                    l20 = l8 + 109ull;
+                                    l21 = l8 + 197ull;
+                                    l22 = l8 + 157ull;
+                                    l23 = l8 + 141ull;
+                                    L20:;
                                     {
-                                        const u32 t21 = load8(l7 + 80u);
-                                        if (t21 == 0) {
-                                            l41 = (l39 > l41) ? l39 : l41;
-                                            const u64 t23 = load64(l7 + 88u);
-                                            v20 = l14 - t23; goto L20;
-                                        }
+                                        core_scan_pass(e, l8 + 72ull, l4, l13, l8 + 92ull, l8 + 88ull);
+                                        u64 v21;
                                         {
+                                            const u32 t22 = load8(l8 + 72u);
+                                            if (t22 == 0) {
+                                                l41 = (l39 > l41) ? l39 : l41;
+                                                const u64 t24 = load64(l8 + 80u);
+                                                v21 = l13 - t24; goto L21;
+                                            }
                                             {
                                                 {
                                                     {
                                                         {
-                                                            {
-                                                                const u32 t30 = load8(l7 + 84u);
-                                                                if (t30 == 0) {
-                                                                    store32(l9 + 32ull, 0u);
-                                                                    l8 = l9 + 20ull;
-                                                                    store32(l8, 0u);
-                                                                    const u32 t32 = load32(l9 + 28ull);
-                                                                    l39 = t32;
-                                                                    l2 = l9 + 24ull;
-                                                                    const u32 t33 = load32(l2);
-                                                                    l36 = t33;
-                                                                    l13 = l9 + 16ull;
-                                                                    const u32 t34 = load32(l13);
-                                                                    if ((l39 - (l36 + t34)) <= 10u) {
-                                                                        const u32 t36 = space_space_Space_find_way(e, l9, 11ull);
-                                                                        if (t36 == 0) goto L29;
-                                                                        const u32 t37 = load32(l9 + 28ull);
-                                                                        l39 = t37;
-                                                                        const u32 t38 = load32(l9 + 24ull);
-                                                                        l36 = t38;
-                                                                    }
-                                                                    const u64 t39 = load64(l9);
-                                                                    l36 = l36 + 11u;
-                                                                    space_space_write_bytes(e, t39 + ((u64)(l39 - l36) << 3), TABLES + 768u, 11ull);
-                                                                    store32(l2, l36);
-                                                                    const u32 t40 = load32(l8);
-                                                                    l39 = t40;
-                                                                    const u32 t41 = load32(l13);
-                                                                    l45 = t41;
-                                                                    l36 = l39 + (l45 + l36);
-                                                                    goto L24;
+                                                            const u32 t29 = load8(l8 + 76u);
+                                                            if (t29 == 0) {
+                                                                store32(l4 + 32ull, 0u);
+                                                                l9 = l4 + 20ull;
+                                                                store32(l9, 0u);
+                                                                const u32 t31 = load32(l4 + 28ull);
+                                                                l39 = t31;
+                                                                l2 = l4 + 24ull;
+                                                                const u32 t32 = load32(l2);
+                                                                l37 = t32;
+                                                                l16 = l4 + 16ull;
+                                                                const u32 t33 = load32(l16);
+                                                                if ((l39 - (l37 + t33)) <= 10u) {
+                                                                    const u32 t35 = space_space_Space_find_way(e, l4, 11ull);
+                                                                    if (t35 == 0) goto L28;
+                                                                    const u32 t36 = load32(l4 + 28ull);
+                                                                    l39 = t36;
+                                                                    const u32 t37 = load32(l4 + 24ull);
+                                                                    l37 = t37;
                                                                 }
-                                                                const u64 t42 = load64(l7 + 88u);
-                                                                l13 = t42;
-                                                                l8 = l9 + 24ull;
-                                                                const u32 t43 = load32(l8);
-                                                                l45 = t43 - 1u;
-                                                                store32(l8, l45);
-                                                                const u64 t44 = load64(l9);
-                                                                l8 = t44;
-                                                                const u32 t45 = load32(l9 + 16ull);
-                                                                l36 = t45;
-                                                                l39 = (u32)l13;
-                                                                const u32 t46 = load8((l8 + ((u64)(l36 + l39) << 3)) + 1ull);
-                                                                l34 = t46;
-                                                                const u32 t47 = load32(l9 + 20ull);
-                                                                l40 = t47;
-                                                                l33 = 0u;
-                                                                store8(l7 + 130u, (u8)0u);
-                                                                store16(l7 + 128u, (u16)0u);
+                                                                const u64 t38 = load64(l4);
+                                                                l37 = l37 + 11u;
+                                                                space_space_write_bytes(e, t38 + ((u64)(l39 - l37) << 3), TABLES + 768u, 11ull);
+                                                                store32(l2, l37);
+                                                                const u32 t39 = load32(l9);
+                                                                l39 = t39;
+                                                                const u32 t40 = load32(l16);
+                                                                l45 = t40;
+                                                                l37 = l39 + (l45 + l37);
+                                                                goto L25;
+                                                            }
+                                                            const u64 t41 = load64(l8 + 80u);
+                                                            l16 = t41;
+                                                            l9 = l4 + 24ull;
+                                                            const u32 t42 = load32(l9);
+                                                            l45 = t42 - 1u;
+                                                            store32(l9, l45);
+                                                            const u32 t43 = load32(l4 + 20ull);
+                                                            l40 = t43;
+                                                            const u32 t44 = load32(l4 + 16ull);
+                                                            l37 = t44;
+                                                            store64(l8 + 112u, 0ull);
+                                                            store64(l8 + 96u, 0ull);
+                                                            store64(l8 + 104u, 0ull);
+                                                            const u64 t45 = load64(l4);
+                                                            l9 = t45;
+                                                            l39 = (u32)l16;
+                                                            const u32 t46 = load8((l9 + ((u64)(l37 + l39) << 3)) + 1ull);
+                                                            l34 = t46;
+                                                            store8(l8 + 146u, (u8)0u);
+                                                            store16(l8 + 144u, (u16)0u);
+                                                            {
                                                                 {
+                                                                    u32 v49;
                                                                     {
-                                                                        l44 = l36 + l40;
-                                                                        l46 = l39 + 1u;
-                                                                        l2 = (u64)(l36 + l46);
-                                                                        l3 = (u64)l44 - l2;
-                                                                        if (l3 < 2ull) goto L49;
-                                                                        l2 = l8 + (l2 << 3);
-                                                                        if (l3 != 2ull) {
-                                                                            const u32 t51 = load8(l2 + 16ull);
-                                                                            if (t51 != 2u) goto L49;
-                                                                        }
-                                                                        functions_function_function_of(e, l7 + 128ull, l2, l2 + 8ull);
-                                                                        const u32 t52 = load8(l7 + 128u);
-                                                                        if (t52 != 1u) goto L49;
-                                                                        l35 = (u32)(l13 >> 32);
-                                                                        l38 = l34 == 0;
-                                                                        l42 = l39 + 4u;
                                                                         {
                                                                             {
                                                                                 {
                                                                                     {
                                                                                         {
-                                                                                            const u32 t58 = load8(l7 + 129u);
-                                                                                            l34 = t58;
-                                                                                            switch (l34 - 1u) {
-                                                                                            case 0: goto L48;
-                                                                                            case 1: goto L56;
-                                                                                            case 2: goto L54;
-                                                                                            case 3: goto L56;
-                                                                                            case 4: goto L56;
-                                                                                            case 5: goto L56;
-                                                                                            case 6: goto L56;
-                                                                                            case 7: goto L56;
-                                                                                            case 8: goto L56;
-                                                                                            case 9: goto L55;
-                                                                                            case 10: goto L56;
-                                                                                            case 11: goto L56;
-                                                                                            case 12: goto L56;
-                                                                                            case 13: goto L56;
-                                                                                            case 14: goto L56;
-                                                                                            case 15: goto L56;
-                                                                                            case 16: goto L56;
-                                                                                            case 17: goto L56;
-                                                                                            case 18: goto L56;
-                                                                                            case 19: goto L56;
-                                                                                            case 20: goto L56;
-                                                                                            case 21: goto L56;
-                                                                                            case 22: goto L56;
-                                                                                            case 23: goto L56;
-                                                                                            default: goto L57;
-                                                                                            }
-                                                                                        }
-                                                                                        L57:;
-                                                                                        const u32 t59 = load8(l20);
-                                                                                        l44 = t59;
-                                                                                        devices_slice_source_SliceSourceSource_take_held(e, l12, l44, l9);
-                                                                                        {
-                                                                                            const u32 t61 = load8(l12 + 17ull);
-                                                                                            if (t61) goto L60;
-                                                                                            L62:;
                                                                                             {
                                                                                                 {
                                                                                                     {
                                                                                                         {
-                                                                                                            const u64 t66 = load64(l12 + 8u);
-                                                                                                            l8 = t66;
-                                                                                                            if (l8 == 0) {
-                                                                                                                const u32 t68 = load8(l12 + 16ull);
-                                                                                                                if (t68) goto L65;
-                                                                                                                store8(l12 + 17ull, (u8)1u);
-                                                                                                                goto L60;
+                                                                                                            l47 = l37 + l40;
+                                                                                                            l50 = l39 + 1u;
+                                                                                                            l2 = (u64)(l37 + l50);
+                                                                                                            l3 = (u64)l47 - l2;
+                                                                                                            if (l3 < 2ull) goto L58;
+                                                                                                            l2 = l9 + (l2 << 3);
+                                                                                                            if (l3 != 2ull) {
+                                                                                                                const u32 t60 = load8(l2 + 16ull);
+                                                                                                                if (t60 != 2u) goto L58;
                                                                                                             }
-                                                                                                            store64(l12 + 8u, l8 - 1ull);
-                                                                                                            const u64 t69 = load64(l12);
-                                                                                                            l8 = t69;
-                                                                                                            store64(l12, l8 + 1ull);
-                                                                                                            const u32 t70 = load8(l8);
-                                                                                                            l33 = t70;
-                                                                                                            if (l33 == (l44 & 255u)) goto L25;
-                                                                                                            store64(l7 + 128u, 0ull);
-                                                                                                            store8(l7 + 129u, (u8)l33);
-                                                                                                            const u32 t71 = load32(l9 + 28ull);
-                                                                                                            l8 = l9 + 20ull;
-                                                                                                            const u32 t72 = load32(l8);
-                                                                                                            l46 = t72;
-                                                                                                            const u32 t73 = load32(l9 + 16ull);
-                                                                                                            l34 = l46 + t73;
-                                                                                                            const u32 t74 = load32(l9 + 24ull);
-                                                                                                            if (t71 != (l34 + t74)) goto L64;
-                                                                                                            const u32 t75 = space_space_Space_push_in_way(e, l9, l7 + 128ull);
-                                                                                                            if (t75 == 0) goto L29;
-                                                                                                            goto L63;
-                                                                                                        }
-                                                                                                        L65:;
-                                                                                                        l8 = l12 + 24ull;
-                                                                                                        const u64 t76 = load64(l8);
-                                                                                                        store64(l8, t76 + 1ull);
-                                                                                                        goto L28;
-                                                                                                    }
-                                                                                                    L64:;
-                                                                                                    l2 = l9 + 32ull;
-                                                                                                    const u32 t77 = load32(l2);
-                                                                                                    l35 = t77;
-                                                                                                    const u64 t78 = load64(l9);
-                                                                                                    l13 = t78 + ((u64)l34 << 3);
-                                                                                                    store8(l13, (u8)0u);
-                                                                                                    store32(l13 + 4ull, 0u);
-                                                                                                    store8(l13 + 1ull, (u8)l33);
-                                                                                                    store32(l8, l46 + 1u);
-                                                                                                    store32(l2, l35);
-                                                                                                }
-                                                                                                L63:;
-                                                                                                devices_slice_source_SliceSourceSource_take_held(e, l12, l44, l9);
-                                                                                                const u32 t79 = load8(l12 + 17ull);
-                                                                                                if (t79 == 0) goto L62;
-                                                                                            }
-                                                                                        }
-                                                                                        L60:;
-                                                                                        const u32 t80 = load32(l9 + 20ull);
-                                                                                        if (t80 != l40) goto L25;
-                                                                                        l37 = 1u;
-                                                                                        goto L27;
-                                                                                    }
-                                                                                    L56:;
-                                                                                    const u32 t81 = load8(l7 + 130u);
-                                                                                    l43 = t81;
-                                                                                    {
-                                                                                        if ((l34 - 5u) < 20u) goto L82;
-                                                                                        l37 = 0u;
-                                                                                        {
-                                                                                            switch (l34 - 3u) {
-                                                                                            case 0: goto L82;
-                                                                                            case 1: goto L53;
-                                                                                            default: goto L83;
-                                                                                            }
-                                                                                        }
-                                                                                        L83:;
-                                                                                        store16(l18, (u16)0u);
-                                                                                        store8(l18 + 2u, (u8)0u);
-                                                                                        store8(l7 + 140u, (u8)l38);
-                                                                                        store32(l7 + 136u, l35);
-                                                                                        store32(l7 + 132u, l40);
-                                                                                        store32(l7 + 128u, l42);
-                                                                                        functions_arguments_Arguments_next(e, l7 + 32ull, l7 + 128ull, l9);
-                                                                                        const u32 t84 = load32(l7 + 32u);
-                                                                                        l34 = t84;
-                                                                                        const u32 t85 = load32(l7 + 36u);
-                                                                                        if (l34 != t85) {
-                                                                                            l8 = l8 + ((u64)(l34 + l36) << 3);
-                                                                                            const u32 t87 = load8(l8);
-                                                                                            const u64 t88 = l20;
-                                                                                            u32 v89;
-                                                                                            if (t87) {
-                                                                                                v89 = 0u;
-                                                                                            } else {
-                                                                                                const u32 t90 = load8(l8 + 1ull);
-                                                                                                v89 = t90;
-                                                                                            }
-                                                                                            store8(t88, (u8)v89);
-                                                                                        }
-                                                                                        l34 = 3u;
-                                                                                        goto L53;
-                                                                                    }
-                                                                                    L82:;
-                                                                                    store16(l22, (u16)0u);
-                                                                                    store8(l22 + 2u, (u8)0u);
-                                                                                    store8(l7 + 124u, (u8)l38);
-                                                                                    store32(l7 + 120u, l35);
-                                                                                    store32(l7 + 116u, l40);
-                                                                                    store32(l7 + 112u, l42);
-                                                                                    store64(l7 + 104u, 0ull);
-                                                                                    {
-                                                                                        {
-                                                                                            {
-                                                                                                {
-                                                                                                    {
-                                                                                                        {
+                                                                                                            functions_function_function_of(e, l8 + 144ull, l2, l2 + 8ull);
+                                                                                                            const u32 t61 = load8(l8 + 144u);
+                                                                                                            if (t61 != 1u) goto L58;
+                                                                                                            l38 = (u32)(l16 >> 32);
+                                                                                                            l42 = l34 == 0;
+                                                                                                            l43 = l39 + 4u;
                                                                                                             {
+                                                                                                                {
+                                                                                                                    {
+                                                                                                                        {
+                                                                                                                            {
+                                                                                                                                const u32 t67 = load8(l8 + 145u);
+                                                                                                                                l35 = t67;
+                                                                                                                                switch (l35 - 1u) {
+                                                                                                                                case 0: goto L65;
+                                                                                                                                case 1: goto L63;
+                                                                                                                                case 2: goto L62;
+                                                                                                                                case 3: goto L63;
+                                                                                                                                case 4: goto L63;
+                                                                                                                                case 5: goto L63;
+                                                                                                                                case 6: goto L63;
+                                                                                                                                case 7: goto L63;
+                                                                                                                                case 8: goto L63;
+                                                                                                                                case 9: goto L64;
+                                                                                                                                case 10: goto L63;
+                                                                                                                                case 11: goto L63;
+                                                                                                                                case 12: goto L63;
+                                                                                                                                case 13: goto L63;
+                                                                                                                                case 14: goto L63;
+                                                                                                                                case 15: goto L63;
+                                                                                                                                case 16: goto L63;
+                                                                                                                                case 17: goto L63;
+                                                                                                                                case 18: goto L63;
+                                                                                                                                case 19: goto L63;
+                                                                                                                                case 20: goto L63;
+                                                                                                                                case 21: goto L63;
+                                                                                                                                case 22: goto L63;
+                                                                                                                                case 23: goto L63;
+                                                                                                                                default: goto L66;
+                                                                                                                                }
+                                                                                                                            }
+                                                                                                                            L66:;
+                                                                                                                            const u32 t68 = load8(l19);
+                                                                                                                            l35 = t68;
+                                                                                                                            devices_slice_source_SliceSourceSource_take_held(e, l12, l35, l4);
+                                                                                                                            {
+                                                                                                                                {
+                                                                                                                                    const u32 t71 = load8(l12 + 17ull);
+                                                                                                                                    if (t71) goto L70;
+                                                                                                                                    L72:;
+                                                                                                                                    {
+                                                                                                                                        const u64 t73 = load64(l12 + 8u);
+                                                                                                                                        l9 = t73;
+                                                                                                                                        if (l9 == 0) {
+                                                                                                                                            const u32 t75 = load8(l12 + 16ull);
+                                                                                                                                            if (t75) goto L69;
+                                                                                                                                            store8(l12 + 17ull, (u8)1u);
+                                                                                                                                            goto L70;
+                                                                                                                                        }
+                                                                                                                                        store64(l12 + 8u, l9 - 1ull);
+                                                                                                                                        const u64 t76 = load64(l12);
+                                                                                                                                        l9 = t76;
+                                                                                                                                        store64(l12, l9 + 1ull);
+                                                                                                                                        const u32 t77 = load8(l9);
+                                                                                                                                        l34 = t77;
+                                                                                                                                        if (l34 == (l35 & 255u)) goto L50;
+                                                                                                                                        store64(l8 + 144u, 0ull);
+                                                                                                                                        store8(l8 + 145u, (u8)l34);
+                                                                                                                                        {
+                                                                                                                                            const u32 t79 = load32(l4 + 28ull);
+                                                                                                                                            l9 = l4 + 20ull;
+                                                                                                                                            const u32 t80 = load32(l9);
+                                                                                                                                            l36 = t80;
+                                                                                                                                            const u32 t81 = load32(l4 + 16ull);
+                                                                                                                                            l38 = l36 + t81;
+                                                                                                                                            const u32 t82 = load32(l4 + 24ull);
+                                                                                                                                            if (t79 == (l38 + t82)) {
+                                                                                                                                                const u32 t84 = space_space_Space_push_in_way(e, l4, l8 + 144ull);
+                                                                                                                                                if (t84) goto L78;
+                                                                                                                                                goto L51;
+                                                                                                                                            }
+                                                                                                                                            l3 = l4 + 32ull;
+                                                                                                                                            const u32 t85 = load32(l3);
+                                                                                                                                            l42 = t85;
+                                                                                                                                            const u64 t86 = load64(l4);
+                                                                                                                                            l2 = t86 + ((u64)l38 << 3);
+                                                                                                                                            store8(l2, (u8)0u);
+                                                                                                                                            store32(l2 + 4ull, 0u);
+                                                                                                                                            store8(l2 + 1ull, (u8)l34);
+                                                                                                                                            store32(l9, l36 + 1u);
+                                                                                                                                            store32(l3, l42);
+                                                                                                                                        }
+                                                                                                                                        L78:;
+                                                                                                                                        devices_slice_source_SliceSourceSource_take_held(e, l12, l35, l4);
+                                                                                                                                        const u32 t87 = load8(l12 + 17ull);
+                                                                                                                                        if (t87 == 0) goto L72;
+                                                                                                                                    }
+                                                                                                                                }
+                                                                                                                                L70:;
+                                                                                                                                const u32 t88 = load32(l4 + 20ull);
+                                                                                                                                l36 = t88 == l40;
+                                                                                                                                v49 = l36 ? 4u : 1u; goto L49;
+                                                                                                                            }
+                                                                                                                            L69:;
+                                                                                                                            l9 = l12 + 24ull;
+                                                                                                                            const u64 t89 = load64(l9);
+                                                                                                                            store64(l9, t89 + 1ull);
+                                                                                                                            goto L52;
+                                                                                                                        }
+                                                                                                                        L65:;
+                                                                                                                        const u32 t90 = load8(l12 + 17ull);
+                                                                                                                        if (t90) {
+                                                                                                                            l36 = 1u;
+                                                                                                                            v49 = 4u; goto L49;
+                                                                                                                        }
+                                                                                                                        {
+                                                                                                                            const u64 t93 = load64(l12 + 8u);
+                                                                                                                            l9 = t93;
+                                                                                                                            if (l9 == 0) {
+                                                                                                                                const u32 t95 = load8(l12 + 16ull);
+                                                                                                                                if (t95) goto L92;
+                                                                                                                                l36 = 1u;
+                                                                                                                                store8(l12 + 17ull, (u8)1u);
+                                                                                                                                v49 = 4u; goto L49;
+                                                                                                                            }
+                                                                                                                            store64(l12 + 8u, l9 - 1ull);
+                                                                                                                            const u64 t96 = load64(l12);
+                                                                                                                            l9 = t96;
+                                                                                                                            store64(l12, l9 + 1ull);
+                                                                                                                            const u32 t97 = load8(l9);
+                                                                                                                            l34 = t97;
+                                                                                                                            store64(l8 + 144u, 0ull);
+                                                                                                                            store8(l8 + 145u, (u8)l34);
+                                                                                                                            const u32 t98 = load32(l4 + 28ull);
+                                                                                                                            l9 = l4 + 20ull;
+                                                                                                                            const u32 t99 = load32(l9);
+                                                                                                                            l35 = t99;
+                                                                                                                            const u32 t100 = load32(l4 + 16ull);
+                                                                                                                            l36 = l35 + t100;
+                                                                                                                            const u32 t101 = load32(l4 + 24ull);
+                                                                                                                            if (t98 != (l36 + t101)) {
+                                                                                                                                l3 = l4 + 32ull;
+                                                                                                                                const u32 t103 = load32(l3);
+                                                                                                                                l38 = t103;
+                                                                                                                                const u64 t104 = load64(l4);
+                                                                                                                                l2 = t104 + ((u64)l36 << 3);
+                                                                                                                                store8(l2, (u8)0u);
+                                                                                                                                store32(l2 + 4ull, 0u);
+                                                                                                                                store8(l2 + 1ull, (u8)l34);
+                                                                                                                                store32(l9, l35 + 1u);
+                                                                                                                                store32(l3, l38);
+                                                                                                                                goto L50;
+                                                                                                                            }
+                                                                                                                            const u32 t105 = space_space_Space_push_in_way(e, l4, l8 + 144ull);
+                                                                                                                            if (t105) goto L50;
+                                                                                                                            goto L51;
+                                                                                                                        }
+                                                                                                                        L92:;
+                                                                                                                        l9 = l12 + 24ull;
+                                                                                                                        const u64 t106 = load64(l9);
+                                                                                                                        store64(l9, t106 + 1ull);
+                                                                                                                        goto L52;
+                                                                                                                    }
+                                                                                                                    L64:;
+                                                                                                                    store16(l21, (u16)0u);
+                                                                                                                    store8(l21 + 2u, (u8)0u);
+                                                                                                                    store8(l8 + 196u, (u8)l42);
+                                                                                                                    store32(l8 + 192u, l38);
+                                                                                                                    store32(l8 + 188u, l40);
+                                                                                                                    store32(l8 + 184u, l43);
+                                                                                                                    functions_arguments_Arguments_next(e, l8 + 16ull, l8 + 184ull, l4);
+                                                                                                                    const u32 t107 = load32(l8 + 20u);
+                                                                                                                    l34 = t107;
+                                                                                                                    const u32 t108 = load32(l8 + 16u);
+                                                                                                                    l35 = t108;
+                                                                                                                    store64(l8 + 176u, 0ull);
+                                                                                                                    store64(l8 + 168u, 0ull);
+                                                                                                                    store64(l8 + 160u, 0ull);
+                                                                                                                    store64(l8 + 152u, 0ull);
+                                                                                                                    store64(l8 + 144u, 0ull);
+                                                                                                                    {
+                                                                                                                        {
+                                                                                                                            u32 v111;
+                                                                                                                            {
+                                                                                                                                const u32 t112 = load32(l4 + 40ull);
+                                                                                                                                l36 = t112;
+                                                                                                                                if (l36 >= 8u) {
+                                                                                                                                    forms_work_Work_find_among_more(e, l8, l4, l35, l34);
+                                                                                                                                    const u32 t114 = load8(l8);
+                                                                                                                                    l34 = t114;
+                                                                                                                                    const u32 t115 = load32(l8 + 4u);
+                                                                                                                                    v111 = t115; goto L111;
+                                                                                                                                }
+                                                                                                                                {
+                                                                                                                                    if (l36 == 0) goto L116;
+                                                                                                                                    const u64 t117 = load32(l9 + 4ull);
+                                                                                                                                    l3 = (u64)(l34 + l37);
+                                                                                                                                    l2 = (u64)(l35 + l37);
+                                                                                                                                    if (t117 != (l3 - l2)) goto L116;
+                                                                                                                                    l11 = 17ull - (l2 << 3);
+                                                                                                                                    l2 = (l3 ^ 18446744073709551615ull) + l2;
+                                                                                                                                    l9 = l9 + (l3 << 3);
+                                                                                                                                    L118:;
+                                                                                                                                    {
+                                                                                                                                        l2 = l2 + 1ull;
+                                                                                                                                        if (l2 == 0) goto L110;
+                                                                                                                                        l3 = l9 - 7ull;
+                                                                                                                                        l6 = l9 + l11;
+                                                                                                                                        l9 = l9 - 8ull;
+                                                                                                                                        const u32 t119 = load8(l6);
+                                                                                                                                        const u32 t120 = load8(l3);
+                                                                                                                                        if (t119 == t120) goto L118;
+                                                                                                                                    }
+                                                                                                                                }
+                                                                                                                                L116:;
+                                                                                                                                forms_work_Work_find_among_few(e, l8 + 8ull, l4, l35, l34);
+                                                                                                                                const u32 t121 = load8(l8 + 8u);
+                                                                                                                                l34 = t121;
+                                                                                                                                const u32 t122 = load32(l8 + 12u);
+                                                                                                                                v111 = t122;
+                                                                                                                            }
+                                                                                                                            L111:;
+                                                                                                                            l35 = v111;
+                                                                                                                            if ((l34 & 255u) == 1u) goto L109;
+                                                                                                                            l36 = 0u;
+                                                                                                                            v49 = 3u; goto L49;
+                                                                                                                        }
+                                                                                                                        L110:;
+                                                                                                                        store64(l4 + 44ull, 0ull);
+                                                                                                                        l35 = 0u;
+                                                                                                                    }
+                                                                                                                    L109:;
+                                                                                                                    forms_work_Work_stored(e, l8 + 144ull, l4, l35);
+                                                                                                                    const u32 t123 = core_display_show_form(e, l8 + 144ull, l14);
+                                                                                                                    l34 = t123 & 255u;
+                                                                                                                    l36 = l34 ? 5u : 0u;
+                                                                                                                    v49 = l34 + 3u; goto L49;
+                                                                                                                }
+                                                                                                                L63:;
+                                                                                                                const u32 t124 = load8(l8 + 146u);
+                                                                                                                l44 = t124;
+                                                                                                                {
+                                                                                                                    if ((l35 - 5u) < 20u) goto L125;
+                                                                                                                    l34 = 0u;
+                                                                                                                    l36 = 0u;
+                                                                                                                    {
+                                                                                                                        switch (l35 - 3u) {
+                                                                                                                        case 0: goto L125;
+                                                                                                                        case 1: goto L53;
+                                                                                                                        default: goto L126;
+                                                                                                                        }
+                                                                                                                    }
+                                                                                                                    L126:;
+                                                                                                                    store16(l22, (u16)0u);
+                                                                                                                    store8(l22 + 2u, (u8)0u);
+                                                                                                                    store8(l8 + 156u, (u8)l42);
+                                                                                                                    store32(l8 + 152u, l38);
+                                                                                                                    store32(l8 + 148u, l40);
+                                                                                                                    store32(l8 + 144u, l43);
+                                                                                                                    functions_arguments_Arguments_next(e, l8 + 24ull, l8 + 144ull, l4);
+                                                                                                                    const u32 t127 = load32(l8 + 24u);
+                                                                                                                    l35 = t127;
+                                                                                                                    const u32 t128 = load32(l8 + 28u);
+                                                                                                                    if (l35 != t128) {
+                                                                                                                        l9 = l9 + ((u64)(l35 + l37) << 3);
+                                                                                                                        const u32 t130 = load8(l9);
+                                                                                                                        const u64 t131 = l19;
+                                                                                                                        u32 v132;
+                                                                                                                        if (t130) {
+                                                                                                                            v132 = 0u;
+                                                                                                                        } else {
+                                                                                                                            const u32 t133 = load8(l9 + 1ull);
+                                                                                                                            v132 = t133;
+                                                                                                                        }
+                                                                                                                        store8(t131, (u8)v132);
+                                                                                                                    }
+                                                                                                                    l35 = 3u;
+                                                                                                                    goto L53;
+                                                                                                                }
+                                                                                                                L125:;
+                                                                                                                store16(l23, (u16)0u);
+                                                                                                                store8(l23 + 2u, (u8)0u);
+                                                                                                                store8(l8 + 140u, (u8)l42);
+                                                                                                                store32(l8 + 136u, l38);
+                                                                                                                store32(l8 + 132u, l40);
+                                                                                                                store32(l8 + 128u, l43);
+                                                                                                                store64(l8 + 120u, 0ull);
                                                                                                                 {
                                                                                                                     {
                                                                                                                         {
@@ -17983,892 +18117,816 @@ static void engine_run(struct engine *e, u64 l0, u64 l1, u64 l2, u64 l3, u64 l4,
                                                                                                                                                                         {
                                                                                                                                                                             {
                                                                                                                                                                                 {
-                                                                                                                                                                                    switch (l34 - 5u) {
-                                                                                                                                                                                    case 0: goto L101;
-                                                                                                                                                                                    case 1: goto L100;
-                                                                                                                                                                                    case 2: goto L98;
-                                                                                                                                                                                    case 3: goto L97;
-                                                                                                                                                                                    case 4: goto L96;
-                                                                                                                                                                                    case 6: goto L99;
-                                                                                                                                                                                    case 7: goto L106;
-                                                                                                                                                                                    case 8: goto L105;
-                                                                                                                                                                                    case 9: goto L104;
-                                                                                                                                                                                    case 10: goto L103;
-                                                                                                                                                                                    case 11: goto L102;
-                                                                                                                                                                                    case 12: goto L114;
-                                                                                                                                                                                    case 13: goto L113;
-                                                                                                                                                                                    case 14: goto L112;
-                                                                                                                                                                                    case 15: goto L111;
-                                                                                                                                                                                    case 16: goto L110;
-                                                                                                                                                                                    case 17: goto L109;
-                                                                                                                                                                                    case 18: goto L108;
-                                                                                                                                                                                    case 19: goto L107;
-                                                                                                                                                                                    default: goto L95;
+                                                                                                                                                                                    {
+                                                                                                                                                                                        {
+                                                                                                                                                                                            {
+                                                                                                                                                                                                switch (l35 - 5u) {
+                                                                                                                                                                                                case 0: goto L140;
+                                                                                                                                                                                                case 1: goto L139;
+                                                                                                                                                                                                case 2: goto L137;
+                                                                                                                                                                                                case 3: goto L136;
+                                                                                                                                                                                                case 4: goto L135;
+                                                                                                                                                                                                case 6: goto L138;
+                                                                                                                                                                                                case 7: goto L145;
+                                                                                                                                                                                                case 8: goto L144;
+                                                                                                                                                                                                case 9: goto L143;
+                                                                                                                                                                                                case 10: goto L142;
+                                                                                                                                                                                                case 11: goto L141;
+                                                                                                                                                                                                case 12: goto L153;
+                                                                                                                                                                                                case 13: goto L152;
+                                                                                                                                                                                                case 14: goto L151;
+                                                                                                                                                                                                case 15: goto L150;
+                                                                                                                                                                                                case 16: goto L149;
+                                                                                                                                                                                                case 17: goto L148;
+                                                                                                                                                                                                case 18: goto L147;
+                                                                                                                                                                                                case 19: goto L146;
+                                                                                                                                                                                                default: goto L134;
+                                                                                                                                                                                                }
+                                                                                                                                                                                            }
+                                                                                                                                                                                            L153:;
+                                                                                                                                                                                            functions_comparing_equal(e, l8 + 120ull, l4, l8 + 128ull);
+                                                                                                                                                                                            goto L54;
+                                                                                                                                                                                        }
+                                                                                                                                                                                        L152:;
+                                                                                                                                                                                        functions_comparing_greater(e, l8 + 120ull, l4, l8 + 128ull);
+                                                                                                                                                                                        goto L54;
                                                                                                                                                                                     }
+                                                                                                                                                                                    L151:;
+                                                                                                                                                                                    functions_arithmetic_arithmetic(e, l8 + 120ull, l4, l44, l8 + 128ull);
+                                                                                                                                                                                    goto L54;
                                                                                                                                                                                 }
-                                                                                                                                                                                L114:;
-                                                                                                                                                                                functions_comparing_equal(e, l7 + 104ull, l9, l7 + 112ull);
-                                                                                                                                                                                goto L91;
+                                                                                                                                                                                L150:;
+                                                                                                                                                                                functions_bit_strings_union(e, l8 + 120ull, l4, l8 + 128ull);
+                                                                                                                                                                                goto L54;
                                                                                                                                                                             }
-                                                                                                                                                                            L113:;
-                                                                                                                                                                            functions_comparing_greater(e, l7 + 104ull, l9, l7 + 112ull);
-                                                                                                                                                                            goto L91;
+                                                                                                                                                                            L149:;
+                                                                                                                                                                            functions_bit_strings_intersection(e, l8 + 120ull, l4, l8 + 128ull);
+                                                                                                                                                                            goto L54;
                                                                                                                                                                         }
-                                                                                                                                                                        L112:;
-                                                                                                                                                                        functions_arithmetic_arithmetic(e, l7 + 104ull, l9, l43, l7 + 112ull);
-                                                                                                                                                                        goto L91;
+                                                                                                                                                                        L148:;
+                                                                                                                                                                        store64(l8 + 200u, 0ull);
+                                                                                                                                                                        const u64 t154 = load64(l8 + 128u);
+                                                                                                                                                                        store64(l8 + 184u, t154);
+                                                                                                                                                                        const u64 t155 = load64(l8 + 136u);
+                                                                                                                                                                        store64(l8 + 192u, t155);
+                                                                                                                                                                        store64(l8 + 156u, 0ull);
+                                                                                                                                                                        functions_arguments_Arguments_next(e, l8 + 32ull, l8 + 184ull, l4);
+                                                                                                                                                                        const u32 t156 = load32(l8 + 32u);
+                                                                                                                                                                        l38 = t156;
+                                                                                                                                                                        const u32 t157 = load32(l8 + 36u);
+                                                                                                                                                                        l36 = t157;
+                                                                                                                                                                        l3 = (u64)(l36 + l37);
+                                                                                                                                                                        l2 = (u64)(l38 + l37) - l3;
+                                                                                                                                                                        l9 = (l9 + (l3 << 3)) - 8ull;
+                                                                                                                                                                        l35 = l36;
+                                                                                                                                                                        L158:;
+                                                                                                                                                                        {
+                                                                                                                                                                            {
+                                                                                                                                                                                l34 = l35;
+                                                                                                                                                                                if (l2 == 0) goto L159;
+                                                                                                                                                                                const u32 t160 = load8(l9);
+                                                                                                                                                                                if (t160) goto L159;
+                                                                                                                                                                                l2 = l2 + 1ull;
+                                                                                                                                                                                l35 = l34 - 1u;
+                                                                                                                                                                                l3 = l9 + 1ull;
+                                                                                                                                                                                l9 = l9 - 8ull;
+                                                                                                                                                                                const u32 t161 = load8(l3);
+                                                                                                                                                                                if ((t161 & 248u) == 48u) goto L158;
+                                                                                                                                                                            }
+                                                                                                                                                                            L159:;
+                                                                                                                                                                        }
+                                                                                                                                                                        store32(l8 + 152u, l36);
+                                                                                                                                                                        store32(l8 + 148u, l34);
+                                                                                                                                                                        store32(l8 + 144u, 2u);
+                                                                                                                                                                        functions_bit_strings_give_bits(e, l8 + 200ull, l4, l38, l34, l8 + 144ull);
+                                                                                                                                                                        const u32 t162 = load16(l8 + 200u);
+                                                                                                                                                                        store16(l8 + 120u, (u16)t162);
+                                                                                                                                                                        const u32 t163 = load32(l8 + 204u);
+                                                                                                                                                                        store32(l8 + 124u, t163);
+                                                                                                                                                                        goto L54;
                                                                                                                                                                     }
-                                                                                                                                                                    L111:;
-                                                                                                                                                                    functions_bit_strings_union(e, l7 + 104ull, l9, l7 + 112ull);
-                                                                                                                                                                    goto L91;
+                                                                                                                                                                    L147:;
+                                                                                                                                                                    functions_bit_strings_shift(e, l8 + 120ull, l4, l8 + 128ull);
+                                                                                                                                                                    goto L54;
                                                                                                                                                                 }
-                                                                                                                                                                L110:;
-                                                                                                                                                                functions_bit_strings_intersection(e, l7 + 104ull, l9, l7 + 112ull);
-                                                                                                                                                                goto L91;
+                                                                                                                                                                L146:;
+                                                                                                                                                                functions_bit_strings_rotate(e, l8 + 120ull, l4, l8 + 128ull);
+                                                                                                                                                                goto L54;
                                                                                                                                                             }
-                                                                                                                                                            L109:;
-                                                                                                                                                            store64(l7 + 184u, 0ull);
-                                                                                                                                                            const u64 t115 = load64(l7 + 112u);
-                                                                                                                                                            store64(l7 + 168u, t115);
-                                                                                                                                                            const u64 t116 = load64(l7 + 120u);
-                                                                                                                                                            store64(l7 + 176u, t116);
-                                                                                                                                                            store64(l7 + 140u, 0ull);
-                                                                                                                                                            functions_arguments_Arguments_next(e, l7 + 40ull, l7 + 168ull, l9);
-                                                                                                                                                            const u32 t117 = load32(l7 + 40u);
-                                                                                                                                                            l38 = t117;
-                                                                                                                                                            const u32 t118 = load32(l7 + 44u);
-                                                                                                                                                            l35 = t118;
-                                                                                                                                                            l3 = (u64)(l35 + l36);
-                                                                                                                                                            l2 = (u64)(l38 + l36) - l3;
-                                                                                                                                                            l8 = (l8 + (l3 << 3)) - 8ull;
-                                                                                                                                                            l34 = l35;
-                                                                                                                                                            L119:;
-                                                                                                                                                            {
-                                                                                                                                                                {
-                                                                                                                                                                    l33 = l34;
-                                                                                                                                                                    if (l2 == 0) goto L120;
-                                                                                                                                                                    const u32 t121 = load8(l8);
-                                                                                                                                                                    if (t121) goto L120;
-                                                                                                                                                                    l2 = l2 + 1ull;
-                                                                                                                                                                    l34 = l33 - 1u;
-                                                                                                                                                                    l3 = l8 + 1ull;
-                                                                                                                                                                    l8 = l8 - 8ull;
-                                                                                                                                                                    const u32 t122 = load8(l3);
-                                                                                                                                                                    if ((t122 & 248u) == 48u) goto L119;
-                                                                                                                                                                }
-                                                                                                                                                                L120:;
-                                                                                                                                                            }
-                                                                                                                                                            store32(l7 + 136u, l35);
-                                                                                                                                                            store32(l7 + 132u, l33);
-                                                                                                                                                            store32(l7 + 128u, 2u);
-                                                                                                                                                            functions_bit_strings_give_bits(e, l7 + 184ull, l9, l38, l33, l7 + 128ull);
-                                                                                                                                                            const u32 t123 = load16(l7 + 184u);
-                                                                                                                                                            store16(l7 + 104u, (u16)t123);
-                                                                                                                                                            const u32 t124 = load32(l7 + 188u);
-                                                                                                                                                            store32(l7 + 108u, t124);
-                                                                                                                                                            goto L91;
+                                                                                                                                                            L145:;
+                                                                                                                                                            functions_form_parts_call_segment(e, l8 + 120ull, l4, l8 + 128ull);
+                                                                                                                                                            goto L54;
                                                                                                                                                         }
-                                                                                                                                                        L108:;
-                                                                                                                                                        functions_bit_strings_shift(e, l7 + 104ull, l9, l7 + 112ull);
-                                                                                                                                                        goto L91;
+                                                                                                                                                        L144:;
+                                                                                                                                                        functions_form_parts_call_character(e, l8 + 120ull, l4, l8 + 128ull);
+                                                                                                                                                        goto L54;
                                                                                                                                                     }
-                                                                                                                                                    L107:;
-                                                                                                                                                    functions_bit_strings_rotate(e, l7 + 104ull, l9, l7 + 112ull);
-                                                                                                                                                    goto L91;
+                                                                                                                                                    L143:;
+                                                                                                                                                    functions_form_parts_call_number(e, l8 + 120ull, l4, l8 + 128ull);
+                                                                                                                                                    goto L54;
                                                                                                                                                 }
-                                                                                                                                                L106:;
-                                                                                                                                                functions_form_parts_call_segment(e, l7 + 104ull, l9, l7 + 112ull);
-                                                                                                                                                goto L91;
+                                                                                                                                                L142:;
+                                                                                                                                                functions_form_parts_initial_part(e, l8 + 120ull, l4, l8 + 128ull);
+                                                                                                                                                goto L54;
                                                                                                                                             }
-                                                                                                                                            L105:;
-                                                                                                                                            functions_form_parts_call_character(e, l7 + 104ull, l9, l7 + 112ull);
-                                                                                                                                            goto L91;
+                                                                                                                                            L141:;
+                                                                                                                                            functions_form_parts_call_restore(e, l8 + 120ull, l4, l8 + 128ull);
+                                                                                                                                            goto L54;
                                                                                                                                         }
-                                                                                                                                        L104:;
-                                                                                                                                        functions_form_parts_call_number(e, l7 + 104ull, l9, l7 + 112ull);
-                                                                                                                                        goto L91;
+                                                                                                                                        L140:;
+                                                                                                                                        functions_form_calls_define_string(e, l8 + 120ull, l4, l8 + 128ull);
+                                                                                                                                        goto L54;
                                                                                                                                     }
-                                                                                                                                    L103:;
-                                                                                                                                    functions_form_parts_initial_part(e, l7 + 104ull, l9, l7 + 112ull);
-                                                                                                                                    goto L91;
+                                                                                                                                    L139:;
+                                                                                                                                    functions_form_calls_segment_string(e, l8 + 120ull, l4, l8 + 128ull);
+                                                                                                                                    goto L54;
                                                                                                                                 }
-                                                                                                                                L102:;
-                                                                                                                                functions_form_parts_call_restore(e, l7 + 104ull, l9, l7 + 112ull);
-                                                                                                                                goto L91;
+                                                                                                                                L138:;
+                                                                                                                                const u64 t164 = load64(l8 + 136u);
+                                                                                                                                store64(l8 + 152u, t164);
+                                                                                                                                const u64 t165 = load64(l8 + 128u);
+                                                                                                                                store64(l8 + 144u, t165);
+                                                                                                                                const u32 t166 = load8(l8 + 156u);
+                                                                                                                                l36 = t166;
+                                                                                                                                functions_arguments_Arguments_next(e, l8 + 64ull, l8 + 144ull, l4);
+                                                                                                                                const u32 t167 = load32(l8 + 68u);
+                                                                                                                                l34 = t167;
+                                                                                                                                const u32 t168 = load32(l8 + 64u);
+                                                                                                                                l35 = t168;
+                                                                                                                                u32 v169;
+                                                                                                                                {
+                                                                                                                                    const u32 t170 = load32(l4 + 40ull);
+                                                                                                                                    l38 = t170;
+                                                                                                                                    if (l38 >= 8u) {
+                                                                                                                                        forms_work_Work_find_among_more(e, l8 + 48ull, l4, l35, l34);
+                                                                                                                                        const u32 t172 = load32(l8 + 52u);
+                                                                                                                                        l44 = t172;
+                                                                                                                                        const u32 t173 = load8(l8 + 48u);
+                                                                                                                                        v169 = t173; goto L169;
+                                                                                                                                    }
+                                                                                                                                    {
+                                                                                                                                        if (l38 == 0) goto L174;
+                                                                                                                                        const u64 t175 = load32(l9 + 4ull);
+                                                                                                                                        l3 = (u64)(l34 + l37);
+                                                                                                                                        l2 = (u64)(l35 + l37);
+                                                                                                                                        if (t175 != (l3 - l2)) goto L174;
+                                                                                                                                        l11 = 17ull - (l2 << 3);
+                                                                                                                                        l2 = (l3 ^ 18446744073709551615ull) + l2;
+                                                                                                                                        l9 = l9 + (l3 << 3);
+                                                                                                                                        L176:;
+                                                                                                                                        {
+                                                                                                                                            l2 = l2 + 1ull;
+                                                                                                                                            if (l2 == 0) goto L57;
+                                                                                                                                            l3 = l9 - 7ull;
+                                                                                                                                            l6 = l9 + l11;
+                                                                                                                                            l9 = l9 - 8ull;
+                                                                                                                                            const u32 t177 = load8(l6);
+                                                                                                                                            const u32 t178 = load8(l3);
+                                                                                                                                            if (t177 == t178) goto L176;
+                                                                                                                                        }
+                                                                                                                                    }
+                                                                                                                                    L174:;
+                                                                                                                                    forms_work_Work_find_among_few(e, l8 + 56ull, l4, l35, l34);
+                                                                                                                                    const u32 t179 = load32(l8 + 60u);
+                                                                                                                                    l44 = t179;
+                                                                                                                                    const u32 t180 = load8(l8 + 56u);
+                                                                                                                                    v169 = t180;
+                                                                                                                                }
+                                                                                                                                L169:;
+                                                                                                                                if ((v169 & 255u) != 1u) goto L56;
+                                                                                                                                goto L55;
                                                                                                                             }
-                                                                                                                            L101:;
-                                                                                                                            functions_form_calls_define_string(e, l7 + 104ull, l9, l7 + 112ull);
-                                                                                                                            goto L91;
-                                                                                                                        }
-                                                                                                                        L100:;
-                                                                                                                        functions_form_calls_segment_string(e, l7 + 104ull, l9, l7 + 112ull);
-                                                                                                                        goto L91;
-                                                                                                                    }
-                                                                                                                    L99:;
-                                                                                                                    const u64 t125 = load64(l7 + 120u);
-                                                                                                                    store64(l7 + 136u, t125);
-                                                                                                                    const u64 t126 = load64(l7 + 112u);
-                                                                                                                    store64(l7 + 128u, t126);
-                                                                                                                    const u32 t127 = load8(l7 + 140u);
-                                                                                                                    l35 = t127;
-                                                                                                                    functions_arguments_Arguments_next(e, l7 + 72ull, l7 + 128ull, l9);
-                                                                                                                    const u32 t128 = load32(l7 + 76u);
-                                                                                                                    l33 = t128;
-                                                                                                                    const u32 t129 = load32(l7 + 72u);
-                                                                                                                    l34 = t129;
-                                                                                                                    u32 v130;
-                                                                                                                    {
-                                                                                                                        const u32 t131 = load32(l9 + 40ull);
-                                                                                                                        l38 = t131;
-                                                                                                                        if (l38 >= 8u) {
-                                                                                                                            forms_work_Work_find_among_more(e, l7 + 56ull, l9, l34, l33);
-                                                                                                                            const u32 t133 = load32(l7 + 60u);
-                                                                                                                            l43 = t133;
-                                                                                                                            const u32 t134 = load8(l7 + 56u);
-                                                                                                                            v130 = t134; goto L130;
-                                                                                                                        }
-                                                                                                                        {
-                                                                                                                            if (l38 == 0) goto L135;
-                                                                                                                            const u64 t136 = load32(l8 + 4ull);
-                                                                                                                            l3 = (u64)(l33 + l36);
-                                                                                                                            l2 = (u64)(l34 + l36);
-                                                                                                                            if (t136 != (l3 - l2)) goto L135;
-                                                                                                                            l11 = 17ull - (l2 << 3);
-                                                                                                                            l2 = (l3 ^ 18446744073709551615ull) + l2;
-                                                                                                                            l8 = l8 + (l3 << 3);
                                                                                                                             L137:;
-                                                                                                                            {
-                                                                                                                                l2 = l2 + 1ull;
-                                                                                                                                if (l2 == 0) goto L94;
-                                                                                                                                l3 = l8 - 7ull;
-                                                                                                                                l4 = l8 + l11;
-                                                                                                                                l8 = l8 - 8ull;
-                                                                                                                                const u32 t138 = load8(l4);
-                                                                                                                                const u32 t139 = load8(l3);
-                                                                                                                                if (t138 == t139) goto L137;
-                                                                                                                            }
+                                                                                                                            functions_form_calls_delete_definition(e, l8 + 120ull, l4, l8 + 128ull);
+                                                                                                                            goto L54;
                                                                                                                         }
-                                                                                                                        L135:;
-                                                                                                                        forms_work_Work_find_among_few(e, l7 + 64ull, l9, l34, l33);
-                                                                                                                        const u32 t140 = load32(l7 + 68u);
-                                                                                                                        l43 = t140;
-                                                                                                                        const u32 t141 = load8(l7 + 64u);
-                                                                                                                        v130 = t141;
+                                                                                                                        L136:;
+                                                                                                                        functions_form_calls_delete_all(e, l8 + 120ull, l4);
+                                                                                                                        goto L54;
                                                                                                                     }
-                                                                                                                    L130:;
-                                                                                                                    if ((v130 & 255u) != 1u) goto L93;
-                                                                                                                    goto L92;
+                                                                                                                    L135:;
+                                                                                                                    functions_form_calls_list_names(e, l8 + 120ull, l4, l8 + 128ull);
+                                                                                                                    goto L54;
                                                                                                                 }
-                                                                                                                L98:;
-                                                                                                                functions_form_calls_delete_definition(e, l7 + 104ull, l9, l7 + 112ull);
-                                                                                                                goto L91;
+                                                                                                                L134:;
+                                                                                                                store8(l8 + 120u, (u8)1u);
+                                                                                                                goto L54;
                                                                                                             }
-                                                                                                            L97:;
-                                                                                                            functions_form_calls_delete_all(e, l7 + 104ull, l9);
-                                                                                                            goto L91;
+                                                                                                            L62:;
+                                                                                                            store16(l20, (u16)0u);
+                                                                                                            store8(l20 + 2u, (u8)0u);
+                                                                                                            store8(l8 + 108u, (u8)l42);
+                                                                                                            store32(l8 + 104u, l38);
+                                                                                                            store32(l8 + 100u, l40);
+                                                                                                            store32(l8 + 96u, l43);
+                                                                                                            l9 = l8 + 112ull;
+                                                                                                            l1 = l4;
+                                                                                                            l6 = l8 + 96ull;
+                                                                                                            l2 = e->stack_pointer - 32ull;
+                                                                                                            e->stack_pointer = l2;
+                                                                                                            {
+                                                                                                                l3 = l2;
+                                                                                                                if ((i64)(l3 - e->stack) >= (i64)16ull) {
+                                                                                                                    const u64 t183 = load64(l6 + 8u);
+                                                                                                                    store64(l3 + 24u, t183);
+                                                                                                                    const u64 t184 = load64(l6);
+                                                                                                                    store64(l3 + 16u, t184);
+                                                                                                                    functions_arguments_Arguments_next(e, l3 + 8ull, l3 + 16ull, l1);
+                                                                                                                    l36 = 3u;
+                                                                                                                    u32 v185;
+                                                                                                                    {
+                                                                                                                        const u32 t186 = load32(l3 + 12u);
+                                                                                                                        l35 = t186;
+                                                                                                                        const u32 t187 = load32(l3 + 8u);
+                                                                                                                        l34 = t187;
+                                                                                                                        if (l35 == l34) { v185 = 0u; goto L185; }
+                                                                                                                        const u64 t188 = load64(l1);
+                                                                                                                        const u32 t189 = load32(l1 + 16ull);
+                                                                                                                        const u32 t190 = l34;
+                                                                                                                        l34 = t189;
+                                                                                                                        l1 = (u64)(t190 + l34);
+                                                                                                                        l6 = t188 + (l1 << 3);
+                                                                                                                        {
+                                                                                                                            l1 = (u64)(l34 + l35) - l1;
+                                                                                                                            if (l1 < 16ull) {
+                                                                                                                                {
+                                                                                                                                    L194:;
+                                                                                                                                    {
+                                                                                                                                        l35 = 0u;
+                                                                                                                                        const u32 t195 = load8(l6);
+                                                                                                                                        if (t195 == 0) {
+                                                                                                                                            const u32 t197 = load8(l6 + 1ull);
+                                                                                                                                            l35 = t197;
+                                                                                                                                        }
+                                                                                                                                        l2 = l14 + 16ull;
+                                                                                                                                        const u64 t198 = load64(l2);
+                                                                                                                                        l7 = t198;
+                                                                                                                                        const u64 t199 = load64(l14 + 8ull);
+                                                                                                                                        if (l7 >= t199) goto L193;
+                                                                                                                                        const u64 t200 = load64(l14);
+                                                                                                                                        store8(t200 + l7, (u8)l35);
+                                                                                                                                        const u64 t201 = load64(l2);
+                                                                                                                                        store64(l2, t201 + 1ull);
+                                                                                                                                        l6 = l6 + 8ull;
+                                                                                                                                        l1 = l1 - 1ull;
+                                                                                                                                        if ((l1 == 0) == 0) goto L194;
+                                                                                                                                    }
+                                                                                                                                    v185 = 0u; goto L185;
+                                                                                                                                }
+                                                                                                                                L193:;
+                                                                                                                                l6 = l14 + 24ull;
+                                                                                                                                const u64 t202 = load64(l6);
+                                                                                                                                store64(l6, t202 + 1ull);
+                                                                                                                                goto L191;
+                                                                                                                            }
+                                                                                                                            {
+                                                                                                                                L204:;
+                                                                                                                                {
+                                                                                                                                    l35 = 0u;
+                                                                                                                                    const u32 t205 = load8(l6);
+                                                                                                                                    if (t205 == 0) {
+                                                                                                                                        const u32 t207 = load8(l6 + 1ull);
+                                                                                                                                        l35 = t207;
+                                                                                                                                    }
+                                                                                                                                    l2 = l14 + 16ull;
+                                                                                                                                    const u64 t208 = load64(l2);
+                                                                                                                                    l7 = t208;
+                                                                                                                                    const u64 t209 = load64(l14 + 8ull);
+                                                                                                                                    if (l7 >= t209) goto L203;
+                                                                                                                                    const u64 t210 = load64(l14);
+                                                                                                                                    store8(t210 + l7, (u8)l35);
+                                                                                                                                    const u64 t211 = load64(l2);
+                                                                                                                                    store64(l2, t211 + 1ull);
+                                                                                                                                    l6 = l6 + 8ull;
+                                                                                                                                    l1 = l1 - 1ull;
+                                                                                                                                    if ((l1 == 0) == 0) goto L204;
+                                                                                                                                }
+                                                                                                                                v185 = 0u; goto L185;
+                                                                                                                            }
+                                                                                                                            L203:;
+                                                                                                                            l6 = l14 + 24ull;
+                                                                                                                            const u64 t212 = load64(l6);
+                                                                                                                            store64(l6, t212 + 1ull);
+                                                                                                                        }
+                                                                                                                        L191:;
+                                                                                                                        l36 = 4u;
+                                                                                                                        v185 = 5u;
+                                                                                                                    }
+                                                                                                                    L185:;
+                                                                                                                    l35 = v185;
+                                                                                                                    store8(l9, (u8)l36);
+                                                                                                                    store32(l9 + 4ull, 0u);
+                                                                                                                    store8(l9 + 1ull, (u8)l35);
+                                                                                                                    e->stack_pointer = l3 + 32ull;
+                                                                                                                    goto L181;
+                                                                                                                }
+                                                                                                                trap();
+                                                                                                            }
+                                                                                                            L181:;
+                                                                                                            const u32 t213 = load32(l8 + 116u);
+                                                                                                            l34 = t213;
+                                                                                                            const u32 t214 = load8(l8 + 113u);
+                                                                                                            l36 = t214;
+                                                                                                            const u32 t215 = load8(l8 + 112u);
+                                                                                                            l35 = t215;
+                                                                                                            goto L48;
                                                                                                         }
-                                                                                                        L96:;
-                                                                                                        functions_form_calls_list_names(e, l7 + 104ull, l9, l7 + 112ull);
-                                                                                                        goto L91;
+                                                                                                        L58:;
+                                                                                                        l34 = 0u;
+                                                                                                        goto L47;
                                                                                                     }
-                                                                                                    L95:;
-                                                                                                    store8(l7 + 104u, (u8)1u);
-                                                                                                    goto L91;
+                                                                                                    L57:;
+                                                                                                    store64(l4 + 44ull, 0ull);
+                                                                                                    l44 = 0u;
+                                                                                                    goto L55;
                                                                                                 }
-                                                                                                L94:;
-                                                                                                store64(l9 + 44ull, 0ull);
-                                                                                                l43 = 0u;
-                                                                                                goto L92;
+                                                                                                L56:;
+                                                                                                store32(l8 + 124u, 0u);
+                                                                                                store16(l8 + 120u, (u16)1u);
+                                                                                                goto L54;
                                                                                             }
-                                                                                            L93:;
-                                                                                            store32(l7 + 108u, 0u);
-                                                                                            store16(l7 + 104u, (u16)1u);
-                                                                                            goto L91;
-                                                                                        }
-                                                                                        L92:;
-                                                                                        const u32 t142 = load32(l7 + 132u);
-                                                                                        l48 = t142;
-                                                                                        const u32 t143 = load32(l7 + 128u);
-                                                                                        l49 = t143;
-                                                                                        {
-                                                                                            if ((l35 & 1u) == 0) goto L144;
-                                                                                            if (l48 >= l49) goto L144;
-                                                                                            const u32 t145 = load32(l9 + 48ull);
-                                                                                            l33 = t145;
+                                                                                            L55:;
+                                                                                            const u32 t216 = load32(l8 + 148u);
+                                                                                            l48 = t216;
+                                                                                            const u32 t217 = load32(l8 + 144u);
+                                                                                            l49 = t217;
                                                                                             {
-                                                                                                const u32 t147 = load32(l9 + 44ull);
-                                                                                                l34 = t147;
-                                                                                                if (l43 == l34) goto L146;
-                                                                                                if (l34 < l43) {
-                                                                                                    l38 = l43 - l34;
-                                                                                                    const u32 t149 = load32(l9 + 16ull);
-                                                                                                    l42 = t149;
-                                                                                                    L150:;
-                                                                                                    {
-                                                                                                        l34 = 3u;
-                                                                                                        if (l33 < l42) {
-                                                                                                            const u64 t152 = load64(l9);
-                                                                                                            l8 = t152 + ((u64)l33 << 3);
-                                                                                                            const u32 t153 = load32(l8 + 4ull);
-                                                                                                            const u32 t154 = load8(l8);
-                                                                                                            l34 = (t154 == 4u) ? (t153 + 3u) : 3u;
+                                                                                                if ((l36 & 1u) == 0) goto L218;
+                                                                                                if (l48 >= l49) goto L218;
+                                                                                                const u32 t219 = load32(l4 + 48ull);
+                                                                                                l34 = t219;
+                                                                                                {
+                                                                                                    const u32 t221 = load32(l4 + 44ull);
+                                                                                                    l35 = t221;
+                                                                                                    if (l44 == l35) goto L220;
+                                                                                                    if (l35 < l44) {
+                                                                                                        l38 = l44 - l35;
+                                                                                                        const u32 t223 = load32(l4 + 16ull);
+                                                                                                        l42 = t223;
+                                                                                                        L224:;
+                                                                                                        {
+                                                                                                            l35 = 3u;
+                                                                                                            if (l34 < l42) {
+                                                                                                                const u64 t226 = load64(l4);
+                                                                                                                l9 = t226 + ((u64)l34 << 3);
+                                                                                                                const u32 t227 = load32(l9 + 4ull);
+                                                                                                                const u32 t228 = load8(l9);
+                                                                                                                l35 = (t228 == 4u) ? (t227 + 3u) : 3u;
+                                                                                                            }
+                                                                                                            l43 = l34 + 1u;
+                                                                                                            u32 v229;
+                                                                                                            if (l42 > l43) {
+                                                                                                                const u64 t230 = load64(l4);
+                                                                                                                l9 = t230 + ((u64)l43 << 3);
+                                                                                                                const u32 t231 = load32(l9 + 4ull);
+                                                                                                                const u32 t232 = load8(l9);
+                                                                                                                v229 = (t232 == 4u) ? t231 : 0u;
+                                                                                                            } else {
+                                                                                                                v229 = 0u;
+                                                                                                            }
+                                                                                                            l34 = v229 + (l34 + l35);
+                                                                                                            l38 = l38 - 1u;
+                                                                                                            if (l38) goto L224;
                                                                                                         }
-                                                                                                        l37 = l33 + 1u;
-                                                                                                        u32 v155;
-                                                                                                        if (l42 > l37) {
-                                                                                                            const u64 t156 = load64(l9);
-                                                                                                            l8 = t156 + ((u64)l37 << 3);
-                                                                                                            const u32 t157 = load32(l8 + 4ull);
-                                                                                                            const u32 t158 = load8(l8);
-                                                                                                            v155 = (t158 == 4u) ? t157 : 0u;
+                                                                                                        goto L220;
+                                                                                                    }
+                                                                                                    if (l44 == 0) {
+                                                                                                        l34 = 0u;
+                                                                                                        goto L220;
+                                                                                                    }
+                                                                                                    const u32 t234 = load32(l4 + 16ull);
+                                                                                                    l38 = t234;
+                                                                                                    l34 = 0u;
+                                                                                                    l42 = l44;
+                                                                                                    L235:;
+                                                                                                    {
+                                                                                                        l35 = 3u;
+                                                                                                        if (l34 < l38) {
+                                                                                                            const u64 t237 = load64(l4);
+                                                                                                            l9 = t237 + ((u64)l34 << 3);
+                                                                                                            const u32 t238 = load32(l9 + 4ull);
+                                                                                                            const u32 t239 = load8(l9);
+                                                                                                            l35 = (t239 == 4u) ? (t238 + 3u) : 3u;
+                                                                                                        }
+                                                                                                        l43 = l34 + 1u;
+                                                                                                        u32 v240;
+                                                                                                        if (l38 > l43) {
+                                                                                                            const u64 t241 = load64(l4);
+                                                                                                            l9 = t241 + ((u64)l43 << 3);
+                                                                                                            const u32 t242 = load32(l9 + 4ull);
+                                                                                                            const u32 t243 = load8(l9);
+                                                                                                            v240 = (t243 == 4u) ? t242 : 0u;
                                                                                                         } else {
-                                                                                                            v155 = 0u;
+                                                                                                            v240 = 0u;
                                                                                                         }
-                                                                                                        l33 = v155 + (l33 + l34);
-                                                                                                        l38 = l38 - 1u;
-                                                                                                        if (l38) goto L150;
+                                                                                                        l34 = v240 + (l34 + l35);
+                                                                                                        l42 = l42 - 1u;
+                                                                                                        if (l42) goto L235;
                                                                                                     }
-                                                                                                    goto L146;
                                                                                                 }
-                                                                                                if (l43 == 0) {
-                                                                                                    l33 = 0u;
-                                                                                                    goto L146;
-                                                                                                }
-                                                                                                const u32 t160 = load32(l9 + 16ull);
-                                                                                                l38 = t160;
-                                                                                                l33 = 0u;
-                                                                                                l42 = l43;
-                                                                                                L161:;
-                                                                                                {
-                                                                                                    l34 = 3u;
-                                                                                                    if (l33 < l38) {
-                                                                                                        const u64 t163 = load64(l9);
-                                                                                                        l8 = t163 + ((u64)l33 << 3);
-                                                                                                        const u32 t164 = load32(l8 + 4ull);
-                                                                                                        const u32 t165 = load8(l8);
-                                                                                                        l34 = (t165 == 4u) ? (t164 + 3u) : 3u;
-                                                                                                    }
-                                                                                                    l37 = l33 + 1u;
-                                                                                                    u32 v166;
-                                                                                                    if (l38 > l37) {
-                                                                                                        const u64 t167 = load64(l9);
-                                                                                                        l8 = t167 + ((u64)l37 << 3);
-                                                                                                        const u32 t168 = load32(l8 + 4ull);
-                                                                                                        const u32 t169 = load8(l8);
-                                                                                                        v166 = (t169 == 4u) ? t168 : 0u;
-                                                                                                    } else {
-                                                                                                        v166 = 0u;
-                                                                                                    }
-                                                                                                    l33 = v166 + (l33 + l34);
-                                                                                                    l42 = l42 - 1u;
-                                                                                                    if (l42) goto L161;
-                                                                                                }
-                                                                                            }
-                                                                                            L146:;
-                                                                                            l34 = 0u;
-                                                                                            const u64 t170 = load64(l9);
-                                                                                            l3 = t170;
-                                                                                            l8 = l3 + ((u64)l33 << 3);
-                                                                                            const u32 t171 = load32(l8 + 12ull);
-                                                                                            l38 = t171;
-                                                                                            const u32 t172 = load32(l8 + 20ull);
-                                                                                            l35 = t172;
-                                                                                            if (l38 != l35) {
-                                                                                                const u32 t174 = load32(l8 + 4ull);
-                                                                                                l42 = (l33 + t174) + 3u;
-                                                                                                l34 = l42 + l35;
-                                                                                                u32 v175;
-                                                                                                {
-                                                                                                    l33 = l38 - l35;
-                                                                                                    const u32 t176 = load32(l9 + 28ull);
-                                                                                                    l47 = t176;
-                                                                                                    const u32 t177 = load32(l9 + 20ull);
-                                                                                                    const u32 t178 = load32(l9 + 24ull);
-                                                                                                    l37 = t178;
-                                                                                                    const u32 t179 = load32(l9 + 16ull);
-                                                                                                    if (l33 > (l47 - (t177 + (l37 + t179)))) {
-                                                                                                        store_fill_load_items_in_way(e, l7 + 48ull, l9, l34, l38 + l42);
-                                                                                                        const u32 t181 = load8(l7 + 48u);
-                                                                                                        l35 = t181;
-                                                                                                        const u32 t182 = load32(l7 + 52u);
-                                                                                                        v175 = t182; goto L175;
-                                                                                                    }
-                                                                                                    l1 = (u64)l33;
-                                                                                                    l11 = (u64)l34;
+                                                                                                L220:;
+                                                                                                l35 = 0u;
+                                                                                                const u64 t244 = load64(l4);
+                                                                                                l3 = t244;
+                                                                                                l9 = l3 + ((u64)l34 << 3);
+                                                                                                const u32 t245 = load32(l9 + 12ull);
+                                                                                                l38 = t245;
+                                                                                                const u32 t246 = load32(l9 + 20ull);
+                                                                                                l36 = t246;
+                                                                                                if (l38 != l36) {
+                                                                                                    const u32 t248 = load32(l9 + 4ull);
+                                                                                                    l42 = (l34 + t248) + 3u;
+                                                                                                    l35 = l42 + l36;
+                                                                                                    u32 v249;
                                                                                                     {
+                                                                                                        l34 = l38 - l36;
+                                                                                                        const u32 t250 = load32(l4 + 28ull);
+                                                                                                        l46 = t250;
+                                                                                                        const u32 t251 = load32(l4 + 20ull);
+                                                                                                        const u32 t252 = load32(l4 + 24ull);
+                                                                                                        l43 = t252;
+                                                                                                        const u32 t253 = load32(l4 + 16ull);
+                                                                                                        if (l34 > (l46 - (t251 + (l43 + t253)))) {
+                                                                                                            store_fill_load_items_in_way(e, l8 + 40ull, l4, l35, l38 + l42);
+                                                                                                            const u32 t255 = load8(l8 + 40u);
+                                                                                                            l36 = t255;
+                                                                                                            const u32 t256 = load32(l8 + 44u);
+                                                                                                            v249 = t256; goto L249;
+                                                                                                        }
+                                                                                                        l1 = (u64)l34;
+                                                                                                        l11 = (u64)l35;
                                                                                                         {
                                                                                                             {
                                                                                                                 {
                                                                                                                     {
                                                                                                                         {
-                                                                                                                            if (l33 >= 8u) {
-                                                                                                                                if (l33 == 8u) goto L187;
-                                                                                                                                l8 = l3 + (l11 << 3);
-                                                                                                                                l2 = l1;
-                                                                                                                                goto L188;
-                                                                                                                            }
-                                                                                                                            if (l33 >= 4u) {
-                                                                                                                                l35 = 0u;
-                                                                                                                                l8 = l3 + (l11 << 3);
-                                                                                                                                const u32 t191 = load8(l8 + 24ull);
-                                                                                                                                const u32 t192 = load8(l8 + 16ull);
-                                                                                                                                const u32 t193 = load8(l8 + 8ull);
-                                                                                                                                const u32 t194 = load8(l8);
-                                                                                                                                if (((t191 + t192) | (t193 + t194)) & 255u) { v175 = 0u; goto L175; }
-                                                                                                                                l2 = l1 + l11;
-                                                                                                                                l8 = l3 + (l2 << 3);
-                                                                                                                                const u32 t195 = load8(l8 - 8ull);
-                                                                                                                                const u32 t196 = load8(l8 - 16ull);
-                                                                                                                                const u32 t197 = load8(l8 - 24ull);
-                                                                                                                                const u32 t198 = load8(l8 - 32ull);
-                                                                                                                                if (((t195 + t196) | (t197 + t198)) & 255u) { v175 = 0u; goto L175; }
-                                                                                                                                l35 = l33 + l37;
-                                                                                                                                l8 = (u64)(l47 - l35);
-                                                                                                                                core_slice_edits_slice_T_copy_from_slice(e, l3 + (l8 << 3), l3 + (l11 << 3), 4ull);
-                                                                                                                                const u64 t199 = l8 - l11;
-                                                                                                                                l8 = l2 - 4ull;
-                                                                                                                                core_slice_edits_slice_T_copy_from_slice(e, l3 + ((t199 + l8) << 3), l3 + (l8 << 3), 4ull);
-                                                                                                                                goto L184;
-                                                                                                                            }
-                                                                                                                            l8 = l3 + (l11 << 3);
-                                                                                                                            const u32 t200 = load8(l8);
-                                                                                                                            l38 = t200;
-                                                                                                                            if (l33 < 2u) goto L186;
-                                                                                                                            l35 = 0u;
-                                                                                                                            const u32 t201 = load8(l8 + 8ull);
-                                                                                                                            if (t201 | (l38 & 255u)) { v175 = 0u; goto L175; }
-                                                                                                                            l2 = l1 + l11;
-                                                                                                                            l8 = l3 + (l2 << 3);
-                                                                                                                            const u32 t202 = load8(l8 - 8ull);
-                                                                                                                            const u32 t203 = load8(l8 - 16ull);
-                                                                                                                            if (t202 | t203) { v175 = 0u; goto L175; }
-                                                                                                                            l35 = l33 + l37;
-                                                                                                                            l8 = (u64)(l47 - l35);
-                                                                                                                            core_slice_edits_slice_T_copy_from_slice(e, l3 + (l8 << 3), l3 + (l11 << 3), 2ull);
-                                                                                                                            const u64 t204 = l8 - l11;
-                                                                                                                            l8 = l2 - 2ull;
-                                                                                                                            core_slice_edits_slice_T_copy_from_slice(e, l3 + ((t204 + l8) << 3), l3 + (l8 << 3), 2ull);
-                                                                                                                            goto L184;
-                                                                                                                        }
-                                                                                                                        L188:;
-                                                                                                                        L205:;
-                                                                                                                        {
-                                                                                                                            const u32 t206 = load8(l8 + 56ull);
-                                                                                                                            const u32 t207 = load8(l8 + 48ull);
-                                                                                                                            const u32 t208 = load8(l8 + 40ull);
-                                                                                                                            const u32 t209 = load8(l8 + 32ull);
-                                                                                                                            const u32 t210 = load8(l8 + 24ull);
-                                                                                                                            const u32 t211 = load8(l8 + 16ull);
-                                                                                                                            const u32 t212 = load8(l8 + 8ull);
-                                                                                                                            const u32 t213 = load8(l8);
-                                                                                                                            if ((t206 | ((t207 + (t208 + (t209 + (t210 + (t211 + (t212 + t213)))))) & 255u)) == 0) {
-                                                                                                                                l8 = l8 + 64ull;
-                                                                                                                                l2 = l2 - 8ull;
-                                                                                                                                if (l2 >= 9ull) goto L205;
-                                                                                                                                goto L187;
-                                                                                                                            }
-                                                                                                                        }
-                                                                                                                        l35 = 0u;
-                                                                                                                        v175 = 0u; goto L175;
-                                                                                                                    }
-                                                                                                                    L187:;
-                                                                                                                    l35 = 0u;
-                                                                                                                    l2 = l1 + l11;
-                                                                                                                    l8 = l3 + (l2 << 3);
-                                                                                                                    const u32 t215 = load8(l8 - 56ull);
-                                                                                                                    const u32 t216 = load8(l8 - 64ull);
-                                                                                                                    const u32 t217 = load8(l8 - 48ull);
-                                                                                                                    const u32 t218 = load8(l8 - 40ull);
-                                                                                                                    const u32 t219 = load8(l8 - 32ull);
-                                                                                                                    const u32 t220 = load8(l8 - 24ull);
-                                                                                                                    const u32 t221 = load8(l8 - 16ull);
-                                                                                                                    const u32 t222 = load8(l8 - 8ull);
-                                                                                                                    if ((((((((t215 + t216) + t217) + t218) + t219) + t220) + t221) & 255u) | t222) { v175 = 0u; goto L175; }
-                                                                                                                    l35 = l33 + l37;
-                                                                                                                    l19 = (u64)(l47 - l35);
-                                                                                                                    if (l33 > 24u) goto L185;
-                                                                                                                    if (l33 != 8u) {
-                                                                                                                        l23 = l19 << 3;
-                                                                                                                        l24 = l11 << 3;
-                                                                                                                        l25 = (l19 - l11) & 2305843009213693944ull;
-                                                                                                                        l6 = l1;
-                                                                                                                        l4 = l3;
-                                                                                                                        L224:;
-                                                                                                                        {
-                                                                                                                            l8 = l4 + l24;
-                                                                                                                            l2 = l4 + l23;
                                                                                                                             {
-                                                                                                                                if (l25 == 0) {
-                                                                                                                                    const u32 t227 = load8(l8);
-                                                                                                                                    store8(l2, (u8)t227);
-                                                                                                                                    const u32 t228 = load8(l8 + 1ull);
-                                                                                                                                    store8(l2 + 1ull, (u8)t228);
-                                                                                                                                    const u32 t229 = load32(l8 + 4ull);
-                                                                                                                                    store32(l2 + 4ull, t229);
-                                                                                                                                    const u32 t230 = load16(l8 + 8ull);
-                                                                                                                                    store16(l2 + 8ull, (u16)t230);
-                                                                                                                                    const u32 t231 = load32(l8 + 12ull);
-                                                                                                                                    store32(l2 + 12ull, t231);
-                                                                                                                                    const u32 t232 = load16(l8 + 16ull);
-                                                                                                                                    store16(l2 + 16ull, (u16)t232);
-                                                                                                                                    const u32 t233 = load32(l8 + 20ull);
-                                                                                                                                    store32(l2 + 20ull, t233);
-                                                                                                                                    const u32 t234 = load16(l8 + 24ull);
-                                                                                                                                    store16(l2 + 24ull, (u16)t234);
-                                                                                                                                    const u32 t235 = load32(l8 + 28ull);
-                                                                                                                                    store32(l2 + 28ull, t235);
-                                                                                                                                    const u32 t236 = load16(l8 + 32ull);
-                                                                                                                                    store16(l2 + 32ull, (u16)t236);
-                                                                                                                                    const u32 t237 = load32(l8 + 36ull);
-                                                                                                                                    store32(l2 + 36ull, t237);
-                                                                                                                                    const u32 t238 = load16(l8 + 40ull);
-                                                                                                                                    store16(l2 + 40ull, (u16)t238);
-                                                                                                                                    const u32 t239 = load32(l8 + 44ull);
-                                                                                                                                    store32(l2 + 44ull, t239);
-                                                                                                                                    const u32 t240 = load16(l8 + 48ull);
-                                                                                                                                    store16(l2 + 48ull, (u16)t240);
-                                                                                                                                    const u32 t241 = load32(l8 + 52ull);
-                                                                                                                                    store32(l2 + 52ull, t241);
-                                                                                                                                    const u32 t242 = load16(l8 + 56ull);
-                                                                                                                                    l34 = t242;
-                                                                                                                                    const u32 t243 = load32(l8 + 60ull);
-                                                                                                                                    store32(l2 + 60ull, t243);
-                                                                                                                                    store16(l2 + 56ull, (u16)l34);
-                                                                                                                                    goto L225;
+                                                                                                                                if (l34 >= 8u) {
+                                                                                                                                    if (l34 == 8u) goto L261;
+                                                                                                                                    l9 = l3 + (l11 << 3);
+                                                                                                                                    l2 = l1;
+                                                                                                                                    goto L262;
                                                                                                                                 }
-                                                                                                                                const u64 t244 = load64(l8);
-                                                                                                                                l26 = t244;
-                                                                                                                                const u64 t245 = load64(l8 + 8u);
-                                                                                                                                l27 = t245;
-                                                                                                                                const u64 t246 = load64(l8 + 16u);
-                                                                                                                                l28 = t246;
-                                                                                                                                const u64 t247 = load64(l8 + 24u);
-                                                                                                                                l29 = t247;
-                                                                                                                                const u64 t248 = load64(l8 + 32u);
-                                                                                                                                l30 = t248;
-                                                                                                                                const u64 t249 = load64(l8 + 40u);
-                                                                                                                                l31 = t249;
-                                                                                                                                const u64 t250 = load64(l8 + 48u);
-                                                                                                                                l32 = t250;
-                                                                                                                                const u64 t251 = load64(l8 + 56u);
-                                                                                                                                store64(l2 + 56u, t251);
-                                                                                                                                store64(l2 + 48u, l32);
-                                                                                                                                store64(l2 + 40u, l31);
-                                                                                                                                store64(l2 + 32u, l30);
-                                                                                                                                store64(l2 + 24u, l29);
-                                                                                                                                store64(l2 + 16u, l28);
-                                                                                                                                store64(l2 + 8u, l27);
-                                                                                                                                store64(l2, l26);
+                                                                                                                                if (l34 >= 4u) {
+                                                                                                                                    l36 = 0u;
+                                                                                                                                    l9 = l3 + (l11 << 3);
+                                                                                                                                    const u32 t265 = load8(l9 + 24ull);
+                                                                                                                                    const u32 t266 = load8(l9 + 16ull);
+                                                                                                                                    const u32 t267 = load8(l9 + 8ull);
+                                                                                                                                    const u32 t268 = load8(l9);
+                                                                                                                                    if (((t265 + t266) | (t267 + t268)) & 255u) { v249 = 0u; goto L249; }
+                                                                                                                                    l2 = l1 + l11;
+                                                                                                                                    l9 = l3 + (l2 << 3);
+                                                                                                                                    const u32 t269 = load8(l9 - 8ull);
+                                                                                                                                    const u32 t270 = load8(l9 - 16ull);
+                                                                                                                                    const u32 t271 = load8(l9 - 24ull);
+                                                                                                                                    const u32 t272 = load8(l9 - 32ull);
+                                                                                                                                    if (((t269 + t270) | (t271 + t272)) & 255u) { v249 = 0u; goto L249; }
+                                                                                                                                    l36 = l34 + l43;
+                                                                                                                                    l9 = (u64)(l46 - l36);
+                                                                                                                                    core_slice_edits_slice_T_copy_from_slice(e, l3 + (l9 << 3), l3 + (l11 << 3), 4ull);
+                                                                                                                                    const u64 t273 = l9 - l11;
+                                                                                                                                    l9 = l2 - 4ull;
+                                                                                                                                    core_slice_edits_slice_T_copy_from_slice(e, l3 + ((t273 + l9) << 3), l3 + (l9 << 3), 4ull);
+                                                                                                                                    goto L258;
+                                                                                                                                }
+                                                                                                                                l9 = l3 + (l11 << 3);
+                                                                                                                                const u32 t274 = load8(l9);
+                                                                                                                                l38 = t274;
+                                                                                                                                if (l34 < 2u) goto L260;
+                                                                                                                                l36 = 0u;
+                                                                                                                                const u32 t275 = load8(l9 + 8ull);
+                                                                                                                                if (t275 | (l38 & 255u)) { v249 = 0u; goto L249; }
+                                                                                                                                l2 = l1 + l11;
+                                                                                                                                l9 = l3 + (l2 << 3);
+                                                                                                                                const u32 t276 = load8(l9 - 8ull);
+                                                                                                                                const u32 t277 = load8(l9 - 16ull);
+                                                                                                                                if (t276 | t277) { v249 = 0u; goto L249; }
+                                                                                                                                l36 = l34 + l43;
+                                                                                                                                l9 = (u64)(l46 - l36);
+                                                                                                                                core_slice_edits_slice_T_copy_from_slice(e, l3 + (l9 << 3), l3 + (l11 << 3), 2ull);
+                                                                                                                                const u64 t278 = l9 - l11;
+                                                                                                                                l9 = l2 - 2ull;
+                                                                                                                                core_slice_edits_slice_T_copy_from_slice(e, l3 + ((t278 + l9) << 3), l3 + (l9 << 3), 2ull);
+                                                                                                                                goto L258;
                                                                                                                             }
-                                                                                                                            L225:;
-                                                                                                                            l4 = l4 + 64ull;
-                                                                                                                            l6 = l6 - 8ull;
-                                                                                                                            if (l6 > 8ull) goto L224;
+                                                                                                                            L262:;
+                                                                                                                            L279:;
+                                                                                                                            {
+                                                                                                                                const u32 t280 = load8(l9 + 56ull);
+                                                                                                                                const u32 t281 = load8(l9 + 48ull);
+                                                                                                                                const u32 t282 = load8(l9 + 40ull);
+                                                                                                                                const u32 t283 = load8(l9 + 32ull);
+                                                                                                                                const u32 t284 = load8(l9 + 24ull);
+                                                                                                                                const u32 t285 = load8(l9 + 16ull);
+                                                                                                                                const u32 t286 = load8(l9 + 8ull);
+                                                                                                                                const u32 t287 = load8(l9);
+                                                                                                                                if ((t280 | ((t281 + (t282 + (t283 + (t284 + (t285 + (t286 + t287)))))) & 255u)) == 0) {
+                                                                                                                                    l9 = l9 + 64ull;
+                                                                                                                                    l2 = l2 - 8ull;
+                                                                                                                                    if (l2 >= 9ull) goto L279;
+                                                                                                                                    goto L261;
+                                                                                                                                }
+                                                                                                                            }
+                                                                                                                            l36 = 0u;
+                                                                                                                            v249 = 0u; goto L249;
                                                                                                                         }
+                                                                                                                        L261:;
+                                                                                                                        l36 = 0u;
+                                                                                                                        l2 = l1 + l11;
+                                                                                                                        l9 = l3 + (l2 << 3);
+                                                                                                                        const u32 t289 = load8(l9 - 56ull);
+                                                                                                                        const u32 t290 = load8(l9 - 64ull);
+                                                                                                                        const u32 t291 = load8(l9 - 48ull);
+                                                                                                                        const u32 t292 = load8(l9 - 40ull);
+                                                                                                                        const u32 t293 = load8(l9 - 32ull);
+                                                                                                                        const u32 t294 = load8(l9 - 24ull);
+                                                                                                                        const u32 t295 = load8(l9 - 16ull);
+                                                                                                                        const u32 t296 = load8(l9 - 8ull);
+                                                                                                                        if ((((((((t289 + t290) + t291) + t292) + t293) + t294) + t295) & 255u) | t296) { v249 = 0u; goto L249; }
+                                                                                                                        l36 = l34 + l43;
+                                                                                                                        l18 = (u64)(l46 - l36);
+                                                                                                                        if (l34 > 24u) goto L259;
+                                                                                                                        if (l34 != 8u) {
+                                                                                                                            l24 = l18 << 3;
+                                                                                                                            l25 = l11 << 3;
+                                                                                                                            l26 = (l18 - l11) & 2305843009213693944ull;
+                                                                                                                            l7 = l1;
+                                                                                                                            l6 = l3;
+                                                                                                                            L298:;
+                                                                                                                            {
+                                                                                                                                l9 = l6 + l25;
+                                                                                                                                l2 = l6 + l24;
+                                                                                                                                {
+                                                                                                                                    if (l26 == 0) {
+                                                                                                                                        const u32 t301 = load8(l9);
+                                                                                                                                        store8(l2, (u8)t301);
+                                                                                                                                        const u32 t302 = load8(l9 + 1ull);
+                                                                                                                                        store8(l2 + 1ull, (u8)t302);
+                                                                                                                                        const u32 t303 = load32(l9 + 4ull);
+                                                                                                                                        store32(l2 + 4ull, t303);
+                                                                                                                                        const u32 t304 = load16(l9 + 8ull);
+                                                                                                                                        store16(l2 + 8ull, (u16)t304);
+                                                                                                                                        const u32 t305 = load32(l9 + 12ull);
+                                                                                                                                        store32(l2 + 12ull, t305);
+                                                                                                                                        const u32 t306 = load16(l9 + 16ull);
+                                                                                                                                        store16(l2 + 16ull, (u16)t306);
+                                                                                                                                        const u32 t307 = load32(l9 + 20ull);
+                                                                                                                                        store32(l2 + 20ull, t307);
+                                                                                                                                        const u32 t308 = load16(l9 + 24ull);
+                                                                                                                                        store16(l2 + 24ull, (u16)t308);
+                                                                                                                                        const u32 t309 = load32(l9 + 28ull);
+                                                                                                                                        store32(l2 + 28ull, t309);
+                                                                                                                                        const u32 t310 = load16(l9 + 32ull);
+                                                                                                                                        store16(l2 + 32ull, (u16)t310);
+                                                                                                                                        const u32 t311 = load32(l9 + 36ull);
+                                                                                                                                        store32(l2 + 36ull, t311);
+                                                                                                                                        const u32 t312 = load16(l9 + 40ull);
+                                                                                                                                        store16(l2 + 40ull, (u16)t312);
+                                                                                                                                        const u32 t313 = load32(l9 + 44ull);
+                                                                                                                                        store32(l2 + 44ull, t313);
+                                                                                                                                        const u32 t314 = load16(l9 + 48ull);
+                                                                                                                                        store16(l2 + 48ull, (u16)t314);
+                                                                                                                                        const u32 t315 = load32(l9 + 52ull);
+                                                                                                                                        store32(l2 + 52ull, t315);
+                                                                                                                                        const u32 t316 = load16(l9 + 56ull);
+                                                                                                                                        l35 = t316;
+                                                                                                                                        const u32 t317 = load32(l9 + 60ull);
+                                                                                                                                        store32(l2 + 60ull, t317);
+                                                                                                                                        store16(l2 + 56ull, (u16)l35);
+                                                                                                                                        goto L299;
+                                                                                                                                    }
+                                                                                                                                    const u64 t318 = load64(l9);
+                                                                                                                                    l27 = t318;
+                                                                                                                                    const u64 t319 = load64(l9 + 8u);
+                                                                                                                                    l28 = t319;
+                                                                                                                                    const u64 t320 = load64(l9 + 16u);
+                                                                                                                                    l29 = t320;
+                                                                                                                                    const u64 t321 = load64(l9 + 24u);
+                                                                                                                                    l30 = t321;
+                                                                                                                                    const u64 t322 = load64(l9 + 32u);
+                                                                                                                                    l31 = t322;
+                                                                                                                                    const u64 t323 = load64(l9 + 40u);
+                                                                                                                                    l32 = t323;
+                                                                                                                                    const u64 t324 = load64(l9 + 48u);
+                                                                                                                                    l33 = t324;
+                                                                                                                                    const u64 t325 = load64(l9 + 56u);
+                                                                                                                                    store64(l2 + 56u, t325);
+                                                                                                                                    store64(l2 + 48u, l33);
+                                                                                                                                    store64(l2 + 40u, l32);
+                                                                                                                                    store64(l2 + 32u, l31);
+                                                                                                                                    store64(l2 + 24u, l30);
+                                                                                                                                    store64(l2 + 16u, l29);
+                                                                                                                                    store64(l2 + 8u, l28);
+                                                                                                                                    store64(l2, l27);
+                                                                                                                                }
+                                                                                                                                L299:;
+                                                                                                                                l6 = l6 + 64ull;
+                                                                                                                                l7 = l7 - 8ull;
+                                                                                                                                if (l7 > 8ull) goto L298;
+                                                                                                                            }
+                                                                                                                        }
+                                                                                                                        l9 = l1 - 8ull;
+                                                                                                                        core_slice_edits_slice_T_copy_from_slice(e, l3 + ((l9 + l18) << 3), l3 + ((l9 + l11) << 3), 8ull);
+                                                                                                                        store32(l4 + 24ull, l36);
+                                                                                                                        goto L257;
                                                                                                                     }
-                                                                                                                    l8 = l1 - 8ull;
-                                                                                                                    core_slice_edits_slice_T_copy_from_slice(e, l3 + ((l8 + l19) << 3), l3 + ((l8 + l11) << 3), 8ull);
-                                                                                                                    store32(l9 + 24ull, l35);
-                                                                                                                    goto L183;
+                                                                                                                    L260:;
+                                                                                                                    l36 = 0u;
+                                                                                                                    if (l38 & 255u) { v249 = 0u; goto L249; }
+                                                                                                                    l36 = l34 + l43;
+                                                                                                                    if (l34 != 1u) goto L258;
+                                                                                                                    l9 = l3 + ((u64)(l46 - l36) << 3);
+                                                                                                                    l2 = l3 + (l11 << 3);
+                                                                                                                    const u32 t326 = load16(l2);
+                                                                                                                    store16(l9, (u16)t326);
+                                                                                                                    const u32 t327 = load32(l2 + 4ull);
+                                                                                                                    store32(l9 + 4ull, t327);
+                                                                                                                    goto L258;
                                                                                                                 }
-                                                                                                                L186:;
-                                                                                                                l35 = 0u;
-                                                                                                                if (l38 & 255u) { v175 = 0u; goto L175; }
-                                                                                                                l35 = l33 + l37;
-                                                                                                                if (l33 != 1u) goto L184;
-                                                                                                                l8 = l3 + ((u64)(l47 - l35) << 3);
-                                                                                                                l2 = l3 + (l11 << 3);
-                                                                                                                const u32 t252 = load16(l2);
-                                                                                                                store16(l8, (u16)t252);
-                                                                                                                const u32 t253 = load32(l2 + 4ull);
-                                                                                                                store32(l8 + 4ull, t253);
-                                                                                                                goto L184;
+                                                                                                                L259:;
+                                                                                                                space_copies_copy_long(e, l3, l11, l2, l18);
                                                                                                             }
-                                                                                                            L185:;
-                                                                                                            space_copies_copy_long(e, l3, l11, l2, l19);
+                                                                                                            L258:;
+                                                                                                            store32(l4 + 24ull, l36);
                                                                                                         }
-                                                                                                        L184:;
-                                                                                                        store32(l9 + 24ull, l35);
+                                                                                                        L257:;
+                                                                                                        l36 = 1u;
+                                                                                                        v249 = l34;
                                                                                                     }
-                                                                                                    L183:;
-                                                                                                    l35 = 1u;
-                                                                                                    v175 = l33;
+                                                                                                    L249:;
+                                                                                                    l35 = v249;
+                                                                                                    if ((l36 & 255u) != 1u) goto L218;
                                                                                                 }
-                                                                                                L175:;
-                                                                                                l34 = v175;
-                                                                                                if ((l35 & 255u) != 1u) goto L144;
+                                                                                                store32(l8 + 124u, l35);
+                                                                                                store16(l8 + 120u, (u16)2u);
+                                                                                                goto L54;
                                                                                             }
-                                                                                            store32(l7 + 108u, l34);
-                                                                                            store16(l7 + 104u, (u16)2u);
-                                                                                            goto L91;
+                                                                                            L218:;
+                                                                                            const u32 t328 = forms_work_Work_fill_body(e, l4, l44, l49, l48);
+                                                                                            l34 = t328;
+                                                                                            store32(l8 + 124u, 0u);
+                                                                                            store8(l8 + 121u, (u8)0u);
+                                                                                            store8(l8 + 120u, (u8)l34);
                                                                                         }
-                                                                                        L144:;
-                                                                                        const u32 t254 = forms_work_Work_fill_body(e, l9, l43, l49, l48);
-                                                                                        l33 = t254;
-                                                                                        store32(l7 + 108u, 0u);
-                                                                                        store8(l7 + 105u, (u8)0u);
-                                                                                        store8(l7 + 104u, (u8)l33);
+                                                                                        L54:;
+                                                                                        const u32 t329 = load32(l8 + 124u);
+                                                                                        l34 = t329;
+                                                                                        const u32 t330 = load8(l8 + 121u);
+                                                                                        l36 = t330;
+                                                                                        const u32 t331 = load8(l8 + 120u);
+                                                                                        l35 = t331;
                                                                                     }
-                                                                                    L91:;
-                                                                                    const u32 t255 = load32(l7 + 108u);
-                                                                                    l33 = t255;
-                                                                                    const u32 t256 = load8(l7 + 105u);
-                                                                                    l37 = t256;
-                                                                                    const u32 t257 = load8(l7 + 104u);
-                                                                                    l34 = t257;
-                                                                                    goto L53;
+                                                                                    L53:;
+                                                                                    store32(l8 + 116u, l34);
+                                                                                    store8(l8 + 113u, (u8)l36);
+                                                                                    store8(l8 + 112u, (u8)l35);
+                                                                                    goto L48;
                                                                                 }
-                                                                                L55:;
-                                                                                store16(l21, (u16)0u);
-                                                                                store8(l21 + 2u, (u8)0u);
-                                                                                store8(l7 + 180u, (u8)l38);
-                                                                                store32(l7 + 176u, l35);
-                                                                                store32(l7 + 172u, l40);
-                                                                                store32(l7 + 168u, l42);
-                                                                                functions_arguments_Arguments_next(e, l7 + 24ull, l7 + 168ull, l9);
-                                                                                const u32 t258 = load32(l7 + 28u);
-                                                                                l33 = t258;
-                                                                                const u32 t259 = load32(l7 + 24u);
-                                                                                l34 = t259;
-                                                                                store64(l7 + 160u, 0ull);
-                                                                                store64(l7 + 152u, 0ull);
-                                                                                store64(l7 + 144u, 0ull);
-                                                                                store64(l7 + 136u, 0ull);
-                                                                                store64(l7 + 128u, 0ull);
-                                                                                {
-                                                                                    {
-                                                                                        u32 v262;
-                                                                                        {
-                                                                                            const u32 t263 = load32(l9 + 40ull);
-                                                                                            l35 = t263;
-                                                                                            if (l35 >= 8u) {
-                                                                                                forms_work_Work_find_among_more(e, l7 + 8ull, l9, l34, l33);
-                                                                                                const u32 t265 = load8(l7 + 8u);
-                                                                                                l33 = t265;
-                                                                                                const u32 t266 = load32(l7 + 12u);
-                                                                                                v262 = t266; goto L262;
-                                                                                            }
-                                                                                            {
-                                                                                                if (l35 == 0) goto L267;
-                                                                                                const u64 t268 = load32(l8 + 4ull);
-                                                                                                l3 = (u64)(l33 + l36);
-                                                                                                l2 = (u64)(l34 + l36);
-                                                                                                if (t268 != (l3 - l2)) goto L267;
-                                                                                                l11 = 17ull - (l2 << 3);
-                                                                                                l2 = (l3 ^ 18446744073709551615ull) + l2;
-                                                                                                l8 = l8 + (l3 << 3);
-                                                                                                L269:;
-                                                                                                {
-                                                                                                    l2 = l2 + 1ull;
-                                                                                                    if (l2 == 0) goto L261;
-                                                                                                    l3 = l8 - 7ull;
-                                                                                                    l4 = l8 + l11;
-                                                                                                    l8 = l8 - 8ull;
-                                                                                                    const u32 t270 = load8(l4);
-                                                                                                    const u32 t271 = load8(l3);
-                                                                                                    if (t270 == t271) goto L269;
-                                                                                                }
-                                                                                            }
-                                                                                            L267:;
-                                                                                            forms_work_Work_find_among_few(e, l7 + 16ull, l9, l34, l33);
-                                                                                            const u32 t272 = load8(l7 + 16u);
-                                                                                            l33 = t272;
-                                                                                            const u32 t273 = load32(l7 + 20u);
-                                                                                            v262 = t273;
-                                                                                        }
-                                                                                        L262:;
-                                                                                        l34 = v262;
-                                                                                        if ((l33 & 255u) == 1u) goto L260;
-                                                                                        l37 = 0u;
-                                                                                        l34 = 3u;
-                                                                                        l33 = 0u;
-                                                                                        goto L53;
-                                                                                    }
-                                                                                    L261:;
-                                                                                    store64(l9 + 44ull, 0ull);
-                                                                                    l34 = 0u;
-                                                                                }
-                                                                                L260:;
-                                                                                forms_work_Work_stored(e, l7 + 128ull, l9, l34);
-                                                                                l33 = 0u;
-                                                                                const u32 t274 = core_display_show_form(e, l7 + 128ull, l15);
-                                                                                l34 = t274 & 255u;
-                                                                                l37 = l34 ? 5u : 0u;
-                                                                                l34 = l34 + 3u;
-                                                                                goto L53;
+                                                                                L52:;
+                                                                                l36 = 4u;
+                                                                                v49 = 4u; goto L49;
                                                                             }
-                                                                            L54:;
-                                                                            store16(l18, (u16)0u);
-                                                                            store8(l18 + 2u, (u8)0u);
-                                                                            store8(l7 + 140u, (u8)l38);
-                                                                            store32(l7 + 136u, l35);
-                                                                            store32(l7 + 132u, l40);
-                                                                            store32(l7 + 128u, l42);
-                                                                            functions_arguments_Arguments_next(e, l7, l7 + 128ull, l9);
-                                                                            l34 = 3u;
-                                                                            const u32 t275 = load32(l7 + 4u);
-                                                                            l35 = t275;
-                                                                            const u32 t276 = load32(l7);
-                                                                            l38 = t276;
-                                                                            if (l35 == l38) {
-                                                                                l37 = 0u;
-                                                                                goto L53;
-                                                                            }
-                                                                            l2 = (u64)(l36 + l38);
-                                                                            l8 = l8 + (l2 << 3);
-                                                                            {
-                                                                                l2 = (u64)(l35 + l36) - l2;
-                                                                                if (l2 < 16ull) {
-                                                                                    {
-                                                                                        L281:;
-                                                                                        {
-                                                                                            l35 = 0u;
-                                                                                            const u32 t282 = load8(l8);
-                                                                                            if (t282 == 0) {
-                                                                                                const u32 t284 = load8(l8 + 1ull);
-                                                                                                l35 = t284;
-                                                                                            }
-                                                                                            l3 = l15 + 16ull;
-                                                                                            const u64 t285 = load64(l3);
-                                                                                            l4 = t285;
-                                                                                            const u64 t286 = load64(l15 + 8ull);
-                                                                                            if (l4 >= t286) goto L280;
-                                                                                            const u64 t287 = load64(l15);
-                                                                                            store8(t287 + l4, (u8)l35);
-                                                                                            const u64 t288 = load64(l3);
-                                                                                            store64(l3, t288 + 1ull);
-                                                                                            l8 = l8 + 8ull;
-                                                                                            l2 = l2 - 1ull;
-                                                                                            if ((l2 == 0) == 0) goto L281;
-                                                                                        }
-                                                                                        l37 = 0u;
-                                                                                        goto L53;
-                                                                                    }
-                                                                                    L280:;
-                                                                                    l8 = l15 + 24ull;
-                                                                                    const u64 t289 = load64(l8);
-                                                                                    store64(l8, t289 + 1ull);
-                                                                                    goto L278;
-                                                                                }
-                                                                                {
-                                                                                    L291:;
-                                                                                    {
-                                                                                        l35 = 0u;
-                                                                                        const u32 t292 = load8(l8);
-                                                                                        if (t292 == 0) {
-                                                                                            const u32 t294 = load8(l8 + 1ull);
-                                                                                            l35 = t294;
-                                                                                        }
-                                                                                        l3 = l15 + 16ull;
-                                                                                        const u64 t295 = load64(l3);
-                                                                                        l4 = t295;
-                                                                                        const u64 t296 = load64(l15 + 8ull);
-                                                                                        if (l4 >= t296) goto L290;
-                                                                                        const u64 t297 = load64(l15);
-                                                                                        store8(t297 + l4, (u8)l35);
-                                                                                        const u64 t298 = load64(l3);
-                                                                                        store64(l3, t298 + 1ull);
-                                                                                        l8 = l8 + 8ull;
-                                                                                        l2 = l2 - 1ull;
-                                                                                        if ((l2 == 0) == 0) goto L291;
-                                                                                    }
-                                                                                    l37 = 0u;
-                                                                                    goto L53;
-                                                                                }
-                                                                                L290:;
-                                                                                l8 = l15 + 24ull;
-                                                                                const u64 t299 = load64(l8);
-                                                                                store64(l8, t299 + 1ull);
-                                                                            }
-                                                                            L278:;
-                                                                            l37 = 5u;
-                                                                            l34 = 4u;
+                                                                            L51:;
+                                                                            l36 = 0u;
+                                                                            v49 = 0u; goto L49;
                                                                         }
-                                                                        L53:;
-                                                                        switch ((u32)(((u64)l34 & 255ull)) - 1u) {
-                                                                        case 0: goto L25;
-                                                                        case 1: goto L49;
-                                                                        case 2: goto L49;
-                                                                        case 3: goto L27;
-                                                                        default: goto L29;
-                                                                        }
+                                                                        L50:;
+                                                                        l36 = 0u;
+                                                                        v49 = 1u;
                                                                     }
                                                                     L49:;
-                                                                    l44 = l44 + l45;
-                                                                    const u64 t300 = load64(l9);
-                                                                    const u32 t301 = load32(l9 + 16ull);
-                                                                    l45 = t301;
-                                                                    l8 = t300 + ((u64)l45 << 3);
-                                                                    {
-                                                                        {
-                                                                            const u32 t304 = load32(l9 + 32ull);
-                                                                            l36 = t304;
-                                                                            l40 = l36 <= l39;
-                                                                            if (l40) goto L303;
-                                                                            if ((l36 - l39) != 1u) goto L303;
-                                                                            const u32 t305 = load32((l8 + ((l13 << 3) & 34359738360ull)) + 4ull);
-                                                                            l36 = t305;
-                                                                            l40 = l36 ? (l46 - l36) : 0u;
-                                                                            goto L302;
-                                                                        }
-                                                                        L303:;
-                                                                        if (l40) {
-                                                                            l40 = l36;
-                                                                            goto L302;
-                                                                        }
-                                                                        L307:;
-                                                                        {
-                                                                            const u32 t308 = load32((l8 + ((u64)(l36 - 1u) << 3)) + 4ull);
-                                                                            l40 = t308;
-                                                                            l36 = l36 - l40;
-                                                                            l40 = l40 ? l36 : 0u;
-                                                                            if (l40 > l39) goto L307;
-                                                                        }
-                                                                    }
-                                                                    L302:;
-                                                                    store32(l9 + 20ull, l39);
-                                                                    store32(l9 + 32ull, l40);
-                                                                    l36 = l33 + l44;
-                                                                    goto L24;
+                                                                    l35 = v49;
+                                                                    store8(l8 + 113u, (u8)l36);
+                                                                    store8(l8 + 112u, (u8)l35);
+                                                                    l34 = 0u;
                                                                 }
                                                                 L48:;
-                                                                const u32 t309 = load8(l12 + 17ull);
-                                                                if (t309) {
-                                                                    l37 = 1u;
-                                                                    goto L27;
+                                                                switch ((u32)(((u64)l35 & 255ull)) - 1u) {
+                                                                case 0: goto L26;
+                                                                case 1: goto L47;
+                                                                case 2: goto L47;
+                                                                case 3: goto L27;
+                                                                default: goto L28;
                                                                 }
-                                                                {
-                                                                    {
-                                                                        const u64 t313 = load64(l12 + 8u);
-                                                                        l8 = t313;
-                                                                        if (l8 == 0) {
-                                                                            const u32 t315 = load8(l12 + 16ull);
-                                                                            if (t315) goto L312;
-                                                                            l37 = 1u;
-                                                                            store8(l12 + 17ull, (u8)1u);
-                                                                            goto L27;
-                                                                        }
-                                                                        store64(l12 + 8u, l8 - 1ull);
-                                                                        const u64 t316 = load64(l12);
-                                                                        l8 = t316;
-                                                                        store64(l12, l8 + 1ull);
-                                                                        const u32 t317 = load8(l8);
-                                                                        l33 = t317;
-                                                                        store64(l7 + 128u, 0ull);
-                                                                        store8(l7 + 129u, (u8)l33);
-                                                                        const u32 t318 = load32(l9 + 28ull);
-                                                                        l8 = l9 + 20ull;
-                                                                        const u32 t319 = load32(l8);
-                                                                        l44 = t319;
-                                                                        const u32 t320 = load32(l9 + 16ull);
-                                                                        l46 = l44 + t320;
-                                                                        const u32 t321 = load32(l9 + 24ull);
-                                                                        if (t318 == (l46 + t321)) goto L311;
-                                                                        l2 = l9 + 32ull;
-                                                                        const u32 t322 = load32(l2);
-                                                                        l34 = t322;
-                                                                        const u64 t323 = load64(l9);
-                                                                        l13 = t323 + ((u64)l46 << 3);
-                                                                        store8(l13, (u8)0u);
-                                                                        store32(l13 + 4ull, 0u);
-                                                                        store8(l13 + 1ull, (u8)l33);
-                                                                        store32(l8, l44 + 1u);
-                                                                        store32(l2, l34);
-                                                                        goto L25;
-                                                                    }
-                                                                    L312:;
-                                                                    l8 = l12 + 24ull;
-                                                                    const u64 t324 = load64(l8);
-                                                                    store64(l8, t324 + 1ull);
-                                                                    goto L28;
-                                                                }
-                                                                L311:;
-                                                                const u32 t325 = space_space_Space_push_in_way(e, l9, l7 + 128ull);
-                                                                if (t325) goto L25;
                                                             }
-                                                            L29:;
-                                                            l9 = l17 - l14;
-                                                            l37 = 2u;
-                                                            goto L26;
+                                                            L47:;
+                                                            l47 = l45 + l47;
+                                                            const u64 t332 = load64(l4);
+                                                            const u32 t333 = load32(l4 + 16ull);
+                                                            l45 = t333;
+                                                            l9 = t332 + ((u64)l45 << 3);
+                                                            {
+                                                                {
+                                                                    const u32 t336 = load32(l4 + 32ull);
+                                                                    l37 = t336;
+                                                                    l40 = l37 <= l39;
+                                                                    if (l40) goto L335;
+                                                                    if ((l37 - l39) != 1u) goto L335;
+                                                                    const u32 t337 = load32((l9 + ((l16 << 3) & 34359738360ull)) + 4ull);
+                                                                    l37 = t337;
+                                                                    l40 = l37 ? (l50 - l37) : 0u;
+                                                                    goto L334;
+                                                                }
+                                                                L335:;
+                                                                if (l40) {
+                                                                    l40 = l37;
+                                                                    goto L334;
+                                                                }
+                                                                L339:;
+                                                                {
+                                                                    const u32 t340 = load32((l9 + ((u64)(l37 - 1u) << 3)) + 4ull);
+                                                                    l40 = t340;
+                                                                    l37 = l37 - l40;
+                                                                    l40 = l40 ? l37 : 0u;
+                                                                    if (l40 > l39) goto L339;
+                                                                }
+                                                            }
+                                                            L334:;
+                                                            store32(l4 + 20ull, l39);
+                                                            store32(l4 + 32ull, l40);
+                                                            l37 = l34 + l47;
+                                                            goto L25;
                                                         }
                                                         L28:;
-                                                        l37 = 4u;
+                                                        l4 = l17 - l13;
+                                                        l36 = 2u;
+                                                        goto L10;
                                                     }
                                                     L27:;
-                                                    const u32 t326 = load32(l9 + 24ull);
-                                                    const u32 t327 = load32(l9 + 20ull);
-                                                    const u32 t328 = load32(l9 + 16ull);
-                                                    l36 = t326 + (t327 + t328);
-                                                    l9 = l17 - l14;
-                                                    l39 = 1u << (l37 & 31);
-                                                    if ((l39 & 3u) == 0) {
-                                                        if (l39 & 12u) goto L26;
-                                                        l41 = (l36 > l41) ? l36 : l41;
-                                                        goto L26;
-                                                    }
-                                                    l41 = (l36 > l41) ? l36 : l41;
-                                                    l9 = l9 + 1ull;
+                                                    const u32 t341 = load32(l4 + 24ull);
+                                                    const u32 t342 = load32(l4 + 20ull);
+                                                    const u32 t343 = load32(l4 + 16ull);
+                                                    l37 = t341 + (t342 + t343);
+                                                    l4 = l17 - l13;
+                                                    l39 = 1u << (l36 & 31);
+                                                    if (l39 & 3u) goto L15;
+                                                    if (l39 & 12u) goto L10;
+                                                    l41 = (l37 > l41) ? l37 : l41;
+                                                    goto L10;
                                                 }
                                                 L26:;
-                                                store32(l16 + 20u, 0u);
-                                                store32(l16 + 16u, l41);
-                                                store64(l16 + 8u, l9);
-                                                store64(l16, (u64)l37 & 255ull);
-                                                goto L14;
+                                                l9 = l4 + 20ull;
+                                                const u32 t344 = load32(l9);
+                                                l34 = t344;
+                                                core_delivery_deliver(e, l4, l39, l40);
+                                                l37 = l34 + (l37 + l45);
+                                                const u32 t345 = load32(l9);
+                                                l39 = t345;
+                                                const u32 t346 = load32(l4 + 16ull);
+                                                l45 = t346;
                                             }
                                             L25:;
-                                            l8 = l9 + 20ull;
-                                            const u32 t330 = load32(l8);
-                                            l33 = t330;
-                                            core_delivery_deliver(e, l9, l39, l40);
-                                            l36 = l33 + (l36 + l45);
-                                            const u32 t331 = load32(l8);
-                                            l39 = t331;
-                                            const u32 t332 = load32(l9 + 16ull);
-                                            l45 = t332;
+                                            store32(l8 + 88u, 0u);
+                                            store32(l8 + 92u, l39);
+                                            const u32 t347 = load32(l4 + 24ull);
+                                            l39 = t347 + (l39 + l45);
+                                            l41 = (l37 > l41) ? l37 : l41;
+                                            v21 = l13 - 1ull;
                                         }
-                                        L24:;
-                                        store32(l7 + 96u, 0u);
-                                        store32(l7 + 100u, l39);
-                                        const u32 t333 = load32(l9 + 24ull);
-                                        l39 = t333 + (l39 + l45);
-                                        l41 = (l36 > l41) ? l36 : l41;
-                                        v20 = l14 - 1ull;
+                                        L21:;
+                                        l13 = v21;
+                                        if (l13 != 0ull) goto L20;
                                     }
-                                    L20:;
-                                    l14 = v20;
-                                    if (l14 != 0ull) goto L19;
                                 }
+                                store32(l15 + 20u, 0u);
+                                store32(l15 + 16u, l41);
+                                store64(l15 + 8u, l17);
+                                store64(l15, 3ull);
+                                goto L9;
                             }
-                            store32(l16 + 20u, 0u);
-                            store32(l16 + 16u, l41);
-                            store64(l16 + 8u, l17);
-                            store64(l16, 3ull);
+                            L15:;
+                            l41 = (l37 > l41) ? l37 : l41;
+                            l4 = l4 + 1ull;
+                            goto L10;
                         }
-                        L14:;
-                        e->stack_pointer = l7 + 192ull;
-                        goto L9;
+                        trap();
                     }
-                    trap();
+                    L10:;
+                    store32(l15 + 20u, 0u);
+                    store32(l15 + 16u, l41);
+                    store64(l15 + 8u, l4);
+                    store64(l15, (u64)l36 & 255ull);
                 }
                 L9:;
-                const u32 t334 = load8(l10 + 160u);
-                l34 = t334;
-                const u32 t335 = load32(l10 + 176u);
-                l33 = t335;
-                const u64 t336 = load64(l10 + 168u);
-                l8 = t336;
-                const u64 t337 = load64(l10 + 24u);
-                l6 = t337;
-                const u64 t338 = load64(l10 + 48u);
-                l4 = t338;
+                e->stack_pointer = l8 + 208ull;
+                const u32 t348 = load8(l10 + 160u);
+                l35 = t348;
+                const u32 t349 = load32(l10 + 176u);
+                l34 = t349;
+                const u64 t350 = load64(l10 + 168u);
+                l8 = t350;
+                const u64 t351 = load64(l10 + 24u);
+                l6 = t351;
+                const u64 t352 = load64(l10 + 48u);
+                l4 = t352;
                 store64(l0 + 32u, 0ull);
                 l4 = l5 - l4;
                 store64(l0 + 24u, (l4 > l5) ? 0ull : l4);
                 store64(l0 + 16u, l6);
                 store64(l0 + 8u, l8);
-                store32(l0 + 4u, l33);
-                store32(l0, l34 + 1u);
+                store32(l0 + 4u, l34);
+                store32(l0, l35 + 1u);
             }
             L3:;
             e->stack_pointer = l10 + 208ull;
@@ -19229,47 +19287,47 @@ static void engine_turn(struct engine *e, u64 l0, u64 l1, u64 l2, u64 l3, u64 l4
     l28 = l1;
     l32 = l2;
     l24 = l6;
-    l26 = e->stack_pointer - 224ull;
+    l26 = e->stack_pointer - 208ull;
     e->stack_pointer = l26;
     {
         if ((i64)(l26 - e->stack) >= (i64)16ull) {
-            store64(l26 + 104u, 0ull);
-            store64(l26 + 96u, l3);
-            store64(l26 + 112u, 0ull);
+            store64(l26 + 88u, 0ull);
+            store64(l26 + 80u, l3);
+            store64(l26 + 96u, 0ull);
+            store64(l26 + 48u, 0ull);
+            store64(l26 + 40u, l5);
+            store64(l26 + 56u, 0ull);
             store64(l26 + 64u, 0ull);
-            store64(l26 + 56u, l5);
-            store64(l26 + 72u, 0ull);
-            store64(l26 + 80u, 0ull);
-            store64(l26 + 88u, l32 + ((l32 == 0) ? 4096ull : 0ull));
-            store64(l26 + 48u, l4 + ((l4 == 0) ? 4096ull : 0ull));
+            store64(l26 + 72u, l32 + ((l32 == 0) ? 4096ull : 0ull));
+            store64(l26 + 32u, l4 + ((l4 == 0) ? 4096ull : 0ull));
             {
                 if (l7 == 0) goto L3;
                 l40 = l28 + 56ull;
-                l43 = l26 + 197ull;
-                l44 = l26 + 181ull;
-                l45 = l26 + 133ull;
+                l43 = l26 + 181ull;
+                l44 = l26 + 165ull;
+                l45 = l26 + 117ull;
                 l4 = 0ull;
                 L4:;
                 {
-                    store64(l26 + 160u, 0ull);
+                    store64(l26 + 144u, 0ull);
+                    store64(l26 + 104u, 0ull);
+                    store64(l26 + 112u, 0ull);
                     store64(l26 + 120u, 0ull);
-                    store64(l26 + 128u, 0ull);
-                    store64(l26 + 136u, 0ull);
                     l5 = l28 + 84ull;
                     const u32 t5 = load8(l5);
                     u64 v6;
                     if (t5 != 1u) {
                         l32 = l28 + 80ull;
                         const u32 t7 = load32(l32);
-                        store32(l26 + 160u, t7);
+                        store32(l26 + 144u, t7);
                         l41 = l28 + 72ull;
                         const u64 t8 = load64(l41);
-                        store64(l26 + 152u, t8);
+                        store64(l26 + 136u, t8);
                         const u64 t9 = load64(l28 + 64ull);
-                        store64(l26 + 144u, t9);
-                        l35 = l26 + 120ull;
+                        store64(l26 + 128u, t9);
+                        l35 = l26 + 104ull;
                         l1 = l28;
-                        l30 = l26 + 144ull;
+                        l30 = l26 + 128ull;
                         l29 = l7 - l4;
                         l27 = e->stack_pointer - 160ull;
                         e->stack_pointer = l27;
@@ -19990,13 +20048,13 @@ static void engine_turn(struct engine *e, u64 l0, u64 l1, u64 l2, u64 l3, u64 l4
                         }
                         L10:;
                         e->stack_pointer = l27 + 160ull;
-                        const u64 t204 = load64(l26 + 128u);
+                        const u64 t204 = load64(l26 + 112u);
                         store64(l41, t204);
-                        const u32 t205 = load32(l26 + 136u);
+                        const u32 t205 = load32(l26 + 120u);
                         store32(l32, t205);
-                        const u32 t206 = load16(l26 + 140u);
+                        const u32 t206 = load16(l26 + 124u);
                         store16(l5, (u16)t206);
-                        const u64 t207 = load64(l26 + 120u);
+                        const u64 t207 = load64(l26 + 104u);
                         v6 = t207;
                     } else {
                         v6 = 0ull;
@@ -20005,9 +20063,9 @@ static void engine_turn(struct engine *e, u64 l0, u64 l1, u64 l2, u64 l3, u64 l4
                     if (l41 == l7) goto L3;
                     {
                         if (l24) goto L208;
-                        const u64 t209 = load64(l26 + 96u);
+                        const u64 t209 = load64(l26 + 80u);
                         l30 = t209;
-                        const u64 t210 = load64(l26 + 88u);
+                        const u64 t210 = load64(l26 + 72u);
                         l2 = t210;
                         {
                             {
@@ -20565,40 +20623,36 @@ static void engine_turn(struct engine *e, u64 l0, u64 l1, u64 l2, u64 l3, u64 l4
                                                                             l8 = t426;
                                                                             if (l8 == 0) goto L419;
                                                                             l8 = l8 - (l8 != 0u);
-                                                                            const u64 t427 = load64(l26 + 56u);
-                                                                            const u64 t428 = load64(l26 + 64u);
+                                                                            const u64 t427 = load64(l26 + 40u);
+                                                                            const u64 t428 = load64(l26 + 48u);
                                                                             l30 = t427 - t428;
                                                                             const u32 t429 = load32(l28 + 20ull);
                                                                             l6 = t429;
                                                                             if (l30 >= (u64)l6) {
-                                                                                store32(l26 + 152u, l6);
-                                                                                store32(l26 + 148u, l6);
-                                                                                store32(l26 + 156u, 0u);
-                                                                                store32(l26 + 144u, l8 + 1u);
-                                                                                functions_arguments_Arguments_next(e, l26 + 40ull, l26 + 144ull, l28);
                                                                                 const u32 t431 = load32(l28 + 16ull);
-                                                                                l6 = t431;
-                                                                                const u32 t432 = load32(l26 + 44u);
-                                                                                l9 = t432;
-                                                                                const u32 t433 = load32(l26 + 40u);
-                                                                                l13 = t433;
-                                                                                store8(l26 + 122u, (u8)0u);
-                                                                                store16(l26 + 120u, (u16)0u);
-                                                                                l2 = (u64)(l6 + l13);
-                                                                                if (((u64)(l6 + l9) - l2) != 2ull) goto L419;
+                                                                                l9 = t431;
+                                                                                store8(l26 + 130u, (u8)0u);
+                                                                                store16(l26 + 128u, (u16)0u);
+                                                                                l2 = (u64)(((l8 + l9) + 1u));
+                                                                                l1 = (u64)(l6 + l9) - l2;
+                                                                                if (l1 < 2ull) goto L419;
                                                                                 l5 = l5 + (l2 << 3);
-                                                                                functions_function_function_of(e, l26 + 120ull, l5, l5 + 8ull);
-                                                                                const u32 t434 = load8(l26 + 120u);
-                                                                                if (t434 == 0) goto L419;
-                                                                                const u32 t435 = load8(l26 + 121u);
+                                                                                if (l1 != 2ull) {
+                                                                                    const u32 t433 = load8(l5 + 16ull);
+                                                                                    if (t433 != 2u) goto L419;
+                                                                                }
+                                                                                functions_function_function_of(e, l26 + 128ull, l5, l5 + 8ull);
+                                                                                const u32 t434 = load8(l26 + 128u);
+                                                                                if (t434 != 1u) goto L419;
+                                                                                const u32 t435 = load8(l26 + 129u);
                                                                                 if (t435 != 10u) goto L419;
                                                                             }
                                                                             const u32 t436 = core_machine_printing_call_len(e, l28, l8);
-                                                                            l8 = t436;
+                                                                            l6 = t436;
                                                                             const u32 t437 = load8(l28 + 84ull);
-                                                                            l6 = t437;
-                                                                            if (l30 < (u64)l8) goto L418;
-                                                                            if ((l6 & 255u) == 1u) goto L416;
+                                                                            l8 = t437;
+                                                                            if (l30 < (u64)l6) goto L418;
+                                                                            if ((l8 & 255u) == 1u) goto L416;
                                                                             const u64 t438 = load64(l28 + 64ull);
                                                                             l32 = t438;
                                                                             const u64 t439 = load64(l28 + 72ull);
@@ -20615,16 +20669,16 @@ static void engine_turn(struct engine *e, u64 l0, u64 l1, u64 l2, u64 l3, u64 l4
                                                                         const u32 t442 = load32(l28 + 16ull);
                                                                         l9 = t442;
                                                                         const u32 t443 = load32(l28 + 20ull);
-                                                                        l13 = t443;
-                                                                        store32(l26 + 184u, l13);
+                                                                        l14 = t443;
+                                                                        store32(l26 + 168u, l14);
                                                                         l6 = 0u;
-                                                                        store32(l26 + 168u, 0u);
-                                                                        store64(l26 + 152u, 0ull);
-                                                                        store64(l26 + 144u, 0ull);
-                                                                        core_scan_pass(e, l26 + 144ull, l28, 1ull, l26 + 184ull, l26 + 168ull);
-                                                                        const u32 t444 = load8(l26 + 144u);
+                                                                        store32(l26 + 152u, 0u);
+                                                                        store64(l26 + 136u, 0ull);
+                                                                        store64(l26 + 128u, 0ull);
+                                                                        core_scan_pass(e, l26 + 128ull, l28, 1ull, l26 + 168ull, l26 + 152ull);
+                                                                        const u32 t444 = load8(l26 + 128u);
                                                                         if (t444 == 1u) {
-                                                                            const u32 t446 = load8(l26 + 148u);
+                                                                            const u32 t446 = load8(l26 + 132u);
                                                                             if (t446 == 0) {
                                                                                 l9 = 0u;
                                                                                 store32(l28 + 32ull, 0u);
@@ -20657,30 +20711,30 @@ static void engine_turn(struct engine *e, u64 l0, u64 l1, u64 l2, u64 l3, u64 l4
                                                                                 l8 = t457 + (t458 + l8);
                                                                                 goto L408;
                                                                             }
-                                                                            const u64 t459 = load64(l26 + 152u);
+                                                                            const u64 t459 = load64(l26 + 136u);
                                                                             l32 = t459;
                                                                             l4 = l28 + 24ull;
                                                                             const u32 t460 = load32(l4);
                                                                             l19 = t460 - 1u;
                                                                             store32(l4, l19);
                                                                             const u32 t461 = load32(l28 + 20ull);
-                                                                            l13 = t461;
+                                                                            l14 = t461;
                                                                             const u32 t462 = load32(l28 + 16ull);
                                                                             l8 = t462;
-                                                                            store64(l26 + 200u, 0ull);
                                                                             store64(l26 + 184u, 0ull);
-                                                                            store64(l26 + 192u, 0ull);
                                                                             store64(l26 + 168u, 0ull);
                                                                             store64(l26 + 176u, 0ull);
+                                                                            store64(l26 + 152u, 0ull);
+                                                                            store64(l26 + 160u, 0ull);
                                                                             const u64 t463 = load64(l28);
                                                                             l4 = t463;
                                                                             l9 = (u32)l32;
                                                                             const u32 t464 = load8((l4 + ((u64)(l8 + l9) << 3)) + 1ull);
                                                                             l6 = t464;
-                                                                            store8(l26 + 146u, (u8)0u);
-                                                                            store16(l26 + 144u, (u16)0u);
+                                                                            store8(l26 + 130u, (u8)0u);
+                                                                            store16(l26 + 128u, (u16)0u);
                                                                             {
-                                                                                l20 = l8 + l13;
+                                                                                l20 = l8 + l14;
                                                                                 l21 = l9 + 1u;
                                                                                 l5 = (u64)(l8 + l21);
                                                                                 l30 = (u64)l20 - l5;
@@ -20690,8 +20744,8 @@ static void engine_turn(struct engine *e, u64 l0, u64 l1, u64 l2, u64 l3, u64 l4
                                                                                     const u32 t467 = load8(l5 + 16ull);
                                                                                     if (t467 != 2u) goto L465;
                                                                                 }
-                                                                                functions_function_function_of(e, l26 + 144ull, l5, l5 + 8ull);
-                                                                                const u32 t468 = load8(l26 + 144u);
+                                                                                functions_function_function_of(e, l26 + 128ull, l5, l5 + 8ull);
+                                                                                const u32 t468 = load8(l26 + 128u);
                                                                                 if (t468 != 1u) goto L465;
                                                                                 l10 = (u32)(l32 >> 32);
                                                                                 l6 = l6 == 0;
@@ -20702,7 +20756,7 @@ static void engine_turn(struct engine *e, u64 l0, u64 l1, u64 l2, u64 l3, u64 l4
                                                                                             {
                                                                                                 {
                                                                                                     {
-                                                                                                        const u32 t475 = load8(l26 + 145u);
+                                                                                                        const u32 t475 = load8(l26 + 129u);
                                                                                                         l11 = t475;
                                                                                                         switch (l11 - 1u) {
                                                                                                         case 0: goto L474;
@@ -20733,9 +20787,9 @@ static void engine_turn(struct engine *e, u64 l0, u64 l1, u64 l2, u64 l3, u64 l4
                                                                                                         }
                                                                                                     }
                                                                                                     L474:;
-                                                                                                    l5 = l26 + 200ull;
+                                                                                                    l5 = l26 + 184ull;
                                                                                                     l0 = l28;
-                                                                                                    l1 = l26 + 88ull;
+                                                                                                    l1 = l26 + 72ull;
                                                                                                     l4 = e->stack_pointer - 16ull;
                                                                                                     e->stack_pointer = l4;
                                                                                                     u32 v476;
@@ -20810,14 +20864,14 @@ static void engine_turn(struct engine *e, u64 l0, u64 l1, u64 l2, u64 l3, u64 l4
                                                                                                 L473:;
                                                                                                 store16(l43, (u16)0u);
                                                                                                 store8(l43 + 2u, (u8)0u);
-                                                                                                store8(l26 + 196u, (u8)l6);
-                                                                                                store32(l26 + 192u, l10);
-                                                                                                store32(l26 + 188u, l13);
-                                                                                                store32(l26 + 184u, l12);
-                                                                                                l33 = l26 + 200ull;
+                                                                                                store8(l26 + 180u, (u8)l6);
+                                                                                                store32(l26 + 176u, l10);
+                                                                                                store32(l26 + 172u, l14);
+                                                                                                store32(l26 + 168u, l12);
+                                                                                                l33 = l26 + 184ull;
                                                                                                 l1 = l28;
-                                                                                                l5 = l26 + 184ull;
-                                                                                                l4 = l26 + 48ull;
+                                                                                                l5 = l26 + 168ull;
+                                                                                                l4 = l26 + 32ull;
                                                                                                 l0 = e->stack_pointer - 32ull;
                                                                                                 e->stack_pointer = l0;
                                                                                                 {
@@ -20944,14 +20998,14 @@ static void engine_turn(struct engine *e, u64 l0, u64 l1, u64 l2, u64 l3, u64 l4
                                                                                             L472:;
                                                                                             store16(l44, (u16)0u);
                                                                                             store8(l44 + 2u, (u8)0u);
-                                                                                            store8(l26 + 180u, (u8)l6);
-                                                                                            store32(l26 + 176u, l10);
-                                                                                            store32(l26 + 172u, l13);
-                                                                                            store32(l26 + 168u, l12);
-                                                                                            l33 = l26 + 200ull;
+                                                                                            store8(l26 + 164u, (u8)l6);
+                                                                                            store32(l26 + 160u, l10);
+                                                                                            store32(l26 + 156u, l14);
+                                                                                            store32(l26 + 152u, l12);
+                                                                                            l33 = l26 + 184ull;
                                                                                             l0 = l28;
-                                                                                            l4 = l26 + 168ull;
-                                                                                            l5 = l26 + 48ull;
+                                                                                            l4 = l26 + 152ull;
+                                                                                            l5 = l26 + 32ull;
                                                                                             l1 = e->stack_pointer - 80ull;
                                                                                             e->stack_pointer = l1;
                                                                                             u32 v533;
@@ -21115,16 +21169,16 @@ static void engine_turn(struct engine *e, u64 l0, u64 l1, u64 l2, u64 l3, u64 l4
                                                                                             goto L469;
                                                                                         }
                                                                                         L471:;
-                                                                                        const u32 t582 = load8(l26 + 146u);
-                                                                                        l14 = t582;
+                                                                                        const u32 t582 = load8(l26 + 130u);
+                                                                                        l13 = t582;
                                                                                         l15 = 0u;
                                                                                         store16(l45, (u16)0u);
                                                                                         store8(l45 + 2u, (u8)0u);
-                                                                                        store8(l26 + 132u, (u8)l6);
-                                                                                        store32(l26 + 128u, l10);
-                                                                                        store32(l26 + 124u, l13);
-                                                                                        store32(l26 + 120u, l12);
-                                                                                        store64(l26 + 208u, 0ull);
+                                                                                        store8(l26 + 116u, (u8)l6);
+                                                                                        store32(l26 + 112u, l10);
+                                                                                        store32(l26 + 108u, l14);
+                                                                                        store32(l26 + 104u, l12);
+                                                                                        store64(l26 + 192u, 0ull);
                                                                                         {
                                                                                             if ((l11 - 5u) < 20u) goto L583;
                                                                                             l10 = 0u;
@@ -21136,8 +21190,8 @@ static void engine_turn(struct engine *e, u64 l0, u64 l1, u64 l2, u64 l3, u64 l4
                                                                                                 }
                                                                                             }
                                                                                             L584:;
-                                                                                            l2 = l26 + 208ull;
-                                                                                            l1 = l26 + 120ull;
+                                                                                            l2 = l26 + 192ull;
+                                                                                            l1 = l26 + 104ull;
                                                                                             l0 = e->stack_pointer - 32ull;
                                                                                             e->stack_pointer = l0;
                                                                                             {
@@ -21173,16 +21227,16 @@ static void engine_turn(struct engine *e, u64 l0, u64 l1, u64 l2, u64 l3, u64 l4
                                                                                                 trap();
                                                                                             }
                                                                                             L585:;
-                                                                                            const u32 t598 = load32(l26 + 212u);
+                                                                                            const u32 t598 = load32(l26 + 196u);
                                                                                             l15 = t598;
-                                                                                            const u32 t599 = load8(l26 + 209u);
+                                                                                            const u32 t599 = load8(l26 + 193u);
                                                                                             l10 = t599;
-                                                                                            const u32 t600 = load8(l26 + 208u);
+                                                                                            const u32 t600 = load8(l26 + 192u);
                                                                                             l11 = t600;
                                                                                             goto L411;
                                                                                         }
                                                                                         L583:;
-                                                                                        store64(l26 + 216u, 0ull);
+                                                                                        store64(l26 + 200u, 0ull);
                                                                                         {
                                                                                             {
                                                                                                 {
@@ -21227,28 +21281,28 @@ static void engine_turn(struct engine *e, u64 l0, u64 l1, u64 l2, u64 l3, u64 l4
                                                                                                                                                                         }
                                                                                                                                                                     }
                                                                                                                                                                     L620:;
-                                                                                                                                                                    functions_comparing_equal(e, l26 + 216ull, l28, l26 + 120ull);
+                                                                                                                                                                    functions_comparing_equal(e, l26 + 200ull, l28, l26 + 104ull);
                                                                                                                                                                     goto L412;
                                                                                                                                                                 }
                                                                                                                                                                 L619:;
-                                                                                                                                                                functions_comparing_greater(e, l26 + 216ull, l28, l26 + 120ull);
+                                                                                                                                                                functions_comparing_greater(e, l26 + 200ull, l28, l26 + 104ull);
                                                                                                                                                                 goto L412;
                                                                                                                                                             }
                                                                                                                                                             L618:;
-                                                                                                                                                            functions_arithmetic_arithmetic(e, l26 + 216ull, l28, l14, l26 + 120ull);
+                                                                                                                                                            functions_arithmetic_arithmetic(e, l26 + 200ull, l28, l13, l26 + 104ull);
                                                                                                                                                             goto L412;
                                                                                                                                                         }
                                                                                                                                                         L617:;
-                                                                                                                                                        functions_bit_strings_union(e, l26 + 216ull, l28, l26 + 120ull);
+                                                                                                                                                        functions_bit_strings_union(e, l26 + 200ull, l28, l26 + 104ull);
                                                                                                                                                         goto L412;
                                                                                                                                                     }
                                                                                                                                                     L616:;
-                                                                                                                                                    functions_bit_strings_intersection(e, l26 + 216ull, l28, l26 + 120ull);
+                                                                                                                                                    functions_bit_strings_intersection(e, l26 + 200ull, l28, l26 + 104ull);
                                                                                                                                                     goto L412;
                                                                                                                                                 }
                                                                                                                                                 L615:;
-                                                                                                                                                l4 = l26 + 216ull;
-                                                                                                                                                l2 = l26 + 120ull;
+                                                                                                                                                l4 = l26 + 200ull;
+                                                                                                                                                l2 = l26 + 104ull;
                                                                                                                                                 l1 = e->stack_pointer - 64ull;
                                                                                                                                                 e->stack_pointer = l1;
                                                                                                                                                 {
@@ -21305,62 +21359,62 @@ static void engine_turn(struct engine *e, u64 l0, u64 l1, u64 l2, u64 l3, u64 l4
                                                                                                                                                 goto L412;
                                                                                                                                             }
                                                                                                                                             L614:;
-                                                                                                                                            functions_bit_strings_shift(e, l26 + 216ull, l28, l26 + 120ull);
+                                                                                                                                            functions_bit_strings_shift(e, l26 + 200ull, l28, l26 + 104ull);
                                                                                                                                             goto L412;
                                                                                                                                         }
                                                                                                                                         L613:;
-                                                                                                                                        functions_bit_strings_rotate(e, l26 + 216ull, l28, l26 + 120ull);
+                                                                                                                                        functions_bit_strings_rotate(e, l26 + 200ull, l28, l26 + 104ull);
                                                                                                                                         goto L412;
                                                                                                                                     }
                                                                                                                                     L612:;
-                                                                                                                                    functions_form_parts_call_segment(e, l26 + 216ull, l28, l26 + 120ull);
+                                                                                                                                    functions_form_parts_call_segment(e, l26 + 200ull, l28, l26 + 104ull);
                                                                                                                                     goto L412;
                                                                                                                                 }
                                                                                                                                 L611:;
-                                                                                                                                functions_form_parts_call_character(e, l26 + 216ull, l28, l26 + 120ull);
+                                                                                                                                functions_form_parts_call_character(e, l26 + 200ull, l28, l26 + 104ull);
                                                                                                                                 goto L412;
                                                                                                                             }
                                                                                                                             L610:;
-                                                                                                                            functions_form_parts_call_number(e, l26 + 216ull, l28, l26 + 120ull);
+                                                                                                                            functions_form_parts_call_number(e, l26 + 200ull, l28, l26 + 104ull);
                                                                                                                             goto L412;
                                                                                                                         }
                                                                                                                         L609:;
-                                                                                                                        functions_form_parts_initial_part(e, l26 + 216ull, l28, l26 + 120ull);
+                                                                                                                        functions_form_parts_initial_part(e, l26 + 200ull, l28, l26 + 104ull);
                                                                                                                         goto L412;
                                                                                                                     }
                                                                                                                     L608:;
-                                                                                                                    functions_form_parts_call_restore(e, l26 + 216ull, l28, l26 + 120ull);
+                                                                                                                    functions_form_parts_call_restore(e, l26 + 200ull, l28, l26 + 104ull);
                                                                                                                     goto L412;
                                                                                                                 }
                                                                                                                 L607:;
-                                                                                                                functions_form_calls_define_string(e, l26 + 216ull, l28, l26 + 120ull);
+                                                                                                                functions_form_calls_define_string(e, l26 + 200ull, l28, l26 + 104ull);
                                                                                                                 goto L412;
                                                                                                             }
                                                                                                             L606:;
-                                                                                                            functions_form_calls_segment_string(e, l26 + 216ull, l28, l26 + 120ull);
+                                                                                                            functions_form_calls_segment_string(e, l26 + 200ull, l28, l26 + 104ull);
                                                                                                             goto L412;
                                                                                                         }
                                                                                                         L605:;
-                                                                                                        const u64 t635 = load64(l26 + 128u);
-                                                                                                        store64(l26 + 152u, t635);
-                                                                                                        const u64 t636 = load64(l26 + 120u);
-                                                                                                        store64(l26 + 144u, t636);
-                                                                                                        const u32 t637 = load8(l26 + 156u);
+                                                                                                        const u64 t635 = load64(l26 + 112u);
+                                                                                                        store64(l26 + 136u, t635);
+                                                                                                        const u64 t636 = load64(l26 + 104u);
+                                                                                                        store64(l26 + 128u, t636);
+                                                                                                        const u32 t637 = load8(l26 + 140u);
                                                                                                         l11 = t637;
-                                                                                                        functions_arguments_Arguments_next(e, l26 + 32ull, l26 + 144ull, l28);
-                                                                                                        const u32 t638 = load32(l26 + 36u);
+                                                                                                        functions_arguments_Arguments_next(e, l26 + 24ull, l26 + 128ull, l28);
+                                                                                                        const u32 t638 = load32(l26 + 28u);
                                                                                                         l6 = t638;
-                                                                                                        const u32 t639 = load32(l26 + 32u);
+                                                                                                        const u32 t639 = load32(l26 + 24u);
                                                                                                         l15 = t639;
                                                                                                         u32 v640;
                                                                                                         {
                                                                                                             const u32 t641 = load32(l28 + 40ull);
                                                                                                             l10 = t641;
                                                                                                             if (l10 >= 8u) {
-                                                                                                                forms_work_Work_find_among_more(e, l26 + 16ull, l28, l15, l6);
-                                                                                                                const u32 t643 = load32(l26 + 20u);
+                                                                                                                forms_work_Work_find_among_more(e, l26 + 8ull, l28, l15, l6);
+                                                                                                                const u32 t643 = load32(l26 + 12u);
                                                                                                                 l15 = t643;
-                                                                                                                const u32 t644 = load8(l26 + 16u);
+                                                                                                                const u32 t644 = load8(l26 + 8u);
                                                                                                                 v640 = t644; goto L640;
                                                                                                             }
                                                                                                             {
@@ -21385,10 +21439,10 @@ static void engine_turn(struct engine *e, u64 l0, u64 l1, u64 l2, u64 l3, u64 l4
                                                                                                                 }
                                                                                                             }
                                                                                                             L645:;
-                                                                                                            forms_work_Work_find_among_few(e, l26 + 24ull, l28, l15, l6);
-                                                                                                            const u32 t650 = load32(l26 + 28u);
+                                                                                                            forms_work_Work_find_among_few(e, l26 + 16ull, l28, l15, l6);
+                                                                                                            const u32 t650 = load32(l26 + 20u);
                                                                                                             l15 = t650;
-                                                                                                            const u32 t651 = load8(l26 + 24u);
+                                                                                                            const u32 t651 = load8(l26 + 16u);
                                                                                                             v640 = t651;
                                                                                                         }
                                                                                                         L640:;
@@ -21396,27 +21450,27 @@ static void engine_turn(struct engine *e, u64 l0, u64 l1, u64 l2, u64 l3, u64 l4
                                                                                                         goto L413;
                                                                                                     }
                                                                                                     L604:;
-                                                                                                    functions_form_calls_delete_definition(e, l26 + 216ull, l28, l26 + 120ull);
+                                                                                                    functions_form_calls_delete_definition(e, l26 + 200ull, l28, l26 + 104ull);
                                                                                                     goto L412;
                                                                                                 }
                                                                                                 L603:;
-                                                                                                functions_form_calls_delete_all(e, l26 + 216ull, l28);
+                                                                                                functions_form_calls_delete_all(e, l26 + 200ull, l28);
                                                                                                 goto L412;
                                                                                             }
                                                                                             L602:;
-                                                                                            functions_form_calls_list_names(e, l26 + 216ull, l28, l26 + 120ull);
+                                                                                            functions_form_calls_list_names(e, l26 + 200ull, l28, l26 + 104ull);
                                                                                             goto L412;
                                                                                         }
                                                                                         L601:;
-                                                                                        store8(l26 + 216u, (u8)1u);
+                                                                                        store8(l26 + 200u, (u8)1u);
                                                                                         goto L412;
                                                                                     }
                                                                                     L470:;
-                                                                                    l5 = l26 + 200ull;
+                                                                                    l5 = l26 + 184ull;
                                                                                     l0 = l28;
                                                                                     const u32 t652 = load8(l28 + 56ull);
                                                                                     l10 = t652;
-                                                                                    l1 = l26 + 88ull;
+                                                                                    l1 = l26 + 72ull;
                                                                                     l4 = e->stack_pointer - 16ull;
                                                                                     e->stack_pointer = l4;
                                                                                     {
@@ -21470,14 +21524,14 @@ static void engine_turn(struct engine *e, u64 l0, u64 l1, u64 l2, u64 l3, u64 l4
                                                                                                                 }
                                                                                                                 l36 = l0 + 32ull;
                                                                                                                 const u32 t675 = load32(l36);
-                                                                                                                l14 = t675;
+                                                                                                                l13 = t675;
                                                                                                                 const u64 t676 = load64(l0);
                                                                                                                 l30 = t676 + ((u64)l15 << 3);
                                                                                                                 store8(l30, (u8)0u);
                                                                                                                 store32(l30 + 4ull, 0u);
                                                                                                                 store8(l30 + 1ull, (u8)l6);
                                                                                                                 store32(l2, l12 + 1u);
-                                                                                                                store32(l36, l14);
+                                                                                                                store32(l36, l13);
                                                                                                             }
                                                                                                             L668:;
                                                                                                             devices_slice_source_SliceSourceSource_take_held(e, l1, l10, l0);
@@ -21509,11 +21563,11 @@ static void engine_turn(struct engine *e, u64 l0, u64 l1, u64 l2, u64 l3, u64 l4
                                                                                     L653:;
                                                                                 }
                                                                                 L469:;
-                                                                                const u32 t680 = load32(l26 + 204u);
+                                                                                const u32 t680 = load32(l26 + 188u);
                                                                                 l15 = t680;
-                                                                                const u32 t681 = load8(l26 + 201u);
+                                                                                const u32 t681 = load8(l26 + 185u);
                                                                                 l10 = t681;
-                                                                                const u32 t682 = load8(l26 + 200u);
+                                                                                const u32 t682 = load8(l26 + 184u);
                                                                                 l11 = t682;
                                                                                 goto L411;
                                                                             }
@@ -21525,7 +21579,7 @@ static void engine_turn(struct engine *e, u64 l0, u64 l1, u64 l2, u64 l3, u64 l4
                                                                         const u64 t683 = load64(l4);
                                                                         store64(l4, t683 + 1ull);
                                                                         l4 = l28 + 80ull;
-                                                                        l8 = (l9 + l13) + l8;
+                                                                        l8 = (l9 + l14) + l8;
                                                                         const u32 t684 = load32(l4);
                                                                         l9 = t684;
                                                                         store32(l4, (l8 > l9) ? l8 : l9);
@@ -21533,7 +21587,7 @@ static void engine_turn(struct engine *e, u64 l0, u64 l1, u64 l2, u64 l3, u64 l4
                                                                     }
                                                                     L418:;
                                                                     l23 = 8u;
-                                                                    if ((l6 & 255u) == 1u) goto L3;
+                                                                    if ((l8 & 255u) == 1u) goto L3;
                                                                     const u64 t685 = load64(l28 + 72ull);
                                                                     const u64 t686 = load64(l28 + 64ull);
                                                                     if (t685 == t686) goto L3;
@@ -21562,14 +21616,14 @@ static void engine_turn(struct engine *e, u64 l0, u64 l1, u64 l2, u64 l3, u64 l4
                                                             goto L413;
                                                         }
                                                         L414:;
-                                                        store32(l26 + 220u, 0u);
-                                                        store16(l26 + 216u, (u16)1u);
+                                                        store32(l26 + 204u, 0u);
+                                                        store16(l26 + 200u, (u16)1u);
                                                         goto L412;
                                                     }
                                                     L413:;
-                                                    const u32 t694 = load32(l26 + 148u);
+                                                    const u32 t694 = load32(l26 + 132u);
                                                     l6 = t694;
-                                                    const u32 t695 = load32(l26 + 144u);
+                                                    const u32 t695 = load32(l26 + 128u);
                                                     l10 = t695;
                                                     {
                                                         if ((l11 & 1u) == 0) goto L696;
@@ -21585,14 +21639,14 @@ static void engine_turn(struct engine *e, u64 l0, u64 l1, u64 l2, u64 l3, u64 l4
                                                         const u32 t701 = load32(l4 + 12ull);
                                                         l16 = t701;
                                                         const u32 t702 = load32(l4 + 20ull);
-                                                        l14 = t702;
-                                                        if (l16 != l14) {
+                                                        l13 = t702;
+                                                        if (l16 != l13) {
                                                             const u32 t704 = load32(l4 + 4ull);
                                                             l22 = (l11 + t704) + 3u;
-                                                            l12 = l22 + l14;
+                                                            l12 = l22 + l13;
                                                             u32 v705;
                                                             {
-                                                                l11 = l16 - l14;
+                                                                l11 = l16 - l13;
                                                                 const u32 t706 = load32(l28 + 28ull);
                                                                 l17 = t706;
                                                                 const u32 t707 = load32(l28 + 20ull);
@@ -21600,10 +21654,10 @@ static void engine_turn(struct engine *e, u64 l0, u64 l1, u64 l2, u64 l3, u64 l4
                                                                 l18 = t708;
                                                                 const u32 t709 = load32(l28 + 16ull);
                                                                 if (l11 > (l17 - (t707 + (l18 + t709)))) {
-                                                                    store_fill_load_items_in_way(e, l26 + 8ull, l28, l12, l16 + l22);
-                                                                    const u32 t711 = load8(l26 + 8u);
-                                                                    l14 = t711;
-                                                                    const u32 t712 = load32(l26 + 12u);
+                                                                    store_fill_load_items_in_way(e, l26, l28, l12, l16 + l22);
+                                                                    const u32 t711 = load8(l26);
+                                                                    l13 = t711;
+                                                                    const u32 t712 = load32(l26 + 4u);
                                                                     v705 = t712; goto L705;
                                                                 }
                                                                 l0 = (u64)l11;
@@ -21621,7 +21675,7 @@ static void engine_turn(struct engine *e, u64 l0, u64 l1, u64 l2, u64 l3, u64 l4
                                                                                             goto L718;
                                                                                         }
                                                                                         if (l11 >= 4u) {
-                                                                                            l14 = 0u;
+                                                                                            l13 = 0u;
                                                                                             l4 = l30 + (l2 << 3);
                                                                                             const u32 t721 = load8(l4 + 24ull);
                                                                                             const u32 t722 = load8(l4 + 16ull);
@@ -21646,7 +21700,7 @@ static void engine_turn(struct engine *e, u64 l0, u64 l1, u64 l2, u64 l3, u64 l4
                                                                                         const u32 t729 = load8(l4);
                                                                                         l16 = t729;
                                                                                         if (l11 < 2u) goto L716;
-                                                                                        l14 = 0u;
+                                                                                        l13 = 0u;
                                                                                         const u32 t730 = load8(l4 + 8ull);
                                                                                         if (t730 | (l16 & 255u)) { v705 = 0u; goto L705; }
                                                                                         l1 = l0 + l2;
@@ -21679,11 +21733,11 @@ static void engine_turn(struct engine *e, u64 l0, u64 l1, u64 l2, u64 l3, u64 l4
                                                                                             goto L717;
                                                                                         }
                                                                                     }
-                                                                                    l14 = 0u;
+                                                                                    l13 = 0u;
                                                                                     v705 = 0u; goto L705;
                                                                                 }
                                                                                 L717:;
-                                                                                l14 = 0u;
+                                                                                l13 = 0u;
                                                                                 l5 = l0 + l2;
                                                                                 l4 = l30 + (l5 << 3);
                                                                                 const u32 t743 = load8(l4 - 56ull);
@@ -21717,7 +21771,7 @@ static void engine_turn(struct engine *e, u64 l0, u64 l1, u64 l2, u64 l3, u64 l4
                                                                                 goto L713;
                                                                             }
                                                                             L716:;
-                                                                            l14 = 0u;
+                                                                            l13 = 0u;
                                                                             if (l16 & 255u) { v705 = 0u; goto L705; }
                                                                             l12 = l11 + l18;
                                                                             if (l11 != 1u) goto L714;
@@ -21736,30 +21790,30 @@ static void engine_turn(struct engine *e, u64 l0, u64 l1, u64 l2, u64 l3, u64 l4
                                                                     store32(l28 + 24ull, l12);
                                                                 }
                                                                 L713:;
-                                                                l14 = 1u;
+                                                                l13 = 1u;
                                                                 v705 = l11;
                                                             }
                                                             L705:;
                                                             l12 = v705;
-                                                            if ((l14 & 255u) != 1u) goto L696;
+                                                            if ((l13 & 255u) != 1u) goto L696;
                                                         }
-                                                        store32(l26 + 220u, l12);
-                                                        store16(l26 + 216u, (u16)2u);
+                                                        store32(l26 + 204u, l12);
+                                                        store16(l26 + 200u, (u16)2u);
                                                         goto L412;
                                                     }
                                                     L696:;
                                                     const u32 t755 = forms_work_Work_fill_body(e, l28, l15, l10, l6);
                                                     l6 = t755;
-                                                    store32(l26 + 220u, 0u);
-                                                    store8(l26 + 217u, (u8)0u);
-                                                    store8(l26 + 216u, (u8)l6);
+                                                    store32(l26 + 204u, 0u);
+                                                    store8(l26 + 201u, (u8)0u);
+                                                    store8(l26 + 200u, (u8)l6);
                                                 }
                                                 L412:;
-                                                const u32 t756 = load32(l26 + 220u);
+                                                const u32 t756 = load32(l26 + 204u);
                                                 l15 = t756;
-                                                const u32 t757 = load8(l26 + 217u);
+                                                const u32 t757 = load8(l26 + 201u);
                                                 l10 = t757;
-                                                const u32 t758 = load8(l26 + 216u);
+                                                const u32 t758 = load8(l26 + 200u);
                                                 l11 = t758;
                                             }
                                             L411:;
@@ -21776,13 +21830,13 @@ static void engine_turn(struct engine *e, u64 l0, u64 l1, u64 l2, u64 l3, u64 l4
                                             L759:;
                                             const u32 t760 = load32(l28 + 20ull);
                                             l6 = t760;
-                                            core_delivery_deliver(e, l28, l9, l13);
+                                            core_delivery_deliver(e, l28, l9, l14);
                                             l8 = l6 + (l8 + l19);
                                             l9 = 0u;
                                             goto L408;
                                         }
                                         L410:;
-                                        l13 = l19 + l20;
+                                        l14 = l19 + l20;
                                         const u64 t761 = load64(l28);
                                         const u64 t762 = load32(l28 + 16ull);
                                         l4 = t761 + (t762 << 3);
@@ -21815,7 +21869,7 @@ static void engine_turn(struct engine *e, u64 l0, u64 l1, u64 l2, u64 l3, u64 l4
                                         L763:;
                                         store32(l28 + 20ull, l9);
                                         store32(l28 + 32ull, l6);
-                                        l8 = l13 + l15;
+                                        l8 = l14 + l15;
                                         l9 = 0u;
                                         goto L408;
                                     }
@@ -21846,8 +21900,8 @@ static void engine_turn(struct engine *e, u64 l0, u64 l1, u64 l2, u64 l3, u64 l4
                             store64(l4, t775 + 1ull);
                             l4 = l28 + 80ull;
                             const u32 t776 = load32(l4);
-                            l13 = t776;
-                            store32(l4, (l8 > l13) ? l8 : l13);
+                            l14 = t776;
+                            store32(l4, (l8 > l14) ? l8 : l14);
                             if (l9 == 0) { v405 = 0u; goto L405; }
                         }
                         L406:;
@@ -21869,9 +21923,9 @@ static void engine_turn(struct engine *e, u64 l0, u64 l1, u64 l2, u64 l3, u64 l4
             l8 = t778;
             const u64 t779 = load64(l28 + 72ull);
             l4 = t779;
-            const u64 t780 = load64(l26 + 64u);
+            const u64 t780 = load64(l26 + 48u);
             l32 = t780;
-            const u64 t781 = load64(l26 + 96u);
+            const u64 t781 = load64(l26 + 80u);
             l28 = t781;
             store64(l37 + 32u, l48);
             l28 = l3 - l28;
@@ -21880,7 +21934,7 @@ static void engine_turn(struct engine *e, u64 l0, u64 l1, u64 l2, u64 l3, u64 l4
             store64(l37 + 8u, l4);
             store32(l37 + 4u, l8);
             store32(l37, l23);
-            e->stack_pointer = l26 + 224ull;
+            e->stack_pointer = l26 + 208ull;
             goto L1;
         }
         trap();
