@@ -4,6 +4,7 @@ ghost use Rattle.std.specs.List.{position_or_len};
 ghost use Rattle.trac_space.specs.Cells.{is_call};
 ghost use Rattle.trac_trace.specs.Told.{around_text, is_fault, open_calls_text, open_text};
 ghost use Rattle.trac_trace.specs.Told.{opened_text};
+ghost use Rattle.trac_trace.specs.Faults.{TellsFault, parts_of};
 ghost use Rattle.trac_trace.specs.Told.{open_line, parts_text, place_text, skip_behind, where_text};
 
 use crate::escapes::{opening, push_cells_cut};
@@ -36,11 +37,14 @@ pub fn push_fault(
     machine: &Machine,
     string: Place,
     width: u32,
-) -> Result<(), AllocError> {
+) -> Result<(), AllocError>
+    ensures { OnOk result (TellsFault width string machine.now lines.old.items lines.new.items) }
+{
+    let neutral = machine.neutral();
     push_where(lines, machine.steps().saturating_add(1), string)?;
-    push_open_calls(lines, alloc, machine.neutral(), width)?;
+    push_open_calls(lines, alloc, neutral, width)?;
     push_largest_forms(lines, alloc, machine, width)?;
-    push_parts(lines, &Parts::of(machine))
+    push_parts(lines, &Parts::of(machine, neutral.len()))
 }
 
 // Adds the line of the step that was not done, and of where the string began that was read last.
@@ -200,15 +204,18 @@ pub struct Parts {
 }
 
 impl Parts {
-    /// Those of a machine.
-    pub fn of(machine: &Machine) -> Parts {
-        let neutral = machine.neutral().len() as u64;
-        let active = machine.active().len() as u64;
+    /// Those of a machine whose neutral string has so many cells.
+    pub fn of(machine: &Machine, neutral: usize) -> Parts
+        ensures { result ≡ parts_of machine.now neutral }
+    {
+        let active = machine.active().len();
         let used = u64::from(machine.size());
         Parts {
-            forms: used.saturating_sub(neutral.saturating_add(active)),
-            neutral,
-            active,
+            forms: used
+                .saturating_sub(neutral as u64)
+                .saturating_sub(active as u64),
+            neutral: neutral as u64,
+            active: active as u64,
             free: u64::from(machine.room()).saturating_sub(used),
         }
     }

@@ -1,4 +1,5 @@
 //! A reader that keeps what it reads.
+ghost use Rattle.std.specs.Prelude.{◌≡◌, [], true};
 ghost use Rattle.std.specs.Io.{ReadsAtMost};
 ghost use Rattle.std.specs.Io.KnownBytes.{ReadConsumes};
 
@@ -17,7 +18,10 @@ pub struct Record {
 
 impl Record {
     /// Nothing read yet.
-    pub fn new(alloc: Global) -> Record {
+    pub fn new(alloc: Global) -> Record
+        ensures nothing { result.bytes.items ≡ [] }
+        ensures whole { result.is_whole ≡ true }
+    {
         Record {
             bytes: Vec::new(alloc),
             is_whole: true,

@@ -1,6 +1,10 @@
 //! What is shown of a run, as it goes on.
-ghost use Rattle.std.specs.Prelude.{◌≡◌, ◌++◌, OnOk};
-ghost use Rattle.trac_trace.specs.Told.{meta_text};
+ghost use Rattle.std.specs.Prelude.{◌≡◌, ◌++◌, ◌&&◌, [], IfOk, OnOk, max, not, true, false};
+ghost use Rattle.trac_events.specs.Calls.{IsSeen};
+ghost use Rattle.trac_trace.specs.Lines.{head_text};
+ghost use Rattle.trac_trace.specs.Told.{event_text, has_steps, is_fault, meta_text};
+ghost use Rattle.trac_trace.specs.Faults.{TellsDone, TellsEnd, TellsStep, TellsWhere, forms_text};
+ghost use Rattle.trac_trace.specs.Faults.{is_told};
 
 use crate::calls::Called;
 use crate::deleted::push_deleted;
@@ -36,7 +40,10 @@ pub struct Shown {
 
 impl Shown {
     /// Before the first step. The lines are those that stand above all others.
-    pub fn new(alloc: Global, views: Views) -> Result<Shown, AllocError> {
+    pub fn new(alloc: Global, views: Views) -> Result<Shown, AllocError>
+        ensures { IfOk result (λ shown. (shown.views ≡ views) × (shown.peak ≡ 0)
+            × (shown.lines.items ≡ head_text views.calls views.forms)) }
+    {
         let mut lines = Vec::new(alloc);
         push(&mut lines, head(&views))?;
         Ok(Shown {
@@ -56,12 +63,20 @@ impl Shown {
     }
 
     /// The lines of the step that was seen last.
-    pub fn lines(&self) -> &[u8] {
+    pub fn lines(&self) -> &[u8]
+        ensures { result.now ≡ self.now.lines.items }
+    {
         self.lines.as_slice()
     }
 
     /// Looks at a machine before a step. An error is want of memory.
-    pub fn look(&mut self, machine: &Machine) -> Result<Before, AllocError> {
+    pub fn look(&mut self, machine: &Machine) -> Result<Before, AllocError>
+        ensures seen { let asked = is_told self.old.views machine.now.steps in
+            IfOk result (IsSeen machine.now (asked && not (has_steps self.old.views))) }
+        ensures cleared { self.new.lines.items ≡ [] }
+        ensures views { self.new.views ≡ self.old.views }
+        ensures peak { self.new.peak ≡ self.old.peak }
+    {
         self.lines.clear();
         let is_shown = self.views.has(machine.steps().saturating_add(1));
         let with_call = is_shown && !self.views.has_steps();
@@ -73,7 +88,11 @@ impl Shown {
     }
 
     // Keeps what is to be known of a call once it is performed.
-    fn look_at_call(&mut self, machine: &Machine, call: OpenCall) -> Result<(), AllocError> {
+    fn look_at_call(&mut self, machine: &Machine, call: OpenCall) -> Result<(), AllocError>
+        ensures lines { self.new.lines ≡ self.old.lines }
+        ensures views { self.new.views ≡ self.old.views }
+        ensures peak { self.new.peak ≡ self.old.peak }
+    {
         let arguments = arguments_of(machine.neutral(), call);
         let named = Named::new(machine, arguments);
         self.named = named;
@@ -100,7 +119,15 @@ impl Shown {
         fate: Option<Fate>,
         need: u32,
         printed: &[u8],
-    ) -> Result<(), AllocError> {
+    ) -> Result<(), AllocError>
+        ensures peak { self.new.peak ≡ max self.old.peak need }
+        ensures views { self.new.views ≡ self.old.views }
+        ensures hidden { is_told self.old.views before.now.done ≡ false →
+            self.new.lines.items ≡ self.old.lines.items }
+        ensures steps { is_told self.old.views before.now.done ≡ true →
+            has_steps self.old.views ≡ true → OnOk result (TellsStep before.now need printed.now
+            machine.now self.old.lines.items self.new.lines.items) }
+    {
         self.peak = self.peak.max(need);
         let value = match fate {
             None => before.value(machine),
@@ -118,17 +145,22 @@ impl Shown {
     }
 
     // Adds the lines of an event.
-    fn show(&mut self, event: &Event) -> Result<(), AllocError> {
+    fn show(&mut self, event: &Event) -> Result<(), AllocError>
+        ensures lines { OnOk result (self.new.lines.items ≡
+            self.old.lines.items ++ event_text self.old.views event.now) }
+        ensures views { self.new.views ≡ self.old.views }
+        ensures peak { self.new.peak ≡ self.old.peak }
+    {
         push_event(&mut self.lines, self.alloc, &self.views, event)
     }
 
     // Tells that a step was done.
-    fn tell_step(
-        &mut self,
-        before: &Before,
-        machine: &Machine,
-        need: u32,
-    ) -> Result<(), AllocError> {
+    fn tell_step(&mut self, before: &Before, machine: &Machine, need: u32) -> Result<(), AllocError>
+        ensures lines { has_steps self.old.views ≡ true → OnOk result (TellsDone before.now need
+            machine.now self.old.lines.items self.new.lines.items) }
+        ensures views { self.new.views ≡ self.old.views }
+        ensures peak { self.new.peak ≡ self.old.peak }
+    {
         let step = Step {
             number: machine.steps(),
             rule: before.rule,
@@ -145,7 +177,12 @@ impl Shown {
         machine: &Machine,
         value: &[Cell],
         printed: &[u8],
-    ) -> Result<(), AllocError> {
+    ) -> Result<(), AllocError>
+        ensures lines { has_steps self.old.views ≡ true →
+            OnOk result (self.new.lines.items ≡ self.old.lines.items) }
+        ensures views { self.new.views ≡ self.old.views }
+        ensures peak { self.new.peak ≡ self.old.peak }
+    {
         let Some(call) = before.call else {
             return Ok(());
         };
@@ -184,18 +221,43 @@ impl Shown {
     }
 
     /// Tells how the run ended. An error is want of memory.
-    pub fn tell_end(&mut self, fate: Fate, machine: &Machine) -> Result<(), AllocError> {
+    pub fn tell_end(&mut self, fate: Fate, machine: &Machine) -> Result<(), AllocError>
+        ensures { OnOk result (TellsEnd self.old.views fate self.old.peak machine.now
+            self.old.lines.items self.new.lines.items) }
+    {
         let report = Report {
             fate,
             steps: machine.steps(),
             peak: self.peak,
         };
         push_end(&mut self.lines, &report)?;
-        let width = self.views.width;
-        if self.views.forms {
-            push_forms(&mut self.lines, self.alloc, machine.forms(), width)?;
-            push_meta(&mut self.lines, machine.meta())?;
+        self.tell_forms(machine)?;
+        self.tell_fault(fate, machine)
+    }
+
+    // Adds the forms and the meta character, where forms are shown.
+    fn tell_forms(&mut self, machine: &Machine) -> Result<(), AllocError>
+        ensures lines { OnOk result (self.new.lines.items ≡
+            self.old.lines.items ++ forms_text self.old.views machine.now) }
+        ensures views { self.new.views ≡ self.old.views }
+    {
+        if !self.views.forms {
+            return Ok(());
         }
+        push_forms(
+            &mut self.lines,
+            self.alloc,
+            machine.forms(),
+            self.views.width,
+        )?;
+        push_meta(&mut self.lines, machine.meta())
+    }
+
+    // Adds what is told of a fault, where the run ended by one.
+    fn tell_fault(&mut self, fate: Fate, machine: &Machine) -> Result<(), AllocError>
+        ensures { OnOk result (TellsWhere (is_fault fate) self.old.views.width machine.now
+            self.old.lines.items self.new.lines.items) }
+    {
         if !is_fault(fate) {
             return Ok(());
         }
@@ -204,7 +266,7 @@ impl Shown {
             self.alloc,
             machine,
             self.reading.string,
-            width,
+            self.views.width,
         )
     }
 }

@@ -1,5 +1,6 @@
 //! A run that is shown step by step.
 ghost use Rattle.std.specs.Prelude.{◌≡◌, ◌+◌, ◌-◌, ◌^◌, ◌<◌, ◌++◌, [], IfOk, OnOk};
+ghost use Rattle.std.specs.Io.KnownBytes.{Appends};
 ghost use Rattle.trac_core.specs.Machine.{reported_input_failures};
 ghost use Rattle.trac_trace.specs.Lines.{output_text};
 
@@ -106,7 +107,9 @@ fn run_once<R: Read + Drop>(
 }
 
 /// Writes all the bytes.
-pub fn write<W: Write>(output: &mut W, bytes: &[u8]) -> Result<(), TraceError> {
+pub fn write<W: Write>(output: &mut W, bytes: &[u8]) -> Result<(), TraceError>
+    ensures { OnOk result (Appends (W.contents output.old) (W.contents output.new) bytes.now) }
+{
     if bytes.is_empty() {
         return Ok(());
     }
