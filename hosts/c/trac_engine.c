@@ -4,7 +4,7 @@
  * and what compilers make of it (memcpy, memset) alone.
  *
  * Crates: trac_language trac_space trac_values trac_store trac_forms trac_devices trac_functions trac_laws trac_core trac_c
- * Sources: c1b9918650851e2b442e4782914d4eb106d3426b5395bd474832fd427bc6ce5e
+ * Sources: 453ee0a70c6db186d3cb2735f314ea149b00746ed614622b2a63b5b27f64a2fd
  * Kit: rattle-kit-13f logic dac8208d650f15bf
  * Tools: wasm-opt version 108, wabt 1.0.32
  */
