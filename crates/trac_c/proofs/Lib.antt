@@ -6,6 +6,7 @@ mod Further
 mod KeptLooks
 mod Laid
 mod ListedForms
+mod Printing
 mod Roomy
 mod TurnBytes
 mod Waiting

@@ -1,7 +1,7 @@
 -- The words that the proofs of this crate cite.
 pub use Rattle.std.proofs.Common.{Bool, List, None, Option, Some, [], ap, append-nil, append_assoc, arith, drop, false, get_or, length, length-append, map, max, min, not, refl, rules, slice_set, subst, suc, sum_by, sym, take, zero, ℕ, ⊎_elim, ◌++◌, ◌+◌, ◌-◌, ◌<◌, ◌∙◌, ◌∷◌, ◌≡◌, ◌≢◌, ◌≤◌}
 pub use Rattle.std.proofs.Math.Seq.{length-take-le}
-pub use Rattle.std.proofs.lemmas.List.{drop-drop, length-map, map-append, take_more}
+pub use Rattle.std.proofs.lemmas.List.{drop-drop, length-drop, length-map, map-append, take_more}
 pub use Rattle.std.specs.Prelude.{MatchOption, if◌then◌else◌, is_none, nat_le, nat_lt, slice_get, ◌&&◌, ◌==◌}
 pub use Rattle.trac_c.specs.Laid.{laid, laid_from}
 pub use Rattle.trac_c.specs.Shown.{item_code}
@@ -18,5 +18,5 @@ pub use Rattle.trac_functions.specs.Flat.{Neutral, neutral_of, no_neutral, with_
 pub use Rattle.trac_language.specs.State.{Input, OpenCall, arguments, call_cells, size}
 pub use Rattle.trac_language.specs.Text.{Text}
 pub use Rattle.trac_language.specs.declared.fate.Fate.{Fate}
-pub use Rattle.trac_space.specs.Texts.{character_of}
+pub use Rattle.trac_space.specs.Texts.{character_of, text_of_cells}
 pub use Rattle.trac_space.specs.declared.cell.Cell.TheVariants.{Byte}

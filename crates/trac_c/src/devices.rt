@@ -4,7 +4,9 @@ ghost use Rattle.std.specs.Prelude.{IsSome};
 ghost use Rattle.trac_devices.specs.Slices.{slice_input, stream_in};
 ghost use Rattle.trac_c.specs.Held.{listed, buffer_code};
 
-use trac_core::{Next, Sink, SinkFailed, SliceSource, Source, Work};
+use crate::filling::put_characters;
+use trac_core::{Cell, Next, Sink, SinkFailed, SliceSource, Source, Work};
+use trac_space::character_of;
 
 /// A source over the bytes that a turn was given. It never fails.
 #[derive(Drop)]
@@ -120,6 +122,15 @@ impl Sink for RoomySink<'_> {
             return Err(SinkFailed);
         }
         self.behind = Some(byte);
+        Ok(())
+    }
+
+    fn put_all(&mut self, text: &[Cell]) -> Result<(), SinkFailed> {
+        let count = put_characters(text, self.len, self.room);
+        self.len += count;
+        for cell in &text[count..] {
+            self.put(character_of(cell))?;
+        }
         Ok(())
     }
 

@@ -1,8 +1,10 @@
 //! Buffers of a caller's, filled from the front as far as they reach.
 ghost use Rattle.std.specs.Prelude.{◌≡◌, ◌+◌, ◌<◌, ◌≤◌, [], ◌∷◌, length, take};
+ghost use Rattle.std.specs.Prelude.{◌++◌};
+ghost use Rattle.trac_space.specs.Texts.{text_of_cells};
 ghost use Rattle.trac_c.specs.Laid.{laid_from};
 
-use trac_core::{Sink, SinkFailed};
+use trac_core::{Cell, Sink, SinkFailed, write_characters};
 
 /// Puts an item to a place of a buffer. Behind the end of the buffer nothing is done.
 pub(crate) fn put<T: Copy>(item: T, place: usize, room: &mut [T])
@@ -11,6 +13,22 @@ pub(crate) fn put<T: Copy>(item: T, place: usize, room: &mut [T])
     if place < room.len() {
         room[place] = item;
     }
+}
+
+/// Puts the characters of cells to a place of a buffer, as far as that reaches, and gives how many
+/// these are.
+pub(crate) fn put_characters(text: &[Cell], place: usize, room: &mut [u8]) -> usize
+    requires { place ≤ length room.old }
+    ensures put { take (place + result) room.new ≡
+        take place room.old ++ text_of_cells (take result text.now) }
+    ensures few { result ≤ length text.now }
+    ensures fits { place + result ≤ length room.old }
+    ensures full { result < length text.now → place + result ≡ length room.old }
+    ensures same { length room.new ≡ length room.old }
+{
+    let count = text.len().min(room.len() - place);
+    write_characters(&text[..count], &mut room[place..place + count]);
+    count
 }
 
 /// A sink over a buffer. It fails only where that is full.
@@ -74,6 +92,16 @@ impl Sink for FillingSink<'_> {
             self.failures += 1;
             Err(SinkFailed)
         }
+    }
+
+    fn put_all(&mut self, text: &[Cell]) -> Result<(), SinkFailed> {
+        let count = put_characters(text, self.len, self.room);
+        self.len += count;
+        if count < text.len() {
+            self.failures += 1;
+            return Err(SinkFailed);
+        }
+        Ok(())
     }
 
     fn flush(&mut self) -> Result<(), SinkFailed> {
