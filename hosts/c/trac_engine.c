@@ -4,7 +4,7 @@
  * and what compilers make of it (memcpy, memset) alone.
  *
  * Crates: trac_language trac_space trac_values trac_store trac_forms trac_devices trac_functions trac_laws trac_core trac_c
- * Sources: 453ee0a70c6db186d3cb2735f314ea149b00746ed614622b2a63b5b27f64a2fd
+ * Sources: 2e0ce1de205da2b7b70cd50bfac281ea3b43f7067ea3fd20a0a253133aee7898
  * Kit: rattle-kit-13f logic dac8208d650f15bf
  * Tools: wasm-opt version 108, wabt 1.0.32
  */
@@ -265,6 +265,7 @@ static void core_delivery_deliver(struct engine *e, u64 l0, u32 l1, u32 l2);
 static void space_copies_copy_more(struct engine *e, u64 l0, u64 l1, u64 l2, u64 l3);
 static void space_copies_copy_parts(struct engine *e, u64 l0, u64 l1, u64 l2);
 static void space_space_Space_move_active(struct engine *e, u64 l0, u32 l1);
+static u64 c_filling_put_characters(struct engine *e, u64 l0, u64 l1, u64 l2, u64 l3, u64 l4);
 static void store_index_index_worthwhile(struct engine *e, u64 l0, u32 l1, u64 l2);
 static void store_store_find_some(struct engine *e, u64 l0, u64 l1, u32 l2, u32 l3, u32 l4, u64 l5, u64 l6);
 static void store_store_find_round(struct engine *e, u64 l0, u64 l1, u32 l2, u32 l3, u32 l4, u64 l5, u64 l6);
@@ -12825,6 +12826,111 @@ static void space_space_Space_move_active(struct engine *e, u64 l0, u32 l1) {
     trap();
 }
 
+static u64 c_filling_put_characters(struct engine *e, u64 l0, u64 l1, u64 l2, u64 l3, u64 l4) {
+    u64 l5 = 0;
+    u64 l6 = 0;
+    u64 l7 = 0;
+    u64 l8 = 0;
+    u32 l9 = 0;
+    if ((i64)(e->stack_pointer - e->stack) >= (i64)16ull) {
+        l8 = l2 + l3;
+        {
+            l4 = l4 - l2;
+            l6 = (l1 > l4) ? l4 : l1;
+            if (l6 < 8ull) goto L2;
+            l1 = l0;
+            l7 = l6;
+            L3:;
+            {
+                const u32 t4 = load8(l1 + 56ull);
+                const u32 t5 = load8(l1 + 48ull);
+                const u32 t6 = load8(l1 + 40ull);
+                const u32 t7 = load8(l1 + 32ull);
+                const u32 t8 = load8(l1 + 24ull);
+                const u32 t9 = load8(l1 + 16ull);
+                const u32 t10 = load8(l1 + 8ull);
+                const u32 t11 = load8(l1);
+                if (t4 | ((t5 + (t6 + (t7 + (t8 + (t9 + (t10 + t11)))))) & 255u)) goto L2;
+                l4 = l5 + l8;
+                const u32 t12 = load8(l1 + 1ull);
+                store8(l4, (u8)t12);
+                const u32 t13 = load8(l1 + 9ull);
+                store8(l4 + 1ull, (u8)t13);
+                const u32 t14 = load8(l1 + 17ull);
+                store8(l4 + 2ull, (u8)t14);
+                const u32 t15 = load8(l1 + 25ull);
+                store8(l4 + 3ull, (u8)t15);
+                const u32 t16 = load8(l1 + 33ull);
+                store8(l4 + 4ull, (u8)t16);
+                const u32 t17 = load8(l1 + 41ull);
+                store8(l4 + 5ull, (u8)t17);
+                const u32 t18 = load8(l1 + 49ull);
+                store8(l4 + 6ull, (u8)t18);
+                const u32 t19 = load8(l1 + 57ull);
+                store8(l4 + 7ull, (u8)t19);
+                l1 = l1 + 64ull;
+                l5 = l5 + 8ull;
+                l7 = l7 - 8ull;
+                if (l7 > 7ull) goto L3;
+            }
+        }
+        L2:;
+        {
+            if (l5 >= l6) goto L20;
+            l1 = l5 + 1ull;
+            if ((((l6 - l5) & 1ull) == 0) == 0) {
+                l4 = l0 + (l5 << 3);
+                const u32 t22 = load8(l4);
+                const u64 t23 = l5 + l8;
+                u32 v24;
+                if (t22) {
+                    v24 = l9;
+                } else {
+                    const u32 t25 = load8(l4 + 1ull);
+                    v24 = t25;
+                }
+                store8(t23, (u8)v24);
+                l5 = l5 + 1ull;
+            }
+            if (l1 == l6) goto L20;
+            l7 = l6 - l5;
+            l4 = l3 + (l2 + l5);
+            l1 = l0 + (l5 << 3);
+            L26:;
+            {
+                const u32 t27 = load8(l1);
+                const u64 t28 = l4;
+                u32 v29;
+                if (t27) {
+                    v29 = l9;
+                } else {
+                    const u32 t30 = load8(l1 + 1ull);
+                    v29 = t30;
+                }
+                store8(t28, (u8)v29);
+                const u32 t31 = load8(l1 + 8ull);
+                const u64 t32 = l4 + 1ull;
+                u32 v33;
+                if (t31) {
+                    v33 = l9;
+                } else {
+                    const u32 t34 = load8(l1 + 9ull);
+                    v33 = t34;
+                }
+                store8(t32, (u8)v33);
+                l4 = l4 + 2ull;
+                l1 = l1 + 16ull;
+                l7 = l7 - 2ull;
+                if (l7 != 0ull) goto L26;
+            }
+        }
+        L20:;
+        return l6;
+    }
+    trap();
+    return 0;
+}
+
 static void store_index_index_worthwhile(struct engine *e, u64 l0, u32 l1, u64 l2) {
     u64 l3 = 0;
     u32 l4 = 0;
@@ -18319,25 +18425,25 @@ static void engine_run(struct engine *e, u64 l0, u64 l1, u64 l2, u64 l3, u64 l4,
                                                                                                             store32(l8 + 104u, l38);
                                                                                                             store32(l8 + 100u, l40);
                                                                                                             store32(l8 + 96u, l43);
-                                                                                                            l9 = l8 + 112ull;
+                                                                                                            l7 = l8 + 112ull;
                                                                                                             l1 = l4;
                                                                                                             l6 = l8 + 96ull;
-                                                                                                            l2 = e->stack_pointer - 32ull;
-                                                                                                            e->stack_pointer = l2;
+                                                                                                            l3 = e->stack_pointer - 32ull;
+                                                                                                            e->stack_pointer = l3;
                                                                                                             {
-                                                                                                                l3 = l2;
-                                                                                                                if ((i64)(l3 - e->stack) >= (i64)16ull) {
+                                                                                                                l2 = l3;
+                                                                                                                if ((i64)(l2 - e->stack) >= (i64)16ull) {
                                                                                                                     const u64 t183 = load64(l6 + 8u);
-                                                                                                                    store64(l3 + 24u, t183);
+                                                                                                                    store64(l2 + 24u, t183);
                                                                                                                     const u64 t184 = load64(l6);
-                                                                                                                    store64(l3 + 16u, t184);
-                                                                                                                    functions_arguments_Arguments_next(e, l3 + 8ull, l3 + 16ull, l1);
+                                                                                                                    store64(l2 + 16u, t184);
+                                                                                                                    functions_arguments_Arguments_next(e, l2 + 8ull, l2 + 16ull, l1);
                                                                                                                     l36 = 3u;
                                                                                                                     u32 v185;
                                                                                                                     {
-                                                                                                                        const u32 t186 = load32(l3 + 12u);
+                                                                                                                        const u32 t186 = load32(l2 + 12u);
                                                                                                                         l35 = t186;
-                                                                                                                        const u32 t187 = load32(l3 + 8u);
+                                                                                                                        const u32 t187 = load32(l2 + 8u);
                                                                                                                         l34 = t187;
                                                                                                                         if (l35 == l34) { v185 = 0u; goto L185; }
                                                                                                                         const u64 t188 = load64(l1);
@@ -18347,8 +18453,8 @@ static void engine_run(struct engine *e, u64 l0, u64 l1, u64 l2, u64 l3, u64 l4,
                                                                                                                         l1 = (u64)(t190 + l34);
                                                                                                                         l6 = t188 + (l1 << 3);
                                                                                                                         {
-                                                                                                                            l1 = (u64)(l34 + l35) - l1;
-                                                                                                                            if (l1 < 16ull) {
+                                                                                                                            l3 = (u64)(l34 + l35) - l1;
+                                                                                                                            if (l3 <= 15ull) {
                                                                                                                                 {
                                                                                                                                     L194:;
                                                                                                                                     {
@@ -18358,18 +18464,18 @@ static void engine_run(struct engine *e, u64 l0, u64 l1, u64 l2, u64 l3, u64 l4,
                                                                                                                                             const u32 t197 = load8(l6 + 1ull);
                                                                                                                                             l35 = t197;
                                                                                                                                         }
-                                                                                                                                        l2 = l14 + 16ull;
-                                                                                                                                        const u64 t198 = load64(l2);
-                                                                                                                                        l7 = t198;
+                                                                                                                                        l1 = l14 + 16ull;
+                                                                                                                                        const u64 t198 = load64(l1);
+                                                                                                                                        l9 = t198;
                                                                                                                                         const u64 t199 = load64(l14 + 8ull);
-                                                                                                                                        if (l7 >= t199) goto L193;
+                                                                                                                                        if (l9 >= t199) goto L193;
                                                                                                                                         const u64 t200 = load64(l14);
-                                                                                                                                        store8(t200 + l7, (u8)l35);
-                                                                                                                                        const u64 t201 = load64(l2);
-                                                                                                                                        store64(l2, t201 + 1ull);
+                                                                                                                                        store8(t200 + l9, (u8)l35);
+                                                                                                                                        const u64 t201 = load64(l1);
+                                                                                                                                        store64(l1, t201 + 1ull);
                                                                                                                                         l6 = l6 + 8ull;
-                                                                                                                                        l1 = l1 - 1ull;
-                                                                                                                                        if ((l1 == 0) == 0) goto L194;
+                                                                                                                                        l3 = l3 - 1ull;
+                                                                                                                                        if ((l3 == 0) == 0) goto L194;
                                                                                                                                     }
                                                                                                                                     v185 = 0u; goto L185;
                                                                                                                                 }
@@ -18379,34 +18485,18 @@ static void engine_run(struct engine *e, u64 l0, u64 l1, u64 l2, u64 l3, u64 l4,
                                                                                                                                 store64(l6, t202 + 1ull);
                                                                                                                                 goto L191;
                                                                                                                             }
-                                                                                                                            {
-                                                                                                                                L204:;
-                                                                                                                                {
-                                                                                                                                    l35 = 0u;
-                                                                                                                                    const u32 t205 = load8(l6);
-                                                                                                                                    if (t205 == 0) {
-                                                                                                                                        const u32 t207 = load8(l6 + 1ull);
-                                                                                                                                        l35 = t207;
-                                                                                                                                    }
-                                                                                                                                    l2 = l14 + 16ull;
-                                                                                                                                    const u64 t208 = load64(l2);
-                                                                                                                                    l7 = t208;
-                                                                                                                                    const u64 t209 = load64(l14 + 8ull);
-                                                                                                                                    if (l7 >= t209) goto L203;
-                                                                                                                                    const u64 t210 = load64(l14);
-                                                                                                                                    store8(t210 + l7, (u8)l35);
-                                                                                                                                    const u64 t211 = load64(l2);
-                                                                                                                                    store64(l2, t211 + 1ull);
-                                                                                                                                    l6 = l6 + 8ull;
-                                                                                                                                    l1 = l1 - 1ull;
-                                                                                                                                    if ((l1 == 0) == 0) goto L204;
-                                                                                                                                }
-                                                                                                                                v185 = 0u; goto L185;
-                                                                                                                            }
-                                                                                                                            L203:;
+                                                                                                                            l1 = l14 + 16ull;
+                                                                                                                            const u64 t203 = load64(l1);
+                                                                                                                            const u64 t204 = load64(l14);
+                                                                                                                            const u64 t205 = load64(l14 + 8ull);
+                                                                                                                            const u64 t206 = c_filling_put_characters(e, l6, l3, t203, t204, t205);
+                                                                                                                            l6 = t206;
+                                                                                                                            const u64 t207 = load64(l1);
+                                                                                                                            store64(l1, l6 + t207);
+                                                                                                                            if (l3 <= l6) { v185 = 0u; goto L185; }
                                                                                                                             l6 = l14 + 24ull;
-                                                                                                                            const u64 t212 = load64(l6);
-                                                                                                                            store64(l6, t212 + 1ull);
+                                                                                                                            const u64 t208 = load64(l6);
+                                                                                                                            store64(l6, t208 + 1ull);
                                                                                                                         }
                                                                                                                         L191:;
                                                                                                                         l36 = 4u;
@@ -18414,21 +18504,21 @@ static void engine_run(struct engine *e, u64 l0, u64 l1, u64 l2, u64 l3, u64 l4,
                                                                                                                     }
                                                                                                                     L185:;
                                                                                                                     l35 = v185;
-                                                                                                                    store8(l9, (u8)l36);
-                                                                                                                    store32(l9 + 4ull, 0u);
-                                                                                                                    store8(l9 + 1ull, (u8)l35);
-                                                                                                                    e->stack_pointer = l3 + 32ull;
+                                                                                                                    store8(l7, (u8)l36);
+                                                                                                                    store32(l7 + 4ull, 0u);
+                                                                                                                    store8(l7 + 1ull, (u8)l35);
+                                                                                                                    e->stack_pointer = l2 + 32ull;
                                                                                                                     goto L181;
                                                                                                                 }
                                                                                                                 trap();
                                                                                                             }
                                                                                                             L181:;
-                                                                                                            const u32 t213 = load32(l8 + 116u);
-                                                                                                            l34 = t213;
-                                                                                                            const u32 t214 = load8(l8 + 113u);
-                                                                                                            l36 = t214;
-                                                                                                            const u32 t215 = load8(l8 + 112u);
-                                                                                                            l35 = t215;
+                                                                                                            const u32 t209 = load32(l8 + 116u);
+                                                                                                            l34 = t209;
+                                                                                                            const u32 t210 = load8(l8 + 113u);
+                                                                                                            l36 = t210;
+                                                                                                            const u32 t211 = load8(l8 + 112u);
+                                                                                                            l35 = t211;
                                                                                                             goto L48;
                                                                                                         }
                                                                                                         L58:;
@@ -18446,112 +18536,112 @@ static void engine_run(struct engine *e, u64 l0, u64 l1, u64 l2, u64 l3, u64 l4,
                                                                                                 goto L54;
                                                                                             }
                                                                                             L55:;
-                                                                                            const u32 t216 = load32(l8 + 148u);
-                                                                                            l48 = t216;
-                                                                                            const u32 t217 = load32(l8 + 144u);
-                                                                                            l49 = t217;
+                                                                                            const u32 t212 = load32(l8 + 148u);
+                                                                                            l48 = t212;
+                                                                                            const u32 t213 = load32(l8 + 144u);
+                                                                                            l49 = t213;
                                                                                             {
-                                                                                                if ((l36 & 1u) == 0) goto L218;
-                                                                                                if (l48 >= l49) goto L218;
-                                                                                                const u32 t219 = load32(l4 + 48ull);
-                                                                                                l34 = t219;
+                                                                                                if ((l36 & 1u) == 0) goto L214;
+                                                                                                if (l48 >= l49) goto L214;
+                                                                                                const u32 t215 = load32(l4 + 48ull);
+                                                                                                l34 = t215;
                                                                                                 {
-                                                                                                    const u32 t221 = load32(l4 + 44ull);
-                                                                                                    l35 = t221;
-                                                                                                    if (l44 == l35) goto L220;
+                                                                                                    const u32 t217 = load32(l4 + 44ull);
+                                                                                                    l35 = t217;
+                                                                                                    if (l44 == l35) goto L216;
                                                                                                     if (l35 < l44) {
                                                                                                         l38 = l44 - l35;
-                                                                                                        const u32 t223 = load32(l4 + 16ull);
-                                                                                                        l42 = t223;
-                                                                                                        L224:;
+                                                                                                        const u32 t219 = load32(l4 + 16ull);
+                                                                                                        l42 = t219;
+                                                                                                        L220:;
                                                                                                         {
                                                                                                             l35 = 3u;
                                                                                                             if (l34 < l42) {
-                                                                                                                const u64 t226 = load64(l4);
-                                                                                                                l9 = t226 + ((u64)l34 << 3);
-                                                                                                                const u32 t227 = load32(l9 + 4ull);
-                                                                                                                const u32 t228 = load8(l9);
-                                                                                                                l35 = (t228 == 4u) ? (t227 + 3u) : 3u;
+                                                                                                                const u64 t222 = load64(l4);
+                                                                                                                l9 = t222 + ((u64)l34 << 3);
+                                                                                                                const u32 t223 = load32(l9 + 4ull);
+                                                                                                                const u32 t224 = load8(l9);
+                                                                                                                l35 = (t224 == 4u) ? (t223 + 3u) : 3u;
                                                                                                             }
                                                                                                             l43 = l34 + 1u;
-                                                                                                            u32 v229;
+                                                                                                            u32 v225;
                                                                                                             if (l42 > l43) {
-                                                                                                                const u64 t230 = load64(l4);
-                                                                                                                l9 = t230 + ((u64)l43 << 3);
-                                                                                                                const u32 t231 = load32(l9 + 4ull);
-                                                                                                                const u32 t232 = load8(l9);
-                                                                                                                v229 = (t232 == 4u) ? t231 : 0u;
+                                                                                                                const u64 t226 = load64(l4);
+                                                                                                                l9 = t226 + ((u64)l43 << 3);
+                                                                                                                const u32 t227 = load32(l9 + 4ull);
+                                                                                                                const u32 t228 = load8(l9);
+                                                                                                                v225 = (t228 == 4u) ? t227 : 0u;
                                                                                                             } else {
-                                                                                                                v229 = 0u;
+                                                                                                                v225 = 0u;
                                                                                                             }
-                                                                                                            l34 = v229 + (l34 + l35);
+                                                                                                            l34 = v225 + (l34 + l35);
                                                                                                             l38 = l38 - 1u;
-                                                                                                            if (l38) goto L224;
+                                                                                                            if (l38) goto L220;
                                                                                                         }
-                                                                                                        goto L220;
+                                                                                                        goto L216;
                                                                                                     }
                                                                                                     if (l44 == 0) {
                                                                                                         l34 = 0u;
-                                                                                                        goto L220;
+                                                                                                        goto L216;
                                                                                                     }
-                                                                                                    const u32 t234 = load32(l4 + 16ull);
-                                                                                                    l38 = t234;
+                                                                                                    const u32 t230 = load32(l4 + 16ull);
+                                                                                                    l38 = t230;
                                                                                                     l34 = 0u;
                                                                                                     l42 = l44;
-                                                                                                    L235:;
+                                                                                                    L231:;
                                                                                                     {
                                                                                                         l35 = 3u;
                                                                                                         if (l34 < l38) {
-                                                                                                            const u64 t237 = load64(l4);
-                                                                                                            l9 = t237 + ((u64)l34 << 3);
-                                                                                                            const u32 t238 = load32(l9 + 4ull);
-                                                                                                            const u32 t239 = load8(l9);
-                                                                                                            l35 = (t239 == 4u) ? (t238 + 3u) : 3u;
+                                                                                                            const u64 t233 = load64(l4);
+                                                                                                            l9 = t233 + ((u64)l34 << 3);
+                                                                                                            const u32 t234 = load32(l9 + 4ull);
+                                                                                                            const u32 t235 = load8(l9);
+                                                                                                            l35 = (t235 == 4u) ? (t234 + 3u) : 3u;
                                                                                                         }
                                                                                                         l43 = l34 + 1u;
-                                                                                                        u32 v240;
+                                                                                                        u32 v236;
                                                                                                         if (l38 > l43) {
-                                                                                                            const u64 t241 = load64(l4);
-                                                                                                            l9 = t241 + ((u64)l43 << 3);
-                                                                                                            const u32 t242 = load32(l9 + 4ull);
-                                                                                                            const u32 t243 = load8(l9);
-                                                                                                            v240 = (t243 == 4u) ? t242 : 0u;
+                                                                                                            const u64 t237 = load64(l4);
+                                                                                                            l9 = t237 + ((u64)l43 << 3);
+                                                                                                            const u32 t238 = load32(l9 + 4ull);
+                                                                                                            const u32 t239 = load8(l9);
+                                                                                                            v236 = (t239 == 4u) ? t238 : 0u;
                                                                                                         } else {
-                                                                                                            v240 = 0u;
+                                                                                                            v236 = 0u;
                                                                                                         }
-                                                                                                        l34 = v240 + (l34 + l35);
+                                                                                                        l34 = v236 + (l34 + l35);
                                                                                                         l42 = l42 - 1u;
-                                                                                                        if (l42) goto L235;
+                                                                                                        if (l42) goto L231;
                                                                                                     }
                                                                                                 }
-                                                                                                L220:;
+                                                                                                L216:;
                                                                                                 l35 = 0u;
-                                                                                                const u64 t244 = load64(l4);
-                                                                                                l3 = t244;
+                                                                                                const u64 t240 = load64(l4);
+                                                                                                l3 = t240;
                                                                                                 l9 = l3 + ((u64)l34 << 3);
-                                                                                                const u32 t245 = load32(l9 + 12ull);
-                                                                                                l38 = t245;
-                                                                                                const u32 t246 = load32(l9 + 20ull);
-                                                                                                l36 = t246;
+                                                                                                const u32 t241 = load32(l9 + 12ull);
+                                                                                                l38 = t241;
+                                                                                                const u32 t242 = load32(l9 + 20ull);
+                                                                                                l36 = t242;
                                                                                                 if (l38 != l36) {
-                                                                                                    const u32 t248 = load32(l9 + 4ull);
-                                                                                                    l42 = (l34 + t248) + 3u;
+                                                                                                    const u32 t244 = load32(l9 + 4ull);
+                                                                                                    l42 = (l34 + t244) + 3u;
                                                                                                     l35 = l42 + l36;
-                                                                                                    u32 v249;
+                                                                                                    u32 v245;
                                                                                                     {
                                                                                                         l34 = l38 - l36;
-                                                                                                        const u32 t250 = load32(l4 + 28ull);
-                                                                                                        l46 = t250;
-                                                                                                        const u32 t251 = load32(l4 + 20ull);
-                                                                                                        const u32 t252 = load32(l4 + 24ull);
-                                                                                                        l43 = t252;
-                                                                                                        const u32 t253 = load32(l4 + 16ull);
-                                                                                                        if (l34 > (l46 - (t251 + (l43 + t253)))) {
+                                                                                                        const u32 t246 = load32(l4 + 28ull);
+                                                                                                        l46 = t246;
+                                                                                                        const u32 t247 = load32(l4 + 20ull);
+                                                                                                        const u32 t248 = load32(l4 + 24ull);
+                                                                                                        l43 = t248;
+                                                                                                        const u32 t249 = load32(l4 + 16ull);
+                                                                                                        if (l34 > (l46 - (t247 + (l43 + t249)))) {
                                                                                                             store_fill_load_items_in_way(e, l8 + 40ull, l4, l35, l38 + l42);
-                                                                                                            const u32 t255 = load8(l8 + 40u);
-                                                                                                            l36 = t255;
-                                                                                                            const u32 t256 = load32(l8 + 44u);
-                                                                                                            v249 = t256; goto L249;
+                                                                                                            const u32 t251 = load8(l8 + 40u);
+                                                                                                            l36 = t251;
+                                                                                                            const u32 t252 = load32(l8 + 44u);
+                                                                                                            v245 = t252; goto L245;
                                                                                                         }
                                                                                                         l1 = (u64)l34;
                                                                                                         l11 = (u64)l35;
@@ -18562,156 +18652,156 @@ static void engine_run(struct engine *e, u64 l0, u64 l1, u64 l2, u64 l3, u64 l4,
                                                                                                                         {
                                                                                                                             {
                                                                                                                                 if (l34 >= 8u) {
-                                                                                                                                    if (l34 == 8u) goto L261;
+                                                                                                                                    if (l34 == 8u) goto L257;
                                                                                                                                     l9 = l3 + (l11 << 3);
                                                                                                                                     l2 = l1;
-                                                                                                                                    goto L262;
+                                                                                                                                    goto L258;
                                                                                                                                 }
                                                                                                                                 if (l34 >= 4u) {
                                                                                                                                     l36 = 0u;
                                                                                                                                     l9 = l3 + (l11 << 3);
-                                                                                                                                    const u32 t265 = load8(l9 + 24ull);
-                                                                                                                                    const u32 t266 = load8(l9 + 16ull);
-                                                                                                                                    const u32 t267 = load8(l9 + 8ull);
-                                                                                                                                    const u32 t268 = load8(l9);
-                                                                                                                                    if (((t265 + t266) | (t267 + t268)) & 255u) { v249 = 0u; goto L249; }
+                                                                                                                                    const u32 t261 = load8(l9 + 24ull);
+                                                                                                                                    const u32 t262 = load8(l9 + 16ull);
+                                                                                                                                    const u32 t263 = load8(l9 + 8ull);
+                                                                                                                                    const u32 t264 = load8(l9);
+                                                                                                                                    if (((t261 + t262) | (t263 + t264)) & 255u) { v245 = 0u; goto L245; }
                                                                                                                                     l2 = l1 + l11;
                                                                                                                                     l9 = l3 + (l2 << 3);
-                                                                                                                                    const u32 t269 = load8(l9 - 8ull);
-                                                                                                                                    const u32 t270 = load8(l9 - 16ull);
-                                                                                                                                    const u32 t271 = load8(l9 - 24ull);
-                                                                                                                                    const u32 t272 = load8(l9 - 32ull);
-                                                                                                                                    if (((t269 + t270) | (t271 + t272)) & 255u) { v249 = 0u; goto L249; }
+                                                                                                                                    const u32 t265 = load8(l9 - 8ull);
+                                                                                                                                    const u32 t266 = load8(l9 - 16ull);
+                                                                                                                                    const u32 t267 = load8(l9 - 24ull);
+                                                                                                                                    const u32 t268 = load8(l9 - 32ull);
+                                                                                                                                    if (((t265 + t266) | (t267 + t268)) & 255u) { v245 = 0u; goto L245; }
                                                                                                                                     l36 = l34 + l43;
                                                                                                                                     l9 = (u64)(l46 - l36);
                                                                                                                                     core_slice_edits_slice_T_copy_from_slice(e, l3 + (l9 << 3), l3 + (l11 << 3), 4ull);
-                                                                                                                                    const u64 t273 = l9 - l11;
+                                                                                                                                    const u64 t269 = l9 - l11;
                                                                                                                                     l9 = l2 - 4ull;
-                                                                                                                                    core_slice_edits_slice_T_copy_from_slice(e, l3 + ((t273 + l9) << 3), l3 + (l9 << 3), 4ull);
-                                                                                                                                    goto L258;
+                                                                                                                                    core_slice_edits_slice_T_copy_from_slice(e, l3 + ((t269 + l9) << 3), l3 + (l9 << 3), 4ull);
+                                                                                                                                    goto L254;
                                                                                                                                 }
                                                                                                                                 l9 = l3 + (l11 << 3);
-                                                                                                                                const u32 t274 = load8(l9);
-                                                                                                                                l38 = t274;
-                                                                                                                                if (l34 < 2u) goto L260;
+                                                                                                                                const u32 t270 = load8(l9);
+                                                                                                                                l38 = t270;
+                                                                                                                                if (l34 < 2u) goto L256;
                                                                                                                                 l36 = 0u;
-                                                                                                                                const u32 t275 = load8(l9 + 8ull);
-                                                                                                                                if (t275 | (l38 & 255u)) { v249 = 0u; goto L249; }
+                                                                                                                                const u32 t271 = load8(l9 + 8ull);
+                                                                                                                                if (t271 | (l38 & 255u)) { v245 = 0u; goto L245; }
                                                                                                                                 l2 = l1 + l11;
                                                                                                                                 l9 = l3 + (l2 << 3);
-                                                                                                                                const u32 t276 = load8(l9 - 8ull);
-                                                                                                                                const u32 t277 = load8(l9 - 16ull);
-                                                                                                                                if (t276 | t277) { v249 = 0u; goto L249; }
+                                                                                                                                const u32 t272 = load8(l9 - 8ull);
+                                                                                                                                const u32 t273 = load8(l9 - 16ull);
+                                                                                                                                if (t272 | t273) { v245 = 0u; goto L245; }
                                                                                                                                 l36 = l34 + l43;
                                                                                                                                 l9 = (u64)(l46 - l36);
                                                                                                                                 core_slice_edits_slice_T_copy_from_slice(e, l3 + (l9 << 3), l3 + (l11 << 3), 2ull);
-                                                                                                                                const u64 t278 = l9 - l11;
+                                                                                                                                const u64 t274 = l9 - l11;
                                                                                                                                 l9 = l2 - 2ull;
-                                                                                                                                core_slice_edits_slice_T_copy_from_slice(e, l3 + ((t278 + l9) << 3), l3 + (l9 << 3), 2ull);
-                                                                                                                                goto L258;
+                                                                                                                                core_slice_edits_slice_T_copy_from_slice(e, l3 + ((t274 + l9) << 3), l3 + (l9 << 3), 2ull);
+                                                                                                                                goto L254;
                                                                                                                             }
-                                                                                                                            L262:;
-                                                                                                                            L279:;
+                                                                                                                            L258:;
+                                                                                                                            L275:;
                                                                                                                             {
-                                                                                                                                const u32 t280 = load8(l9 + 56ull);
-                                                                                                                                const u32 t281 = load8(l9 + 48ull);
-                                                                                                                                const u32 t282 = load8(l9 + 40ull);
-                                                                                                                                const u32 t283 = load8(l9 + 32ull);
-                                                                                                                                const u32 t284 = load8(l9 + 24ull);
-                                                                                                                                const u32 t285 = load8(l9 + 16ull);
-                                                                                                                                const u32 t286 = load8(l9 + 8ull);
-                                                                                                                                const u32 t287 = load8(l9);
-                                                                                                                                if ((t280 | ((t281 + (t282 + (t283 + (t284 + (t285 + (t286 + t287)))))) & 255u)) == 0) {
+                                                                                                                                const u32 t276 = load8(l9 + 56ull);
+                                                                                                                                const u32 t277 = load8(l9 + 48ull);
+                                                                                                                                const u32 t278 = load8(l9 + 40ull);
+                                                                                                                                const u32 t279 = load8(l9 + 32ull);
+                                                                                                                                const u32 t280 = load8(l9 + 24ull);
+                                                                                                                                const u32 t281 = load8(l9 + 16ull);
+                                                                                                                                const u32 t282 = load8(l9 + 8ull);
+                                                                                                                                const u32 t283 = load8(l9);
+                                                                                                                                if ((t276 | ((t277 + (t278 + (t279 + (t280 + (t281 + (t282 + t283)))))) & 255u)) == 0) {
                                                                                                                                     l9 = l9 + 64ull;
                                                                                                                                     l2 = l2 - 8ull;
-                                                                                                                                    if (l2 >= 9ull) goto L279;
-                                                                                                                                    goto L261;
+                                                                                                                                    if (l2 >= 9ull) goto L275;
+                                                                                                                                    goto L257;
                                                                                                                                 }
                                                                                                                             }
                                                                                                                             l36 = 0u;
-                                                                                                                            v249 = 0u; goto L249;
+                                                                                                                            v245 = 0u; goto L245;
                                                                                                                         }
-                                                                                                                        L261:;
+                                                                                                                        L257:;
                                                                                                                         l36 = 0u;
                                                                                                                         l2 = l1 + l11;
                                                                                                                         l9 = l3 + (l2 << 3);
-                                                                                                                        const u32 t289 = load8(l9 - 56ull);
-                                                                                                                        const u32 t290 = load8(l9 - 64ull);
-                                                                                                                        const u32 t291 = load8(l9 - 48ull);
-                                                                                                                        const u32 t292 = load8(l9 - 40ull);
-                                                                                                                        const u32 t293 = load8(l9 - 32ull);
-                                                                                                                        const u32 t294 = load8(l9 - 24ull);
-                                                                                                                        const u32 t295 = load8(l9 - 16ull);
-                                                                                                                        const u32 t296 = load8(l9 - 8ull);
-                                                                                                                        if ((((((((t289 + t290) + t291) + t292) + t293) + t294) + t295) & 255u) | t296) { v249 = 0u; goto L249; }
+                                                                                                                        const u32 t285 = load8(l9 - 56ull);
+                                                                                                                        const u32 t286 = load8(l9 - 64ull);
+                                                                                                                        const u32 t287 = load8(l9 - 48ull);
+                                                                                                                        const u32 t288 = load8(l9 - 40ull);
+                                                                                                                        const u32 t289 = load8(l9 - 32ull);
+                                                                                                                        const u32 t290 = load8(l9 - 24ull);
+                                                                                                                        const u32 t291 = load8(l9 - 16ull);
+                                                                                                                        const u32 t292 = load8(l9 - 8ull);
+                                                                                                                        if ((((((((t285 + t286) + t287) + t288) + t289) + t290) + t291) & 255u) | t292) { v245 = 0u; goto L245; }
                                                                                                                         l36 = l34 + l43;
                                                                                                                         l18 = (u64)(l46 - l36);
-                                                                                                                        if (l34 > 24u) goto L259;
+                                                                                                                        if (l34 > 24u) goto L255;
                                                                                                                         if (l34 != 8u) {
                                                                                                                             l24 = l18 << 3;
                                                                                                                             l25 = l11 << 3;
                                                                                                                             l26 = (l18 - l11) & 2305843009213693944ull;
                                                                                                                             l7 = l1;
                                                                                                                             l6 = l3;
-                                                                                                                            L298:;
+                                                                                                                            L294:;
                                                                                                                             {
                                                                                                                                 l9 = l6 + l25;
                                                                                                                                 l2 = l6 + l24;
                                                                                                                                 {
                                                                                                                                     if (l26 == 0) {
-                                                                                                                                        const u32 t301 = load8(l9);
-                                                                                                                                        store8(l2, (u8)t301);
-                                                                                                                                        const u32 t302 = load8(l9 + 1ull);
-                                                                                                                                        store8(l2 + 1ull, (u8)t302);
-                                                                                                                                        const u32 t303 = load32(l9 + 4ull);
-                                                                                                                                        store32(l2 + 4ull, t303);
-                                                                                                                                        const u32 t304 = load16(l9 + 8ull);
-                                                                                                                                        store16(l2 + 8ull, (u16)t304);
-                                                                                                                                        const u32 t305 = load32(l9 + 12ull);
-                                                                                                                                        store32(l2 + 12ull, t305);
-                                                                                                                                        const u32 t306 = load16(l9 + 16ull);
-                                                                                                                                        store16(l2 + 16ull, (u16)t306);
-                                                                                                                                        const u32 t307 = load32(l9 + 20ull);
-                                                                                                                                        store32(l2 + 20ull, t307);
-                                                                                                                                        const u32 t308 = load16(l9 + 24ull);
-                                                                                                                                        store16(l2 + 24ull, (u16)t308);
-                                                                                                                                        const u32 t309 = load32(l9 + 28ull);
-                                                                                                                                        store32(l2 + 28ull, t309);
-                                                                                                                                        const u32 t310 = load16(l9 + 32ull);
-                                                                                                                                        store16(l2 + 32ull, (u16)t310);
-                                                                                                                                        const u32 t311 = load32(l9 + 36ull);
-                                                                                                                                        store32(l2 + 36ull, t311);
-                                                                                                                                        const u32 t312 = load16(l9 + 40ull);
-                                                                                                                                        store16(l2 + 40ull, (u16)t312);
-                                                                                                                                        const u32 t313 = load32(l9 + 44ull);
-                                                                                                                                        store32(l2 + 44ull, t313);
-                                                                                                                                        const u32 t314 = load16(l9 + 48ull);
-                                                                                                                                        store16(l2 + 48ull, (u16)t314);
-                                                                                                                                        const u32 t315 = load32(l9 + 52ull);
-                                                                                                                                        store32(l2 + 52ull, t315);
-                                                                                                                                        const u32 t316 = load16(l9 + 56ull);
-                                                                                                                                        l35 = t316;
-                                                                                                                                        const u32 t317 = load32(l9 + 60ull);
-                                                                                                                                        store32(l2 + 60ull, t317);
+                                                                                                                                        const u32 t297 = load8(l9);
+                                                                                                                                        store8(l2, (u8)t297);
+                                                                                                                                        const u32 t298 = load8(l9 + 1ull);
+                                                                                                                                        store8(l2 + 1ull, (u8)t298);
+                                                                                                                                        const u32 t299 = load32(l9 + 4ull);
+                                                                                                                                        store32(l2 + 4ull, t299);
+                                                                                                                                        const u32 t300 = load16(l9 + 8ull);
+                                                                                                                                        store16(l2 + 8ull, (u16)t300);
+                                                                                                                                        const u32 t301 = load32(l9 + 12ull);
+                                                                                                                                        store32(l2 + 12ull, t301);
+                                                                                                                                        const u32 t302 = load16(l9 + 16ull);
+                                                                                                                                        store16(l2 + 16ull, (u16)t302);
+                                                                                                                                        const u32 t303 = load32(l9 + 20ull);
+                                                                                                                                        store32(l2 + 20ull, t303);
+                                                                                                                                        const u32 t304 = load16(l9 + 24ull);
+                                                                                                                                        store16(l2 + 24ull, (u16)t304);
+                                                                                                                                        const u32 t305 = load32(l9 + 28ull);
+                                                                                                                                        store32(l2 + 28ull, t305);
+                                                                                                                                        const u32 t306 = load16(l9 + 32ull);
+                                                                                                                                        store16(l2 + 32ull, (u16)t306);
+                                                                                                                                        const u32 t307 = load32(l9 + 36ull);
+                                                                                                                                        store32(l2 + 36ull, t307);
+                                                                                                                                        const u32 t308 = load16(l9 + 40ull);
+                                                                                                                                        store16(l2 + 40ull, (u16)t308);
+                                                                                                                                        const u32 t309 = load32(l9 + 44ull);
+                                                                                                                                        store32(l2 + 44ull, t309);
+                                                                                                                                        const u32 t310 = load16(l9 + 48ull);
+                                                                                                                                        store16(l2 + 48ull, (u16)t310);
+                                                                                                                                        const u32 t311 = load32(l9 + 52ull);
+                                                                                                                                        store32(l2 + 52ull, t311);
+                                                                                                                                        const u32 t312 = load16(l9 + 56ull);
+                                                                                                                                        l35 = t312;
+                                                                                                                                        const u32 t313 = load32(l9 + 60ull);
+                                                                                                                                        store32(l2 + 60ull, t313);
                                                                                                                                         store16(l2 + 56ull, (u16)l35);
-                                                                                                                                        goto L299;
+                                                                                                                                        goto L295;
                                                                                                                                     }
-                                                                                                                                    const u64 t318 = load64(l9);
-                                                                                                                                    l27 = t318;
-                                                                                                                                    const u64 t319 = load64(l9 + 8u);
-                                                                                                                                    l28 = t319;
-                                                                                                                                    const u64 t320 = load64(l9 + 16u);
-                                                                                                                                    l29 = t320;
-                                                                                                                                    const u64 t321 = load64(l9 + 24u);
-                                                                                                                                    l30 = t321;
-                                                                                                                                    const u64 t322 = load64(l9 + 32u);
-                                                                                                                                    l31 = t322;
-                                                                                                                                    const u64 t323 = load64(l9 + 40u);
-                                                                                                                                    l32 = t323;
-                                                                                                                                    const u64 t324 = load64(l9 + 48u);
-                                                                                                                                    l33 = t324;
-                                                                                                                                    const u64 t325 = load64(l9 + 56u);
-                                                                                                                                    store64(l2 + 56u, t325);
+                                                                                                                                    const u64 t314 = load64(l9);
+                                                                                                                                    l27 = t314;
+                                                                                                                                    const u64 t315 = load64(l9 + 8u);
+                                                                                                                                    l28 = t315;
+                                                                                                                                    const u64 t316 = load64(l9 + 16u);
+                                                                                                                                    l29 = t316;
+                                                                                                                                    const u64 t317 = load64(l9 + 24u);
+                                                                                                                                    l30 = t317;
+                                                                                                                                    const u64 t318 = load64(l9 + 32u);
+                                                                                                                                    l31 = t318;
+                                                                                                                                    const u64 t319 = load64(l9 + 40u);
+                                                                                                                                    l32 = t319;
+                                                                                                                                    const u64 t320 = load64(l9 + 48u);
+                                                                                                                                    l33 = t320;
+                                                                                                                                    const u64 t321 = load64(l9 + 56u);
+                                                                                                                                    store64(l2 + 56u, t321);
                                                                                                                                     store64(l2 + 48u, l33);
                                                                                                                                     store64(l2 + 40u, l32);
                                                                                                                                     store64(l2 + 32u, l31);
@@ -18720,62 +18810,62 @@ static void engine_run(struct engine *e, u64 l0, u64 l1, u64 l2, u64 l3, u64 l4,
                                                                                                                                     store64(l2 + 8u, l28);
                                                                                                                                     store64(l2, l27);
                                                                                                                                 }
-                                                                                                                                L299:;
+                                                                                                                                L295:;
                                                                                                                                 l6 = l6 + 64ull;
                                                                                                                                 l7 = l7 - 8ull;
-                                                                                                                                if (l7 > 8ull) goto L298;
+                                                                                                                                if (l7 > 8ull) goto L294;
                                                                                                                             }
                                                                                                                         }
                                                                                                                         l9 = l1 - 8ull;
                                                                                                                         core_slice_edits_slice_T_copy_from_slice(e, l3 + ((l9 + l18) << 3), l3 + ((l9 + l11) << 3), 8ull);
                                                                                                                         store32(l4 + 24ull, l36);
-                                                                                                                        goto L257;
+                                                                                                                        goto L253;
                                                                                                                     }
-                                                                                                                    L260:;
+                                                                                                                    L256:;
                                                                                                                     l36 = 0u;
-                                                                                                                    if (l38 & 255u) { v249 = 0u; goto L249; }
+                                                                                                                    if (l38 & 255u) { v245 = 0u; goto L245; }
                                                                                                                     l36 = l34 + l43;
-                                                                                                                    if (l34 != 1u) goto L258;
+                                                                                                                    if (l34 != 1u) goto L254;
                                                                                                                     l9 = l3 + ((u64)(l46 - l36) << 3);
                                                                                                                     l2 = l3 + (l11 << 3);
-                                                                                                                    const u32 t326 = load16(l2);
-                                                                                                                    store16(l9, (u16)t326);
-                                                                                                                    const u32 t327 = load32(l2 + 4ull);
-                                                                                                                    store32(l9 + 4ull, t327);
-                                                                                                                    goto L258;
+                                                                                                                    const u32 t322 = load16(l2);
+                                                                                                                    store16(l9, (u16)t322);
+                                                                                                                    const u32 t323 = load32(l2 + 4ull);
+                                                                                                                    store32(l9 + 4ull, t323);
+                                                                                                                    goto L254;
                                                                                                                 }
-                                                                                                                L259:;
+                                                                                                                L255:;
                                                                                                                 space_copies_copy_long(e, l3, l11, l2, l18);
                                                                                                             }
-                                                                                                            L258:;
+                                                                                                            L254:;
                                                                                                             store32(l4 + 24ull, l36);
                                                                                                         }
-                                                                                                        L257:;
+                                                                                                        L253:;
                                                                                                         l36 = 1u;
-                                                                                                        v249 = l34;
+                                                                                                        v245 = l34;
                                                                                                     }
-                                                                                                    L249:;
-                                                                                                    l35 = v249;
-                                                                                                    if ((l36 & 255u) != 1u) goto L218;
+                                                                                                    L245:;
+                                                                                                    l35 = v245;
+                                                                                                    if ((l36 & 255u) != 1u) goto L214;
                                                                                                 }
                                                                                                 store32(l8 + 124u, l35);
                                                                                                 store16(l8 + 120u, (u16)2u);
                                                                                                 goto L54;
                                                                                             }
-                                                                                            L218:;
-                                                                                            const u32 t328 = forms_work_Work_fill_body(e, l4, l44, l49, l48);
-                                                                                            l34 = t328;
+                                                                                            L214:;
+                                                                                            const u32 t324 = forms_work_Work_fill_body(e, l4, l44, l49, l48);
+                                                                                            l34 = t324;
                                                                                             store32(l8 + 124u, 0u);
                                                                                             store8(l8 + 121u, (u8)0u);
                                                                                             store8(l8 + 120u, (u8)l34);
                                                                                         }
                                                                                         L54:;
-                                                                                        const u32 t329 = load32(l8 + 124u);
-                                                                                        l34 = t329;
-                                                                                        const u32 t330 = load8(l8 + 121u);
-                                                                                        l36 = t330;
-                                                                                        const u32 t331 = load8(l8 + 120u);
-                                                                                        l35 = t331;
+                                                                                        const u32 t325 = load32(l8 + 124u);
+                                                                                        l34 = t325;
+                                                                                        const u32 t326 = load8(l8 + 121u);
+                                                                                        l36 = t326;
+                                                                                        const u32 t327 = load8(l8 + 120u);
+                                                                                        l35 = t327;
                                                                                     }
                                                                                     L53:;
                                                                                     store32(l8 + 116u, l34);
@@ -18812,37 +18902,37 @@ static void engine_run(struct engine *e, u64 l0, u64 l1, u64 l2, u64 l3, u64 l4,
                                                             }
                                                             L47:;
                                                             l47 = l45 + l47;
-                                                            const u64 t332 = load64(l4);
-                                                            const u32 t333 = load32(l4 + 16ull);
-                                                            l45 = t333;
-                                                            l9 = t332 + ((u64)l45 << 3);
+                                                            const u64 t328 = load64(l4);
+                                                            const u32 t329 = load32(l4 + 16ull);
+                                                            l45 = t329;
+                                                            l9 = t328 + ((u64)l45 << 3);
                                                             {
                                                                 {
-                                                                    const u32 t336 = load32(l4 + 32ull);
-                                                                    l37 = t336;
+                                                                    const u32 t332 = load32(l4 + 32ull);
+                                                                    l37 = t332;
                                                                     l40 = l37 <= l39;
-                                                                    if (l40) goto L335;
-                                                                    if ((l37 - l39) != 1u) goto L335;
-                                                                    const u32 t337 = load32((l9 + ((l16 << 3) & 34359738360ull)) + 4ull);
-                                                                    l37 = t337;
+                                                                    if (l40) goto L331;
+                                                                    if ((l37 - l39) != 1u) goto L331;
+                                                                    const u32 t333 = load32((l9 + ((l16 << 3) & 34359738360ull)) + 4ull);
+                                                                    l37 = t333;
                                                                     l40 = l37 ? (l50 - l37) : 0u;
-                                                                    goto L334;
+                                                                    goto L330;
                                                                 }
-                                                                L335:;
+                                                                L331:;
                                                                 if (l40) {
                                                                     l40 = l37;
-                                                                    goto L334;
+                                                                    goto L330;
                                                                 }
-                                                                L339:;
+                                                                L335:;
                                                                 {
-                                                                    const u32 t340 = load32((l9 + ((u64)(l37 - 1u) << 3)) + 4ull);
-                                                                    l40 = t340;
+                                                                    const u32 t336 = load32((l9 + ((u64)(l37 - 1u) << 3)) + 4ull);
+                                                                    l40 = t336;
                                                                     l37 = l37 - l40;
                                                                     l40 = l40 ? l37 : 0u;
-                                                                    if (l40 > l39) goto L339;
+                                                                    if (l40 > l39) goto L335;
                                                                 }
                                                             }
-                                                            L334:;
+                                                            L330:;
                                                             store32(l4 + 20ull, l39);
                                                             store32(l4 + 32ull, l40);
                                                             l37 = l34 + l47;
@@ -18854,10 +18944,10 @@ static void engine_run(struct engine *e, u64 l0, u64 l1, u64 l2, u64 l3, u64 l4,
                                                         goto L10;
                                                     }
                                                     L27:;
-                                                    const u32 t341 = load32(l4 + 24ull);
-                                                    const u32 t342 = load32(l4 + 20ull);
-                                                    const u32 t343 = load32(l4 + 16ull);
-                                                    l37 = t341 + (t342 + t343);
+                                                    const u32 t337 = load32(l4 + 24ull);
+                                                    const u32 t338 = load32(l4 + 20ull);
+                                                    const u32 t339 = load32(l4 + 16ull);
+                                                    l37 = t337 + (t338 + t339);
                                                     l4 = l17 - l13;
                                                     l39 = 1u << (l36 & 31);
                                                     if (l39 & 3u) goto L15;
@@ -18867,20 +18957,20 @@ static void engine_run(struct engine *e, u64 l0, u64 l1, u64 l2, u64 l3, u64 l4,
                                                 }
                                                 L26:;
                                                 l9 = l4 + 20ull;
-                                                const u32 t344 = load32(l9);
-                                                l34 = t344;
+                                                const u32 t340 = load32(l9);
+                                                l34 = t340;
                                                 core_delivery_deliver(e, l4, l39, l40);
                                                 l37 = l34 + (l37 + l45);
-                                                const u32 t345 = load32(l9);
-                                                l39 = t345;
-                                                const u32 t346 = load32(l4 + 16ull);
-                                                l45 = t346;
+                                                const u32 t341 = load32(l9);
+                                                l39 = t341;
+                                                const u32 t342 = load32(l4 + 16ull);
+                                                l45 = t342;
                                             }
                                             L25:;
                                             store32(l8 + 88u, 0u);
                                             store32(l8 + 92u, l39);
-                                            const u32 t347 = load32(l4 + 24ull);
-                                            l39 = t347 + (l39 + l45);
+                                            const u32 t343 = load32(l4 + 24ull);
+                                            l39 = t343 + (l39 + l45);
                                             l41 = (l37 > l41) ? l37 : l41;
                                             v21 = l13 - 1ull;
                                         }
@@ -18910,16 +19000,16 @@ static void engine_run(struct engine *e, u64 l0, u64 l1, u64 l2, u64 l3, u64 l4,
                 }
                 L9:;
                 e->stack_pointer = l8 + 208ull;
-                const u32 t348 = load8(l10 + 160u);
-                l35 = t348;
-                const u32 t349 = load32(l10 + 176u);
-                l34 = t349;
-                const u64 t350 = load64(l10 + 168u);
-                l8 = t350;
-                const u64 t351 = load64(l10 + 24u);
-                l6 = t351;
-                const u64 t352 = load64(l10 + 48u);
-                l4 = t352;
+                const u32 t344 = load8(l10 + 160u);
+                l35 = t344;
+                const u32 t345 = load32(l10 + 176u);
+                l34 = t345;
+                const u64 t346 = load64(l10 + 168u);
+                l8 = t346;
+                const u64 t347 = load64(l10 + 24u);
+                l6 = t347;
+                const u64 t348 = load64(l10 + 48u);
+                l4 = t348;
                 store64(l0 + 32u, 0ull);
                 l4 = l5 - l4;
                 store64(l0 + 24u, (l4 > l5) ? 0ull : l4);
@@ -20868,7 +20958,7 @@ static void engine_turn(struct engine *e, u64 l0, u64 l1, u64 l2, u64 l3, u64 l4
                                                                                                 store32(l26 + 176u, l10);
                                                                                                 store32(l26 + 172u, l14);
                                                                                                 store32(l26 + 168u, l12);
-                                                                                                l33 = l26 + 184ull;
+                                                                                                l36 = l26 + 184ull;
                                                                                                 l1 = l28;
                                                                                                 l5 = l26 + 168ull;
                                                                                                 l4 = l26 + 32ull;
@@ -20894,11 +20984,12 @@ static void engine_turn(struct engine *e, u64 l0, u64 l1, u64 l2, u64 l3, u64 l4
                                                                                                             const u32 t503 = load32(l1 + 16ull);
                                                                                                             const u32 t504 = l10;
                                                                                                             l10 = t503;
-                                                                                                            l1 = (u64)(t504 + l10);
-                                                                                                            l5 = t502 + (l1 << 3);
+                                                                                                            l30 = (u64)(t504 + l10);
+                                                                                                            l5 = t502 + (l30 << 3);
                                                                                                             {
-                                                                                                                l1 = (u64)(l6 + l10) - l1;
-                                                                                                                if (l1 < 16ull) {
+                                                                                                                l27 = (u64)(l6 + l10);
+                                                                                                                l1 = l27 - l30;
+                                                                                                                if (l1 <= 15ull) {
                                                                                                                     {
                                                                                                                         L508:;
                                                                                                                         {
@@ -20939,44 +21030,57 @@ static void engine_turn(struct engine *e, u64 l0, u64 l1, u64 l2, u64 l3, u64 l4
                                                                                                                     store64(l4, t519 + 1ull);
                                                                                                                     goto L505;
                                                                                                                 }
+                                                                                                                l0 = l4 + 16ull;
+                                                                                                                const u64 t520 = load64(l0);
+                                                                                                                const u64 t521 = load64(l4);
+                                                                                                                const u64 t522 = load64(l4 + 8ull);
+                                                                                                                const u64 t523 = c_filling_put_characters(e, l5, l1, t520, t521, t522);
+                                                                                                                l33 = t523;
+                                                                                                                const u64 t524 = load64(l0);
+                                                                                                                const u64 t525 = l0;
+                                                                                                                l0 = l33 + t524;
+                                                                                                                store64(t525, l0);
+                                                                                                                if (l1 == l33) { v499 = 0u; goto L499; }
+                                                                                                                l5 = l5 + (l33 << 3);
+                                                                                                                l1 = (l30 + l33) - l27;
                                                                                                                 {
-                                                                                                                    L521:;
+                                                                                                                    L527:;
                                                                                                                     {
                                                                                                                         l6 = 0u;
-                                                                                                                        const u32 t522 = load8(l5);
-                                                                                                                        if (t522 == 0) {
-                                                                                                                            const u32 t524 = load8(l5 + 1ull);
-                                                                                                                            l6 = t524;
+                                                                                                                        const u32 t528 = load8(l5);
+                                                                                                                        if (t528 == 0) {
+                                                                                                                            const u32 t530 = load8(l5 + 1ull);
+                                                                                                                            l6 = t530;
                                                                                                                         }
                                                                                                                         {
-                                                                                                                            l0 = l4 + 16ull;
-                                                                                                                            const u64 t526 = load64(l0);
-                                                                                                                            l30 = t526;
-                                                                                                                            const u64 t527 = load64(l4 + 8ull);
-                                                                                                                            if (l30 < t527) {
-                                                                                                                                const u64 t529 = load64(l4);
-                                                                                                                                store8(t529 + l30, (u8)l6);
-                                                                                                                                const u64 t530 = load64(l0);
-                                                                                                                                store64(l0, t530 + 1ull);
-                                                                                                                                goto L525;
+                                                                                                                            const u64 t532 = load64(l4 + 8ull);
+                                                                                                                            if (t532 > l0) {
+                                                                                                                                const u64 t534 = load64(l4);
+                                                                                                                                store8(t534 + l0, (u8)l6);
+                                                                                                                                l0 = l4 + 16ull;
+                                                                                                                                const u64 t535 = load64(l0);
+                                                                                                                                const u64 t536 = l0;
+                                                                                                                                l0 = t535 + 1ull;
+                                                                                                                                store64(t536, l0);
+                                                                                                                                goto L531;
                                                                                                                             }
-                                                                                                                            l0 = l4 + 24ull;
-                                                                                                                            const u32 t531 = load8(l0);
-                                                                                                                            if (t531 == 1u) goto L520;
+                                                                                                                            l30 = l4 + 24ull;
+                                                                                                                            const u32 t537 = load8(l30);
+                                                                                                                            if (t537 == 1u) goto L526;
                                                                                                                             store8(l4 + 25ull, (u8)l6);
-                                                                                                                            store8(l0, (u8)1u);
+                                                                                                                            store8(l30, (u8)1u);
                                                                                                                         }
-                                                                                                                        L525:;
+                                                                                                                        L531:;
                                                                                                                         l5 = l5 + 8ull;
-                                                                                                                        l1 = l1 - 1ull;
-                                                                                                                        if ((l1 == 0) == 0) goto L521;
+                                                                                                                        l1 = l1 + 1ull;
+                                                                                                                        if ((l1 == 0) == 0) goto L527;
                                                                                                                     }
                                                                                                                     v499 = 0u; goto L499;
                                                                                                                 }
-                                                                                                                L520:;
+                                                                                                                L526:;
                                                                                                                 l4 = l4 + 32ull;
-                                                                                                                const u64 t532 = load64(l4);
-                                                                                                                store64(l4, t532 + 1ull);
+                                                                                                                const u64 t538 = load64(l4);
+                                                                                                                store64(l4, t538 + 1ull);
                                                                                                             }
                                                                                                             L505:;
                                                                                                             l11 = 4u;
@@ -20984,9 +21088,9 @@ static void engine_turn(struct engine *e, u64 l0, u64 l1, u64 l2, u64 l3, u64 l4
                                                                                                         }
                                                                                                         L499:;
                                                                                                         l6 = v499;
-                                                                                                        store8(l33, (u8)l11);
-                                                                                                        store32(l33 + 4ull, 0u);
-                                                                                                        store8(l33 + 1ull, (u8)l6);
+                                                                                                        store8(l36, (u8)l11);
+                                                                                                        store32(l36 + 4ull, 0u);
+                                                                                                        store8(l36 + 1ull, (u8)l6);
                                                                                                         e->stack_pointer = l2 + 32ull;
                                                                                                         goto L495;
                                                                                                     }
@@ -21008,7 +21112,7 @@ static void engine_turn(struct engine *e, u64 l0, u64 l1, u64 l2, u64 l3, u64 l4
                                                                                             l5 = l26 + 32ull;
                                                                                             l1 = e->stack_pointer - 80ull;
                                                                                             e->stack_pointer = l1;
-                                                                                            u32 v533;
+                                                                                            u32 v539;
                                                                                             {
                                                                                                 {
                                                                                                     {
@@ -21016,152 +21120,152 @@ static void engine_turn(struct engine *e, u64 l0, u64 l1, u64 l2, u64 l3, u64 l4
                                                                                                             {
                                                                                                                 {
                                                                                                                     if ((i64)(l1 - e->stack) >= (i64)16ull) {
-                                                                                                                        const u64 t540 = load64(l4 + 8u);
-                                                                                                                        store64(l1 + 32u, t540);
-                                                                                                                        const u64 t541 = load64(l4);
-                                                                                                                        store64(l1 + 24u, t541);
+                                                                                                                        const u64 t546 = load64(l4 + 8u);
+                                                                                                                        store64(l1 + 32u, t546);
+                                                                                                                        const u64 t547 = load64(l4);
+                                                                                                                        store64(l1 + 24u, t547);
                                                                                                                         functions_arguments_Arguments_next(e, l1 + 16ull, l1 + 24ull, l0);
-                                                                                                                        const u32 t542 = load32(l1 + 20u);
-                                                                                                                        l10 = t542;
-                                                                                                                        const u32 t543 = load32(l1 + 16u);
-                                                                                                                        l6 = t543;
+                                                                                                                        const u32 t548 = load32(l1 + 20u);
+                                                                                                                        l10 = t548;
+                                                                                                                        const u32 t549 = load32(l1 + 16u);
+                                                                                                                        l6 = t549;
                                                                                                                         store64(l1 + 72u, 0ull);
                                                                                                                         store64(l1 + 64u, 0ull);
                                                                                                                         store64(l1 + 56u, 0ull);
                                                                                                                         store64(l1 + 48u, 0ull);
                                                                                                                         store64(l1 + 40u, 0ull);
-                                                                                                                        u32 v544;
+                                                                                                                        u32 v550;
                                                                                                                         {
-                                                                                                                            const u32 t545 = load32(l0 + 40ull);
-                                                                                                                            l11 = t545;
+                                                                                                                            const u32 t551 = load32(l0 + 40ull);
+                                                                                                                            l11 = t551;
                                                                                                                             if (l11 >= 8u) {
                                                                                                                                 forms_work_Work_find_among_more(e, l1, l0, l6, l10);
-                                                                                                                                const u32 t547 = load32(l1 + 4u);
-                                                                                                                                l6 = t547;
-                                                                                                                                const u32 t548 = load8(l1);
-                                                                                                                                v544 = t548; goto L544;
+                                                                                                                                const u32 t553 = load32(l1 + 4u);
+                                                                                                                                l6 = t553;
+                                                                                                                                const u32 t554 = load8(l1);
+                                                                                                                                v550 = t554; goto L550;
                                                                                                                             }
                                                                                                                             {
-                                                                                                                                if (l11 == 0) goto L549;
-                                                                                                                                const u64 t550 = load64(l0);
-                                                                                                                                l30 = t550;
-                                                                                                                                const u64 t551 = load32(l30 + 4ull);
-                                                                                                                                const u32 t552 = load32(l0 + 16ull);
-                                                                                                                                l11 = t552;
+                                                                                                                                if (l11 == 0) goto L555;
+                                                                                                                                const u64 t556 = load64(l0);
+                                                                                                                                l30 = t556;
+                                                                                                                                const u64 t557 = load32(l30 + 4ull);
+                                                                                                                                const u32 t558 = load32(l0 + 16ull);
+                                                                                                                                l11 = t558;
                                                                                                                                 l4 = (u64)(l11 + l10);
                                                                                                                                 l2 = (u64)(l6 + l11);
-                                                                                                                                if (t551 != (l4 - l2)) goto L549;
+                                                                                                                                if (t557 != (l4 - l2)) goto L555;
                                                                                                                                 l36 = 17ull - (l2 << 3);
                                                                                                                                 l2 = (l4 ^ 18446744073709551615ull) + l2;
                                                                                                                                 l4 = l30 + (l4 << 3);
-                                                                                                                                L553:;
+                                                                                                                                L559:;
                                                                                                                                 {
                                                                                                                                     l2 = l2 + 1ull;
-                                                                                                                                    if (l2 == 0) goto L538;
+                                                                                                                                    if (l2 == 0) goto L544;
                                                                                                                                     l30 = l4 - 7ull;
                                                                                                                                     l27 = l4 + l36;
                                                                                                                                     l4 = l4 - 8ull;
-                                                                                                                                    const u32 t554 = load8(l27);
-                                                                                                                                    const u32 t555 = load8(l30);
-                                                                                                                                    if (t554 == t555) goto L553;
+                                                                                                                                    const u32 t560 = load8(l27);
+                                                                                                                                    const u32 t561 = load8(l30);
+                                                                                                                                    if (t560 == t561) goto L559;
                                                                                                                                 }
                                                                                                                             }
-                                                                                                                            L549:;
+                                                                                                                            L555:;
                                                                                                                             forms_work_Work_find_among_few(e, l1 + 8ull, l0, l6, l10);
-                                                                                                                            const u32 t556 = load32(l1 + 12u);
-                                                                                                                            l6 = t556;
-                                                                                                                            const u32 t557 = load8(l1 + 8u);
-                                                                                                                            v544 = t557;
+                                                                                                                            const u32 t562 = load32(l1 + 12u);
+                                                                                                                            l6 = t562;
+                                                                                                                            const u32 t563 = load8(l1 + 8u);
+                                                                                                                            v550 = t563;
                                                                                                                         }
-                                                                                                                        L544:;
-                                                                                                                        if ((v544 & 255u) != 1u) goto L536;
-                                                                                                                        goto L537;
+                                                                                                                        L550:;
+                                                                                                                        if ((v550 & 255u) != 1u) goto L542;
+                                                                                                                        goto L543;
                                                                                                                     }
                                                                                                                     trap();
                                                                                                                 }
-                                                                                                                L538:;
+                                                                                                                L544:;
                                                                                                                 store64(l0 + 44ull, 0ull);
                                                                                                                 l6 = 0u;
                                                                                                             }
-                                                                                                            L537:;
+                                                                                                            L543:;
                                                                                                             forms_work_Work_stored(e, l1 + 40ull, l0, l6);
-                                                                                                            const u64 t558 = load64(l1 + 64u);
-                                                                                                            l4 = t558;
-                                                                                                            const u32 t559 = load32(l1 + 72u);
-                                                                                                            l10 = t559;
-                                                                                                            const u32 t560 = core_display_show_items2(e, l1 + 40ull, 0u, l10, l5);
-                                                                                                            if (t560 & 255u) goto L534;
+                                                                                                            const u64 t564 = load64(l1 + 64u);
+                                                                                                            l4 = t564;
+                                                                                                            const u32 t565 = load32(l1 + 72u);
+                                                                                                            l10 = t565;
+                                                                                                            const u32 t566 = core_display_show_items2(e, l1 + 40ull, 0u, l10, l5);
+                                                                                                            if (t566 & 255u) goto L540;
                                                                                                             l0 = l5 + 16ull;
-                                                                                                            const u64 t561 = load64(l0);
-                                                                                                            l2 = t561;
+                                                                                                            const u64 t567 = load64(l0);
+                                                                                                            l2 = t567;
                                                                                                             l30 = l5 + 8ull;
-                                                                                                            const u64 t562 = load64(l30);
-                                                                                                            if (l2 >= t562) {
+                                                                                                            const u64 t568 = load64(l30);
+                                                                                                            if (l2 >= t568) {
                                                                                                                 l4 = l5 + 24ull;
-                                                                                                                const u32 t564 = load8(l4);
-                                                                                                                if (t564 == 1u) goto L535;
+                                                                                                                const u32 t570 = load8(l4);
+                                                                                                                if (t570 == 1u) goto L541;
                                                                                                                 store16(l4, (u16)15361u);
-                                                                                                                goto L535;
+                                                                                                                goto L541;
                                                                                                             }
-                                                                                                            const u64 t565 = load64(l5);
-                                                                                                            store8(t565 + l2, (u8)60u);
-                                                                                                            const u64 t566 = load64(l0);
-                                                                                                            l2 = t566 + 1ull;
+                                                                                                            const u64 t571 = load64(l5);
+                                                                                                            store8(t571 + l2, (u8)60u);
+                                                                                                            const u64 t572 = load64(l0);
+                                                                                                            l2 = t572 + 1ull;
                                                                                                             store64(l0, l2);
                                                                                                             {
-                                                                                                                const u64 t568 = load64(l30);
-                                                                                                                l0 = t568;
+                                                                                                                const u64 t574 = load64(l30);
+                                                                                                                l0 = t574;
                                                                                                                 if (l0 <= l2) {
                                                                                                                     l30 = l5 + 24ull;
-                                                                                                                    const u32 t570 = load8(l30);
-                                                                                                                    if (t570 == 1u) goto L535;
+                                                                                                                    const u32 t576 = load8(l30);
+                                                                                                                    if (t576 == 1u) goto L541;
                                                                                                                     store16(l30, (u16)24065u);
-                                                                                                                    goto L567;
+                                                                                                                    goto L573;
                                                                                                                 }
-                                                                                                                const u64 t571 = load64(l5);
-                                                                                                                store8(t571 + l2, (u8)94u);
+                                                                                                                const u64 t577 = load64(l5);
+                                                                                                                store8(t577 + l2, (u8)94u);
                                                                                                                 l2 = l5 + 16ull;
-                                                                                                                const u64 t572 = load64(l2);
-                                                                                                                const u64 t573 = l2;
-                                                                                                                l2 = t572 + 1ull;
-                                                                                                                store64(t573, l2);
-                                                                                                                const u64 t574 = load64(l5 + 8ull);
-                                                                                                                l0 = t574;
+                                                                                                                const u64 t578 = load64(l2);
+                                                                                                                const u64 t579 = l2;
+                                                                                                                l2 = t578 + 1ull;
+                                                                                                                store64(t579, l2);
+                                                                                                                const u64 t580 = load64(l5 + 8ull);
+                                                                                                                l0 = t580;
                                                                                                             }
-                                                                                                            L567:;
+                                                                                                            L573:;
                                                                                                             {
                                                                                                                 if (l0 <= l2) {
                                                                                                                     l2 = l5 + 24ull;
-                                                                                                                    const u32 t577 = load8(l2);
-                                                                                                                    if (t577 == 1u) goto L535;
+                                                                                                                    const u32 t583 = load8(l2);
+                                                                                                                    if (t583 == 1u) goto L541;
                                                                                                                     store16(l2, (u16)15873u);
-                                                                                                                    goto L575;
+                                                                                                                    goto L581;
                                                                                                                 }
-                                                                                                                const u64 t578 = load64(l5);
-                                                                                                                store8(t578 + l2, (u8)62u);
+                                                                                                                const u64 t584 = load64(l5);
+                                                                                                                store8(t584 + l2, (u8)62u);
                                                                                                                 l2 = l5 + 16ull;
-                                                                                                                const u64 t579 = load64(l2);
-                                                                                                                store64(l2, t579 + 1ull);
+                                                                                                                const u64 t585 = load64(l2);
+                                                                                                                store64(l2, t585 + 1ull);
                                                                                                             }
-                                                                                                            L575:;
-                                                                                                            const u32 t580 = core_display_show_items2(e, l1 + 40ull, l10, (u32)l4, l5);
-                                                                                                            if (t580 & 255u) goto L534;
+                                                                                                            L581:;
+                                                                                                            const u32 t586 = core_display_show_items2(e, l1 + 40ull, l10, (u32)l4, l5);
+                                                                                                            if (t586 & 255u) goto L540;
                                                                                                         }
-                                                                                                        L536:;
+                                                                                                        L542:;
                                                                                                         l6 = 3u;
-                                                                                                        v533 = 0u; goto L533;
+                                                                                                        v539 = 0u; goto L539;
                                                                                                     }
-                                                                                                    L535:;
+                                                                                                    L541:;
                                                                                                     l4 = l5 + 32ull;
-                                                                                                    const u64 t581 = load64(l4);
-                                                                                                    store64(l4, t581 + 1ull);
+                                                                                                    const u64 t587 = load64(l4);
+                                                                                                    store64(l4, t587 + 1ull);
                                                                                                 }
-                                                                                                L534:;
+                                                                                                L540:;
                                                                                                 l6 = 4u;
-                                                                                                v533 = 5u;
+                                                                                                v539 = 5u;
                                                                                             }
-                                                                                            L533:;
-                                                                                            l10 = v533;
+                                                                                            L539:;
+                                                                                            l10 = v539;
                                                                                             store8(l33, (u8)l6);
                                                                                             store32(l33 + 4ull, 0u);
                                                                                             store8(l33 + 1ull, (u8)l10);
@@ -21169,8 +21273,8 @@ static void engine_turn(struct engine *e, u64 l0, u64 l1, u64 l2, u64 l3, u64 l4
                                                                                             goto L469;
                                                                                         }
                                                                                         L471:;
-                                                                                        const u32 t582 = load8(l26 + 130u);
-                                                                                        l13 = t582;
+                                                                                        const u32 t588 = load8(l26 + 130u);
+                                                                                        l13 = t588;
                                                                                         l15 = 0u;
                                                                                         store16(l45, (u16)0u);
                                                                                         store8(l45 + 2u, (u8)0u);
@@ -21180,62 +21284,62 @@ static void engine_turn(struct engine *e, u64 l0, u64 l1, u64 l2, u64 l3, u64 l4
                                                                                         store32(l26 + 104u, l12);
                                                                                         store64(l26 + 192u, 0ull);
                                                                                         {
-                                                                                            if ((l11 - 5u) < 20u) goto L583;
+                                                                                            if ((l11 - 5u) < 20u) goto L589;
                                                                                             l10 = 0u;
                                                                                             {
                                                                                                 switch (l11 - 3u) {
-                                                                                                case 0: goto L583;
+                                                                                                case 0: goto L589;
                                                                                                 case 1: goto L411;
-                                                                                                default: goto L584;
+                                                                                                default: goto L590;
                                                                                                 }
                                                                                             }
-                                                                                            L584:;
+                                                                                            L590:;
                                                                                             l2 = l26 + 192ull;
                                                                                             l1 = l26 + 104ull;
                                                                                             l0 = e->stack_pointer - 32ull;
                                                                                             e->stack_pointer = l0;
                                                                                             {
                                                                                                 if ((i64)(l0 - e->stack) >= (i64)16ull) {
-                                                                                                    const u64 t587 = load64(l1 + 8u);
-                                                                                                    store64(l0 + 24u, t587);
-                                                                                                    const u64 t588 = load64(l1);
-                                                                                                    store64(l0 + 16u, t588);
+                                                                                                    const u64 t593 = load64(l1 + 8u);
+                                                                                                    store64(l0 + 24u, t593);
+                                                                                                    const u64 t594 = load64(l1);
+                                                                                                    store64(l0 + 16u, t594);
                                                                                                     functions_arguments_Arguments_next(e, l0 + 8ull, l0 + 16ull, l28);
-                                                                                                    const u32 t589 = load32(l0 + 8u);
-                                                                                                    l6 = t589;
-                                                                                                    const u32 t590 = load32(l0 + 12u);
-                                                                                                    if (l6 != t590) {
-                                                                                                        const u64 t592 = load64(l28);
-                                                                                                        const u32 t593 = load32(l28 + 16ull);
-                                                                                                        l1 = t592 + ((u64)(t593 + l6) << 3);
-                                                                                                        const u32 t594 = load8(l1);
-                                                                                                        const u64 t595 = l40;
-                                                                                                        u32 v596;
-                                                                                                        if (t594) {
-                                                                                                            v596 = 0u;
+                                                                                                    const u32 t595 = load32(l0 + 8u);
+                                                                                                    l6 = t595;
+                                                                                                    const u32 t596 = load32(l0 + 12u);
+                                                                                                    if (l6 != t596) {
+                                                                                                        const u64 t598 = load64(l28);
+                                                                                                        const u32 t599 = load32(l28 + 16ull);
+                                                                                                        l1 = t598 + ((u64)(t599 + l6) << 3);
+                                                                                                        const u32 t600 = load8(l1);
+                                                                                                        const u64 t601 = l40;
+                                                                                                        u32 v602;
+                                                                                                        if (t600) {
+                                                                                                            v602 = 0u;
                                                                                                         } else {
-                                                                                                            const u32 t597 = load8(l1 + 1ull);
-                                                                                                            v596 = t597;
+                                                                                                            const u32 t603 = load8(l1 + 1ull);
+                                                                                                            v602 = t603;
                                                                                                         }
-                                                                                                        store8(t595, (u8)v596);
+                                                                                                        store8(t601, (u8)v602);
                                                                                                     }
                                                                                                     store16(l2, (u16)3u);
                                                                                                     store32(l2 + 4ull, 0u);
                                                                                                     e->stack_pointer = l0 + 32ull;
-                                                                                                    goto L585;
+                                                                                                    goto L591;
                                                                                                 }
                                                                                                 trap();
                                                                                             }
-                                                                                            L585:;
-                                                                                            const u32 t598 = load32(l26 + 196u);
-                                                                                            l15 = t598;
-                                                                                            const u32 t599 = load8(l26 + 193u);
-                                                                                            l10 = t599;
-                                                                                            const u32 t600 = load8(l26 + 192u);
-                                                                                            l11 = t600;
+                                                                                            L591:;
+                                                                                            const u32 t604 = load32(l26 + 196u);
+                                                                                            l15 = t604;
+                                                                                            const u32 t605 = load8(l26 + 193u);
+                                                                                            l10 = t605;
+                                                                                            const u32 t606 = load8(l26 + 192u);
+                                                                                            l11 = t606;
                                                                                             goto L411;
                                                                                         }
-                                                                                        L583:;
+                                                                                        L589:;
                                                                                         store64(l26 + 200u, 0ull);
                                                                                         {
                                                                                             {
@@ -21258,49 +21362,49 @@ static void engine_turn(struct engine *e, u64 l0, u64 l1, u64 l2, u64 l3, u64 l4
                                                                                                                                                                 {
                                                                                                                                                                     {
                                                                                                                                                                         switch (l11 - 5u) {
-                                                                                                                                                                        case 0: goto L607;
-                                                                                                                                                                        case 1: goto L606;
-                                                                                                                                                                        case 2: goto L604;
-                                                                                                                                                                        case 3: goto L603;
-                                                                                                                                                                        case 4: goto L602;
-                                                                                                                                                                        case 6: goto L605;
-                                                                                                                                                                        case 7: goto L612;
-                                                                                                                                                                        case 8: goto L611;
-                                                                                                                                                                        case 9: goto L610;
-                                                                                                                                                                        case 10: goto L609;
-                                                                                                                                                                        case 11: goto L608;
-                                                                                                                                                                        case 12: goto L620;
-                                                                                                                                                                        case 13: goto L619;
-                                                                                                                                                                        case 14: goto L618;
-                                                                                                                                                                        case 15: goto L617;
-                                                                                                                                                                        case 16: goto L616;
-                                                                                                                                                                        case 17: goto L615;
-                                                                                                                                                                        case 18: goto L614;
-                                                                                                                                                                        case 19: goto L613;
-                                                                                                                                                                        default: goto L601;
+                                                                                                                                                                        case 0: goto L613;
+                                                                                                                                                                        case 1: goto L612;
+                                                                                                                                                                        case 2: goto L610;
+                                                                                                                                                                        case 3: goto L609;
+                                                                                                                                                                        case 4: goto L608;
+                                                                                                                                                                        case 6: goto L611;
+                                                                                                                                                                        case 7: goto L618;
+                                                                                                                                                                        case 8: goto L617;
+                                                                                                                                                                        case 9: goto L616;
+                                                                                                                                                                        case 10: goto L615;
+                                                                                                                                                                        case 11: goto L614;
+                                                                                                                                                                        case 12: goto L626;
+                                                                                                                                                                        case 13: goto L625;
+                                                                                                                                                                        case 14: goto L624;
+                                                                                                                                                                        case 15: goto L623;
+                                                                                                                                                                        case 16: goto L622;
+                                                                                                                                                                        case 17: goto L621;
+                                                                                                                                                                        case 18: goto L620;
+                                                                                                                                                                        case 19: goto L619;
+                                                                                                                                                                        default: goto L607;
                                                                                                                                                                         }
                                                                                                                                                                     }
-                                                                                                                                                                    L620:;
+                                                                                                                                                                    L626:;
                                                                                                                                                                     functions_comparing_equal(e, l26 + 200ull, l28, l26 + 104ull);
                                                                                                                                                                     goto L412;
                                                                                                                                                                 }
-                                                                                                                                                                L619:;
+                                                                                                                                                                L625:;
                                                                                                                                                                 functions_comparing_greater(e, l26 + 200ull, l28, l26 + 104ull);
                                                                                                                                                                 goto L412;
                                                                                                                                                             }
-                                                                                                                                                            L618:;
+                                                                                                                                                            L624:;
                                                                                                                                                             functions_arithmetic_arithmetic(e, l26 + 200ull, l28, l13, l26 + 104ull);
                                                                                                                                                             goto L412;
                                                                                                                                                         }
-                                                                                                                                                        L617:;
+                                                                                                                                                        L623:;
                                                                                                                                                         functions_bit_strings_union(e, l26 + 200ull, l28, l26 + 104ull);
                                                                                                                                                         goto L412;
                                                                                                                                                     }
-                                                                                                                                                    L616:;
+                                                                                                                                                    L622:;
                                                                                                                                                     functions_bit_strings_intersection(e, l26 + 200ull, l28, l26 + 104ull);
                                                                                                                                                     goto L412;
                                                                                                                                                 }
-                                                                                                                                                L615:;
+                                                                                                                                                L621:;
                                                                                                                                                 l4 = l26 + 200ull;
                                                                                                                                                 l2 = l26 + 104ull;
                                                                                                                                                 l1 = e->stack_pointer - 64ull;
@@ -21310,265 +21414,265 @@ static void engine_turn(struct engine *e, u64 l0, u64 l1, u64 l2, u64 l3, u64 l4
                                                                                                                                                     if ((i64)(l0 - e->stack) >= (i64)16ull) {
                                                                                                                                                         store64(l0 + 32u, 0ull);
                                                                                                                                                         store64(l0 + 56u, 0ull);
-                                                                                                                                                        const u64 t623 = load64(l2);
-                                                                                                                                                        store64(l0 + 40u, t623);
-                                                                                                                                                        const u64 t624 = load64(l2 + 8u);
-                                                                                                                                                        store64(l0 + 48u, t624);
+                                                                                                                                                        const u64 t629 = load64(l2);
+                                                                                                                                                        store64(l0 + 40u, t629);
+                                                                                                                                                        const u64 t630 = load64(l2 + 8u);
+                                                                                                                                                        store64(l0 + 48u, t630);
                                                                                                                                                         functions_arguments_Arguments_next(e, l0 + 8ull, l0 + 40ull, l28);
-                                                                                                                                                        const u32 t625 = load32(l28 + 16ull);
-                                                                                                                                                        l10 = t625;
-                                                                                                                                                        const u32 t626 = load32(l0 + 8u);
-                                                                                                                                                        l12 = t626;
-                                                                                                                                                        const u32 t627 = load32(l0 + 12u);
-                                                                                                                                                        l11 = t627;
+                                                                                                                                                        const u32 t631 = load32(l28 + 16ull);
+                                                                                                                                                        l10 = t631;
+                                                                                                                                                        const u32 t632 = load32(l0 + 8u);
+                                                                                                                                                        l12 = t632;
+                                                                                                                                                        const u32 t633 = load32(l0 + 12u);
+                                                                                                                                                        l11 = t633;
                                                                                                                                                         l2 = (u64)(l10 + l11);
                                                                                                                                                         l1 = (u64)(l10 + l12) - l2;
-                                                                                                                                                        const u64 t628 = load64(l28);
-                                                                                                                                                        l2 = (t628 + (l2 << 3)) - 8ull;
+                                                                                                                                                        const u64 t634 = load64(l28);
+                                                                                                                                                        l2 = (t634 + (l2 << 3)) - 8ull;
                                                                                                                                                         l6 = l11;
-                                                                                                                                                        L629:;
+                                                                                                                                                        L635:;
                                                                                                                                                         {
                                                                                                                                                             {
                                                                                                                                                                 l10 = l6;
-                                                                                                                                                                if (l1 == 0) goto L630;
-                                                                                                                                                                const u32 t631 = load8(l2);
-                                                                                                                                                                if (t631) goto L630;
+                                                                                                                                                                if (l1 == 0) goto L636;
+                                                                                                                                                                const u32 t637 = load8(l2);
+                                                                                                                                                                if (t637) goto L636;
                                                                                                                                                                 l1 = l1 + 1ull;
                                                                                                                                                                 l6 = l10 - 1u;
                                                                                                                                                                 l5 = l2 + 1ull;
                                                                                                                                                                 l2 = l2 - 8ull;
-                                                                                                                                                                const u32 t632 = load8(l5);
-                                                                                                                                                                if ((t632 & 248u) == 48u) goto L629;
+                                                                                                                                                                const u32 t638 = load8(l5);
+                                                                                                                                                                if ((t638 & 248u) == 48u) goto L635;
                                                                                                                                                             }
-                                                                                                                                                            L630:;
+                                                                                                                                                            L636:;
                                                                                                                                                         }
                                                                                                                                                         store32(l0 + 28u, l11);
                                                                                                                                                         store32(l0 + 24u, l10);
                                                                                                                                                         store32(l0 + 20u, 2u);
                                                                                                                                                         functions_bit_strings_give_bits(e, l0 + 56ull, l28, l12, l10, l0 + 20ull);
-                                                                                                                                                        const u32 t633 = load16(l0 + 56u);
-                                                                                                                                                        store16(l4, (u16)t633);
-                                                                                                                                                        const u32 t634 = load32(l0 + 60u);
-                                                                                                                                                        store32(l4 + 4ull, t634);
+                                                                                                                                                        const u32 t639 = load16(l0 + 56u);
+                                                                                                                                                        store16(l4, (u16)t639);
+                                                                                                                                                        const u32 t640 = load32(l0 + 60u);
+                                                                                                                                                        store32(l4 + 4ull, t640);
                                                                                                                                                         e->stack_pointer = l0 + 64ull;
-                                                                                                                                                        goto L621;
+                                                                                                                                                        goto L627;
                                                                                                                                                     }
                                                                                                                                                     trap();
                                                                                                                                                 }
-                                                                                                                                                L621:;
+                                                                                                                                                L627:;
                                                                                                                                                 goto L412;
                                                                                                                                             }
-                                                                                                                                            L614:;
+                                                                                                                                            L620:;
                                                                                                                                             functions_bit_strings_shift(e, l26 + 200ull, l28, l26 + 104ull);
                                                                                                                                             goto L412;
                                                                                                                                         }
-                                                                                                                                        L613:;
+                                                                                                                                        L619:;
                                                                                                                                         functions_bit_strings_rotate(e, l26 + 200ull, l28, l26 + 104ull);
                                                                                                                                         goto L412;
                                                                                                                                     }
-                                                                                                                                    L612:;
+                                                                                                                                    L618:;
                                                                                                                                     functions_form_parts_call_segment(e, l26 + 200ull, l28, l26 + 104ull);
                                                                                                                                     goto L412;
                                                                                                                                 }
-                                                                                                                                L611:;
+                                                                                                                                L617:;
                                                                                                                                 functions_form_parts_call_character(e, l26 + 200ull, l28, l26 + 104ull);
                                                                                                                                 goto L412;
                                                                                                                             }
-                                                                                                                            L610:;
+                                                                                                                            L616:;
                                                                                                                             functions_form_parts_call_number(e, l26 + 200ull, l28, l26 + 104ull);
                                                                                                                             goto L412;
                                                                                                                         }
-                                                                                                                        L609:;
+                                                                                                                        L615:;
                                                                                                                         functions_form_parts_initial_part(e, l26 + 200ull, l28, l26 + 104ull);
                                                                                                                         goto L412;
                                                                                                                     }
-                                                                                                                    L608:;
+                                                                                                                    L614:;
                                                                                                                     functions_form_parts_call_restore(e, l26 + 200ull, l28, l26 + 104ull);
                                                                                                                     goto L412;
                                                                                                                 }
-                                                                                                                L607:;
+                                                                                                                L613:;
                                                                                                                 functions_form_calls_define_string(e, l26 + 200ull, l28, l26 + 104ull);
                                                                                                                 goto L412;
                                                                                                             }
-                                                                                                            L606:;
+                                                                                                            L612:;
                                                                                                             functions_form_calls_segment_string(e, l26 + 200ull, l28, l26 + 104ull);
                                                                                                             goto L412;
                                                                                                         }
-                                                                                                        L605:;
-                                                                                                        const u64 t635 = load64(l26 + 112u);
-                                                                                                        store64(l26 + 136u, t635);
-                                                                                                        const u64 t636 = load64(l26 + 104u);
-                                                                                                        store64(l26 + 128u, t636);
-                                                                                                        const u32 t637 = load8(l26 + 140u);
-                                                                                                        l11 = t637;
+                                                                                                        L611:;
+                                                                                                        const u64 t641 = load64(l26 + 112u);
+                                                                                                        store64(l26 + 136u, t641);
+                                                                                                        const u64 t642 = load64(l26 + 104u);
+                                                                                                        store64(l26 + 128u, t642);
+                                                                                                        const u32 t643 = load8(l26 + 140u);
+                                                                                                        l11 = t643;
                                                                                                         functions_arguments_Arguments_next(e, l26 + 24ull, l26 + 128ull, l28);
-                                                                                                        const u32 t638 = load32(l26 + 28u);
-                                                                                                        l6 = t638;
-                                                                                                        const u32 t639 = load32(l26 + 24u);
-                                                                                                        l15 = t639;
-                                                                                                        u32 v640;
+                                                                                                        const u32 t644 = load32(l26 + 28u);
+                                                                                                        l6 = t644;
+                                                                                                        const u32 t645 = load32(l26 + 24u);
+                                                                                                        l15 = t645;
+                                                                                                        u32 v646;
                                                                                                         {
-                                                                                                            const u32 t641 = load32(l28 + 40ull);
-                                                                                                            l10 = t641;
+                                                                                                            const u32 t647 = load32(l28 + 40ull);
+                                                                                                            l10 = t647;
                                                                                                             if (l10 >= 8u) {
                                                                                                                 forms_work_Work_find_among_more(e, l26 + 8ull, l28, l15, l6);
-                                                                                                                const u32 t643 = load32(l26 + 12u);
-                                                                                                                l15 = t643;
-                                                                                                                const u32 t644 = load8(l26 + 8u);
-                                                                                                                v640 = t644; goto L640;
+                                                                                                                const u32 t649 = load32(l26 + 12u);
+                                                                                                                l15 = t649;
+                                                                                                                const u32 t650 = load8(l26 + 8u);
+                                                                                                                v646 = t650; goto L646;
                                                                                                             }
                                                                                                             {
-                                                                                                                if (l10 == 0) goto L645;
-                                                                                                                const u64 t646 = load32(l4 + 4ull);
+                                                                                                                if (l10 == 0) goto L651;
+                                                                                                                const u64 t652 = load32(l4 + 4ull);
                                                                                                                 l30 = (u64)(l6 + l8);
                                                                                                                 l5 = (u64)(l8 + l15);
-                                                                                                                if (t646 != (l30 - l5)) goto L645;
+                                                                                                                if (t652 != (l30 - l5)) goto L651;
                                                                                                                 l1 = 17ull - (l5 << 3);
                                                                                                                 l5 = (l30 ^ 18446744073709551615ull) + l5;
                                                                                                                 l4 = l4 + (l30 << 3);
-                                                                                                                L647:;
+                                                                                                                L653:;
                                                                                                                 {
                                                                                                                     l5 = l5 + 1ull;
                                                                                                                     if (l5 == 0) goto L415;
                                                                                                                     l30 = l4 - 7ull;
                                                                                                                     l2 = l1 + l4;
                                                                                                                     l4 = l4 - 8ull;
-                                                                                                                    const u32 t648 = load8(l2);
-                                                                                                                    const u32 t649 = load8(l30);
-                                                                                                                    if (t648 == t649) goto L647;
+                                                                                                                    const u32 t654 = load8(l2);
+                                                                                                                    const u32 t655 = load8(l30);
+                                                                                                                    if (t654 == t655) goto L653;
                                                                                                                 }
                                                                                                             }
-                                                                                                            L645:;
+                                                                                                            L651:;
                                                                                                             forms_work_Work_find_among_few(e, l26 + 16ull, l28, l15, l6);
-                                                                                                            const u32 t650 = load32(l26 + 20u);
-                                                                                                            l15 = t650;
-                                                                                                            const u32 t651 = load8(l26 + 16u);
-                                                                                                            v640 = t651;
+                                                                                                            const u32 t656 = load32(l26 + 20u);
+                                                                                                            l15 = t656;
+                                                                                                            const u32 t657 = load8(l26 + 16u);
+                                                                                                            v646 = t657;
                                                                                                         }
-                                                                                                        L640:;
-                                                                                                        if ((v640 & 255u) != 1u) goto L414;
+                                                                                                        L646:;
+                                                                                                        if ((v646 & 255u) != 1u) goto L414;
                                                                                                         goto L413;
                                                                                                     }
-                                                                                                    L604:;
+                                                                                                    L610:;
                                                                                                     functions_form_calls_delete_definition(e, l26 + 200ull, l28, l26 + 104ull);
                                                                                                     goto L412;
                                                                                                 }
-                                                                                                L603:;
+                                                                                                L609:;
                                                                                                 functions_form_calls_delete_all(e, l26 + 200ull, l28);
                                                                                                 goto L412;
                                                                                             }
-                                                                                            L602:;
+                                                                                            L608:;
                                                                                             functions_form_calls_list_names(e, l26 + 200ull, l28, l26 + 104ull);
                                                                                             goto L412;
                                                                                         }
-                                                                                        L601:;
+                                                                                        L607:;
                                                                                         store8(l26 + 200u, (u8)1u);
                                                                                         goto L412;
                                                                                     }
                                                                                     L470:;
                                                                                     l5 = l26 + 184ull;
                                                                                     l0 = l28;
-                                                                                    const u32 t652 = load8(l28 + 56ull);
-                                                                                    l10 = t652;
+                                                                                    const u32 t658 = load8(l28 + 56ull);
+                                                                                    l10 = t658;
                                                                                     l1 = l26 + 72ull;
                                                                                     l4 = e->stack_pointer - 16ull;
                                                                                     e->stack_pointer = l4;
                                                                                     {
                                                                                         if ((i64)(l4 - e->stack) >= (i64)16ull) {
                                                                                             l33 = l0 + 20ull;
-                                                                                            const u32 t655 = load32(l33);
-                                                                                            l11 = t655;
+                                                                                            const u32 t661 = load32(l33);
+                                                                                            l11 = t661;
                                                                                             devices_slice_source_SliceSourceSource_take_held(e, l1, l10, l0);
-                                                                                            const u64 t656 = l5;
-                                                                                            u32 v657;
+                                                                                            const u64 t662 = l5;
+                                                                                            u32 v663;
                                                                                             {
                                                                                                 {
                                                                                                     {
-                                                                                                        const u32 t660 = load8(l1 + 17ull);
-                                                                                                        if (t660) goto L659;
-                                                                                                        L661:;
+                                                                                                        const u32 t666 = load8(l1 + 17ull);
+                                                                                                        if (t666) goto L665;
+                                                                                                        L667:;
                                                                                                         {
-                                                                                                            const u64 t662 = load64(l1 + 8u);
-                                                                                                            l2 = t662;
+                                                                                                            const u64 t668 = load64(l1 + 8u);
+                                                                                                            l2 = t668;
                                                                                                             if (l2 == 0) {
-                                                                                                                const u32 t664 = load8(l1 + 16ull);
-                                                                                                                if (t664) goto L658;
+                                                                                                                const u32 t670 = load8(l1 + 16ull);
+                                                                                                                if (t670) goto L664;
                                                                                                                 store8(l1 + 17ull, (u8)1u);
-                                                                                                                goto L659;
+                                                                                                                goto L665;
                                                                                                             }
                                                                                                             store64(l1 + 8u, l2 - 1ull);
-                                                                                                            const u64 t665 = load64(l1);
-                                                                                                            l2 = t665;
+                                                                                                            const u64 t671 = load64(l1);
+                                                                                                            l2 = t671;
                                                                                                             store64(l1, l2 + 1ull);
-                                                                                                            const u32 t666 = load8(l2);
-                                                                                                            l6 = t666;
+                                                                                                            const u32 t672 = load8(l2);
+                                                                                                            l6 = t672;
                                                                                                             if (l6 == l10) {
                                                                                                                 l6 = 0u;
-                                                                                                                v657 = 1u; goto L657;
+                                                                                                                v663 = 1u; goto L663;
                                                                                                             }
                                                                                                             store64(l4 + 8u, 0ull);
                                                                                                             store8(l4 + 9u, (u8)l6);
                                                                                                             {
-                                                                                                                const u32 t669 = load32(l0 + 28ull);
+                                                                                                                const u32 t675 = load32(l0 + 28ull);
                                                                                                                 l2 = l0 + 20ull;
-                                                                                                                const u32 t670 = load32(l2);
-                                                                                                                l12 = t670;
-                                                                                                                const u32 t671 = load32(l0 + 16ull);
-                                                                                                                l15 = l12 + t671;
-                                                                                                                const u32 t672 = load32(l0 + 24ull);
-                                                                                                                if (t669 == (l15 + t672)) {
-                                                                                                                    const u32 t674 = space_space_Space_push_in_way(e, l0, l4 + 8ull);
-                                                                                                                    if (t674) goto L668;
+                                                                                                                const u32 t676 = load32(l2);
+                                                                                                                l12 = t676;
+                                                                                                                const u32 t677 = load32(l0 + 16ull);
+                                                                                                                l15 = l12 + t677;
+                                                                                                                const u32 t678 = load32(l0 + 24ull);
+                                                                                                                if (t675 == (l15 + t678)) {
+                                                                                                                    const u32 t680 = space_space_Space_push_in_way(e, l0, l4 + 8ull);
+                                                                                                                    if (t680) goto L674;
                                                                                                                     l6 = 0u;
-                                                                                                                    v657 = 0u; goto L657;
+                                                                                                                    v663 = 0u; goto L663;
                                                                                                                 }
                                                                                                                 l36 = l0 + 32ull;
-                                                                                                                const u32 t675 = load32(l36);
-                                                                                                                l13 = t675;
-                                                                                                                const u64 t676 = load64(l0);
-                                                                                                                l30 = t676 + ((u64)l15 << 3);
+                                                                                                                const u32 t681 = load32(l36);
+                                                                                                                l13 = t681;
+                                                                                                                const u64 t682 = load64(l0);
+                                                                                                                l30 = t682 + ((u64)l15 << 3);
                                                                                                                 store8(l30, (u8)0u);
                                                                                                                 store32(l30 + 4ull, 0u);
                                                                                                                 store8(l30 + 1ull, (u8)l6);
                                                                                                                 store32(l2, l12 + 1u);
                                                                                                                 store32(l36, l13);
                                                                                                             }
-                                                                                                            L668:;
+                                                                                                            L674:;
                                                                                                             devices_slice_source_SliceSourceSource_take_held(e, l1, l10, l0);
-                                                                                                            const u32 t677 = load8(l1 + 17ull);
-                                                                                                            if (t677 == 0) goto L661;
+                                                                                                            const u32 t683 = load8(l1 + 17ull);
+                                                                                                            if (t683 == 0) goto L667;
                                                                                                         }
                                                                                                     }
-                                                                                                    L659:;
-                                                                                                    const u32 t678 = load32(l33);
-                                                                                                    l6 = t678 == l11;
-                                                                                                    v657 = l6 ? 4u : 1u; goto L657;
+                                                                                                    L665:;
+                                                                                                    const u32 t684 = load32(l33);
+                                                                                                    l6 = t684 == l11;
+                                                                                                    v663 = l6 ? 4u : 1u; goto L663;
                                                                                                 }
-                                                                                                L658:;
+                                                                                                L664:;
                                                                                                 l0 = l1 + 24ull;
-                                                                                                const u64 t679 = load64(l0);
-                                                                                                store64(l0, t679 + 1ull);
+                                                                                                const u64 t685 = load64(l0);
+                                                                                                store64(l0, t685 + 1ull);
                                                                                                 l6 = 4u;
-                                                                                                v657 = 4u;
+                                                                                                v663 = 4u;
                                                                                             }
-                                                                                            L657:;
-                                                                                            store8(t656, (u8)v657);
+                                                                                            L663:;
+                                                                                            store8(t662, (u8)v663);
                                                                                             store32(l5 + 4ull, 0u);
                                                                                             store8(l5 + 1ull, (u8)l6);
                                                                                             e->stack_pointer = l4 + 16ull;
-                                                                                            goto L653;
+                                                                                            goto L659;
                                                                                         }
                                                                                         trap();
                                                                                     }
-                                                                                    L653:;
+                                                                                    L659:;
                                                                                 }
                                                                                 L469:;
-                                                                                const u32 t680 = load32(l26 + 188u);
-                                                                                l15 = t680;
-                                                                                const u32 t681 = load8(l26 + 185u);
-                                                                                l10 = t681;
-                                                                                const u32 t682 = load8(l26 + 184u);
-                                                                                l11 = t682;
+                                                                                const u32 t686 = load32(l26 + 188u);
+                                                                                l15 = t686;
+                                                                                const u32 t687 = load8(l26 + 185u);
+                                                                                l10 = t687;
+                                                                                const u32 t688 = load8(l26 + 184u);
+                                                                                l11 = t688;
                                                                                 goto L411;
                                                                             }
                                                                             L465:;
@@ -21576,38 +21680,38 @@ static void engine_turn(struct engine *e, u64 l0, u64 l1, u64 l2, u64 l3, u64 l4
                                                                             goto L410;
                                                                         }
                                                                         l4 = l28 + 72ull;
-                                                                        const u64 t683 = load64(l4);
-                                                                        store64(l4, t683 + 1ull);
+                                                                        const u64 t689 = load64(l4);
+                                                                        store64(l4, t689 + 1ull);
                                                                         l4 = l28 + 80ull;
                                                                         l8 = (l9 + l14) + l8;
-                                                                        const u32 t684 = load32(l4);
-                                                                        l9 = t684;
+                                                                        const u32 t690 = load32(l4);
+                                                                        l9 = t690;
                                                                         store32(l4, (l8 > l9) ? l8 : l9);
                                                                         v405 = 0u; goto L405;
                                                                     }
                                                                     L418:;
                                                                     l23 = 8u;
                                                                     if ((l8 & 255u) == 1u) goto L3;
-                                                                    const u64 t685 = load64(l28 + 72ull);
-                                                                    const u64 t686 = load64(l28 + 64ull);
-                                                                    if (t685 == t686) goto L3;
-                                                                    const u32 t687 = load32(l28 + 24ull);
-                                                                    l8 = t687;
+                                                                    const u64 t691 = load64(l28 + 72ull);
+                                                                    const u64 t692 = load64(l28 + 64ull);
+                                                                    if (t691 == t692) goto L3;
+                                                                    const u32 t693 = load32(l28 + 24ull);
+                                                                    l8 = t693;
                                                                     if (l8 == 0) goto L3;
-                                                                    const u64 t688 = load64(l28);
-                                                                    const u32 t689 = load32(l28 + 28ull);
-                                                                    const u32 t690 = load8((t688 + ((u64)(t689 - l8) << 3)) + 1ull);
-                                                                    if (t690 != 41u) goto L3;
-                                                                    const u32 t691 = load32(l28 + 32ull);
-                                                                    l8 = t691;
+                                                                    const u64 t694 = load64(l28);
+                                                                    const u32 t695 = load32(l28 + 28ull);
+                                                                    const u32 t696 = load8((t694 + ((u64)(t695 - l8) << 3)) + 1ull);
+                                                                    if (t696 != 41u) goto L3;
+                                                                    const u32 t697 = load32(l28 + 32ull);
+                                                                    l8 = t697;
                                                                     if (l8 == 0) goto L3;
-                                                                    const u32 t692 = core_machine_printing_call_len(e, l28, l8 - 1u);
-                                                                    l48 = (u64)t692;
+                                                                    const u32 t698 = core_machine_printing_call_len(e, l28, l8 - 1u);
+                                                                    l48 = (u64)t698;
                                                                     goto L3;
                                                                 }
                                                                 L416:;
-                                                                const u32 t693 = load8(l28 + 85ull);
-                                                                l6 = t693;
+                                                                const u32 t699 = load8(l28 + 85ull);
+                                                                l6 = t699;
                                                                 v405 = 1u; goto L405;
                                                             }
                                                             L415:;
@@ -21621,44 +21725,44 @@ static void engine_turn(struct engine *e, u64 l0, u64 l1, u64 l2, u64 l3, u64 l4
                                                         goto L412;
                                                     }
                                                     L413:;
-                                                    const u32 t694 = load32(l26 + 132u);
-                                                    l6 = t694;
-                                                    const u32 t695 = load32(l26 + 128u);
-                                                    l10 = t695;
+                                                    const u32 t700 = load32(l26 + 132u);
+                                                    l6 = t700;
+                                                    const u32 t701 = load32(l26 + 128u);
+                                                    l10 = t701;
                                                     {
-                                                        if ((l11 & 1u) == 0) goto L696;
-                                                        if (l6 >= l10) goto L696;
-                                                        const u32 t697 = load32(l28 + 44ull);
-                                                        const u32 t698 = load32(l28 + 48ull);
-                                                        const u32 t699 = store_store_place_of(e, l28, t697, t698, l15);
-                                                        l11 = t699;
+                                                        if ((l11 & 1u) == 0) goto L702;
+                                                        if (l6 >= l10) goto L702;
+                                                        const u32 t703 = load32(l28 + 44ull);
+                                                        const u32 t704 = load32(l28 + 48ull);
+                                                        const u32 t705 = store_store_place_of(e, l28, t703, t704, l15);
+                                                        l11 = t705;
                                                         l12 = 0u;
-                                                        const u64 t700 = load64(l28);
-                                                        l30 = t700;
+                                                        const u64 t706 = load64(l28);
+                                                        l30 = t706;
                                                         l4 = l30 + ((u64)l11 << 3);
-                                                        const u32 t701 = load32(l4 + 12ull);
-                                                        l16 = t701;
-                                                        const u32 t702 = load32(l4 + 20ull);
-                                                        l13 = t702;
+                                                        const u32 t707 = load32(l4 + 12ull);
+                                                        l16 = t707;
+                                                        const u32 t708 = load32(l4 + 20ull);
+                                                        l13 = t708;
                                                         if (l16 != l13) {
-                                                            const u32 t704 = load32(l4 + 4ull);
-                                                            l22 = (l11 + t704) + 3u;
+                                                            const u32 t710 = load32(l4 + 4ull);
+                                                            l22 = (l11 + t710) + 3u;
                                                             l12 = l22 + l13;
-                                                            u32 v705;
+                                                            u32 v711;
                                                             {
                                                                 l11 = l16 - l13;
-                                                                const u32 t706 = load32(l28 + 28ull);
-                                                                l17 = t706;
-                                                                const u32 t707 = load32(l28 + 20ull);
-                                                                const u32 t708 = load32(l28 + 24ull);
-                                                                l18 = t708;
-                                                                const u32 t709 = load32(l28 + 16ull);
-                                                                if (l11 > (l17 - (t707 + (l18 + t709)))) {
+                                                                const u32 t712 = load32(l28 + 28ull);
+                                                                l17 = t712;
+                                                                const u32 t713 = load32(l28 + 20ull);
+                                                                const u32 t714 = load32(l28 + 24ull);
+                                                                l18 = t714;
+                                                                const u32 t715 = load32(l28 + 16ull);
+                                                                if (l11 > (l17 - (t713 + (l18 + t715)))) {
                                                                     store_fill_load_items_in_way(e, l26, l28, l12, l16 + l22);
-                                                                    const u32 t711 = load8(l26);
-                                                                    l13 = t711;
-                                                                    const u32 t712 = load32(l26 + 4u);
-                                                                    v705 = t712; goto L705;
+                                                                    const u32 t717 = load8(l26);
+                                                                    l13 = t717;
+                                                                    const u32 t718 = load32(l26 + 4u);
+                                                                    v711 = t718; goto L711;
                                                                 }
                                                                 l0 = (u64)l11;
                                                                 l2 = (u64)l12;
@@ -21669,167 +21773,167 @@ static void engine_turn(struct engine *e, u64 l0, u64 l1, u64 l2, u64 l3, u64 l4
                                                                                 {
                                                                                     {
                                                                                         if (l11 >= 8u) {
-                                                                                            if (l11 == 8u) goto L717;
+                                                                                            if (l11 == 8u) goto L723;
                                                                                             l4 = l30 + (l2 << 3);
                                                                                             l5 = l0;
-                                                                                            goto L718;
+                                                                                            goto L724;
                                                                                         }
                                                                                         if (l11 >= 4u) {
                                                                                             l13 = 0u;
                                                                                             l4 = l30 + (l2 << 3);
-                                                                                            const u32 t721 = load8(l4 + 24ull);
-                                                                                            const u32 t722 = load8(l4 + 16ull);
-                                                                                            const u32 t723 = load8(l4 + 8ull);
-                                                                                            const u32 t724 = load8(l4);
-                                                                                            if (((t721 + t722) | (t723 + t724)) & 255u) { v705 = 0u; goto L705; }
+                                                                                            const u32 t727 = load8(l4 + 24ull);
+                                                                                            const u32 t728 = load8(l4 + 16ull);
+                                                                                            const u32 t729 = load8(l4 + 8ull);
+                                                                                            const u32 t730 = load8(l4);
+                                                                                            if (((t727 + t728) | (t729 + t730)) & 255u) { v711 = 0u; goto L711; }
                                                                                             l1 = l0 + l2;
                                                                                             l5 = l30 + (l1 << 3);
-                                                                                            const u32 t725 = load8(l5 - 8ull);
-                                                                                            const u32 t726 = load8(l5 - 16ull);
-                                                                                            const u32 t727 = load8(l5 - 24ull);
-                                                                                            const u32 t728 = load8(l5 - 32ull);
-                                                                                            if (((t725 + t726) | (t727 + t728)) & 255u) { v705 = 0u; goto L705; }
+                                                                                            const u32 t731 = load8(l5 - 8ull);
+                                                                                            const u32 t732 = load8(l5 - 16ull);
+                                                                                            const u32 t733 = load8(l5 - 24ull);
+                                                                                            const u32 t734 = load8(l5 - 32ull);
+                                                                                            if (((t731 + t732) | (t733 + t734)) & 255u) { v711 = 0u; goto L711; }
                                                                                             l12 = l11 + l18;
                                                                                             l5 = (u64)(l17 - l12);
                                                                                             core_slice_edits_slice_T_copy_from_slice(e, l30 + (l5 << 3), l4, 4ull);
                                                                                             l4 = l1 - 4ull;
                                                                                             core_slice_edits_slice_T_copy_from_slice(e, l30 + ((l4 + (l5 - l2)) << 3), l30 + (l4 << 3), 4ull);
-                                                                                            goto L714;
+                                                                                            goto L720;
                                                                                         }
                                                                                         l4 = l30 + (l2 << 3);
-                                                                                        const u32 t729 = load8(l4);
-                                                                                        l16 = t729;
-                                                                                        if (l11 < 2u) goto L716;
+                                                                                        const u32 t735 = load8(l4);
+                                                                                        l16 = t735;
+                                                                                        if (l11 < 2u) goto L722;
                                                                                         l13 = 0u;
-                                                                                        const u32 t730 = load8(l4 + 8ull);
-                                                                                        if (t730 | (l16 & 255u)) { v705 = 0u; goto L705; }
+                                                                                        const u32 t736 = load8(l4 + 8ull);
+                                                                                        if (t736 | (l16 & 255u)) { v711 = 0u; goto L711; }
                                                                                         l1 = l0 + l2;
                                                                                         l5 = l30 + (l1 << 3);
-                                                                                        const u32 t731 = load8(l5 - 8ull);
-                                                                                        const u32 t732 = load8(l5 - 16ull);
-                                                                                        if (t731 | t732) { v705 = 0u; goto L705; }
+                                                                                        const u32 t737 = load8(l5 - 8ull);
+                                                                                        const u32 t738 = load8(l5 - 16ull);
+                                                                                        if (t737 | t738) { v711 = 0u; goto L711; }
                                                                                         l12 = l11 + l18;
                                                                                         l5 = (u64)(l17 - l12);
                                                                                         core_slice_edits_slice_T_copy_from_slice(e, l30 + (l5 << 3), l4, 2ull);
                                                                                         l4 = l1 - 2ull;
                                                                                         core_slice_edits_slice_T_copy_from_slice(e, l30 + ((l4 + (l5 - l2)) << 3), l30 + (l4 << 3), 2ull);
-                                                                                        goto L714;
+                                                                                        goto L720;
                                                                                     }
-                                                                                    L718:;
-                                                                                    L733:;
+                                                                                    L724:;
+                                                                                    L739:;
                                                                                     {
-                                                                                        const u32 t734 = load8(l4 + 56ull);
-                                                                                        const u32 t735 = load8(l4 + 48ull);
-                                                                                        const u32 t736 = load8(l4 + 40ull);
-                                                                                        const u32 t737 = load8(l4 + 32ull);
-                                                                                        const u32 t738 = load8(l4 + 24ull);
-                                                                                        const u32 t739 = load8(l4 + 16ull);
-                                                                                        const u32 t740 = load8(l4 + 8ull);
-                                                                                        const u32 t741 = load8(l4);
-                                                                                        if ((t734 | ((t735 + (t736 + (t737 + (t738 + (t739 + (t740 + t741)))))) & 255u)) == 0) {
+                                                                                        const u32 t740 = load8(l4 + 56ull);
+                                                                                        const u32 t741 = load8(l4 + 48ull);
+                                                                                        const u32 t742 = load8(l4 + 40ull);
+                                                                                        const u32 t743 = load8(l4 + 32ull);
+                                                                                        const u32 t744 = load8(l4 + 24ull);
+                                                                                        const u32 t745 = load8(l4 + 16ull);
+                                                                                        const u32 t746 = load8(l4 + 8ull);
+                                                                                        const u32 t747 = load8(l4);
+                                                                                        if ((t740 | ((t741 + (t742 + (t743 + (t744 + (t745 + (t746 + t747)))))) & 255u)) == 0) {
                                                                                             l4 = l4 + 64ull;
                                                                                             l5 = l5 - 8ull;
-                                                                                            if (l5 >= 9ull) goto L733;
-                                                                                            goto L717;
+                                                                                            if (l5 >= 9ull) goto L739;
+                                                                                            goto L723;
                                                                                         }
                                                                                     }
                                                                                     l13 = 0u;
-                                                                                    v705 = 0u; goto L705;
+                                                                                    v711 = 0u; goto L711;
                                                                                 }
-                                                                                L717:;
+                                                                                L723:;
                                                                                 l13 = 0u;
                                                                                 l5 = l0 + l2;
                                                                                 l4 = l30 + (l5 << 3);
-                                                                                const u32 t743 = load8(l4 - 56ull);
-                                                                                const u32 t744 = load8(l4 - 64ull);
-                                                                                const u32 t745 = load8(l4 - 48ull);
-                                                                                const u32 t746 = load8(l4 - 40ull);
-                                                                                const u32 t747 = load8(l4 - 32ull);
-                                                                                const u32 t748 = load8(l4 - 24ull);
-                                                                                const u32 t749 = load8(l4 - 16ull);
-                                                                                const u32 t750 = load8(l4 - 8ull);
-                                                                                if ((((((((t743 + t744) + t745) + t746) + t747) + t748) + t749) & 255u) | t750) { v705 = 0u; goto L705; }
+                                                                                const u32 t749 = load8(l4 - 56ull);
+                                                                                const u32 t750 = load8(l4 - 64ull);
+                                                                                const u32 t751 = load8(l4 - 48ull);
+                                                                                const u32 t752 = load8(l4 - 40ull);
+                                                                                const u32 t753 = load8(l4 - 32ull);
+                                                                                const u32 t754 = load8(l4 - 24ull);
+                                                                                const u32 t755 = load8(l4 - 16ull);
+                                                                                const u32 t756 = load8(l4 - 8ull);
+                                                                                if ((((((((t749 + t750) + t751) + t752) + t753) + t754) + t755) & 255u) | t756) { v711 = 0u; goto L711; }
                                                                                 l12 = l11 + l18;
                                                                                 l33 = (u64)(l17 - l12);
-                                                                                if (l11 > 24u) goto L715;
+                                                                                if (l11 > 24u) goto L721;
                                                                                 if (l11 != 8u) {
                                                                                     l4 = l30 + (l2 << 3);
                                                                                     l5 = l30 + (l33 << 3);
                                                                                     l1 = l0;
-                                                                                    L752:;
+                                                                                    L758:;
                                                                                     {
                                                                                         core_slice_edits_slice_T_copy_from_slice(e, l5, l4, 8ull);
                                                                                         l4 = l4 + 64ull;
                                                                                         l5 = l5 + 64ull;
                                                                                         l1 = l1 - 8ull;
-                                                                                        if (l1 > 8ull) goto L752;
+                                                                                        if (l1 > 8ull) goto L758;
                                                                                     }
                                                                                 }
                                                                                 l4 = l0 - 8ull;
                                                                                 core_slice_edits_slice_T_copy_from_slice(e, l30 + ((l4 + l33) << 3), l30 + ((l2 + l4) << 3), 8ull);
                                                                                 store32(l28 + 24ull, l12);
-                                                                                goto L713;
+                                                                                goto L719;
                                                                             }
-                                                                            L716:;
+                                                                            L722:;
                                                                             l13 = 0u;
-                                                                            if (l16 & 255u) { v705 = 0u; goto L705; }
+                                                                            if (l16 & 255u) { v711 = 0u; goto L711; }
                                                                             l12 = l11 + l18;
-                                                                            if (l11 != 1u) goto L714;
+                                                                            if (l11 != 1u) goto L720;
                                                                             l5 = l30 + ((u64)(l17 - l12) << 3);
                                                                             store8(l5, (u8)0u);
-                                                                            const u32 t753 = load32(l4 + 4ull);
-                                                                            store32(l5 + 4ull, t753);
-                                                                            const u32 t754 = load8(l4 + 1ull);
-                                                                            store8(l5 + 1ull, (u8)t754);
-                                                                            goto L714;
+                                                                            const u32 t759 = load32(l4 + 4ull);
+                                                                            store32(l5 + 4ull, t759);
+                                                                            const u32 t760 = load8(l4 + 1ull);
+                                                                            store8(l5 + 1ull, (u8)t760);
+                                                                            goto L720;
                                                                         }
-                                                                        L715:;
+                                                                        L721:;
                                                                         space_copies_copy_long(e, l30, l2, l5, l33);
                                                                     }
-                                                                    L714:;
+                                                                    L720:;
                                                                     store32(l28 + 24ull, l12);
                                                                 }
-                                                                L713:;
+                                                                L719:;
                                                                 l13 = 1u;
-                                                                v705 = l11;
+                                                                v711 = l11;
                                                             }
-                                                            L705:;
-                                                            l12 = v705;
-                                                            if ((l13 & 255u) != 1u) goto L696;
+                                                            L711:;
+                                                            l12 = v711;
+                                                            if ((l13 & 255u) != 1u) goto L702;
                                                         }
                                                         store32(l26 + 204u, l12);
                                                         store16(l26 + 200u, (u16)2u);
                                                         goto L412;
                                                     }
-                                                    L696:;
-                                                    const u32 t755 = forms_work_Work_fill_body(e, l28, l15, l10, l6);
-                                                    l6 = t755;
+                                                    L702:;
+                                                    const u32 t761 = forms_work_Work_fill_body(e, l28, l15, l10, l6);
+                                                    l6 = t761;
                                                     store32(l26 + 204u, 0u);
                                                     store8(l26 + 201u, (u8)0u);
                                                     store8(l26 + 200u, (u8)l6);
                                                 }
                                                 L412:;
-                                                const u32 t756 = load32(l26 + 204u);
-                                                l15 = t756;
-                                                const u32 t757 = load8(l26 + 201u);
-                                                l10 = t757;
-                                                const u32 t758 = load8(l26 + 200u);
-                                                l11 = t758;
+                                                const u32 t762 = load32(l26 + 204u);
+                                                l15 = t762;
+                                                const u32 t763 = load8(l26 + 201u);
+                                                l10 = t763;
+                                                const u32 t764 = load8(l26 + 200u);
+                                                l11 = t764;
                                             }
                                             L411:;
                                             l6 = 2u;
                                             {
                                                 switch ((u32)(((u64)l11 & 255ull)) - 1u) {
-                                                case 0: goto L759;
+                                                case 0: goto L765;
                                                 case 1: goto L410;
                                                 case 2: goto L410;
                                                 case 3: goto L409;
                                                 default: goto L406;
                                                 }
                                             }
-                                            L759:;
-                                            const u32 t760 = load32(l28 + 20ull);
-                                            l6 = t760;
+                                            L765:;
+                                            const u32 t766 = load32(l28 + 20ull);
+                                            l6 = t766;
                                             core_delivery_deliver(e, l28, l9, l14);
                                             l8 = l6 + (l8 + l19);
                                             l9 = 0u;
@@ -21837,36 +21941,36 @@ static void engine_turn(struct engine *e, u64 l0, u64 l1, u64 l2, u64 l3, u64 l4
                                         }
                                         L410:;
                                         l14 = l19 + l20;
-                                        const u64 t761 = load64(l28);
-                                        const u64 t762 = load32(l28 + 16ull);
-                                        l4 = t761 + (t762 << 3);
+                                        const u64 t767 = load64(l28);
+                                        const u64 t768 = load32(l28 + 16ull);
+                                        l4 = t767 + (t768 << 3);
                                         {
                                             {
-                                                const u32 t765 = load32(l28 + 32ull);
-                                                l8 = t765;
+                                                const u32 t771 = load32(l28 + 32ull);
+                                                l8 = t771;
                                                 l6 = l8 <= l9;
-                                                if (l6) goto L764;
-                                                if ((l8 - l9) != 1u) goto L764;
-                                                const u32 t766 = load32((l4 + ((l32 << 3) & 34359738360ull)) + 4ull);
-                                                l8 = t766;
+                                                if (l6) goto L770;
+                                                if ((l8 - l9) != 1u) goto L770;
+                                                const u32 t772 = load32((l4 + ((l32 << 3) & 34359738360ull)) + 4ull);
+                                                l8 = t772;
                                                 l6 = l8 ? (l21 - l8) : 0u;
-                                                goto L763;
+                                                goto L769;
                                             }
-                                            L764:;
+                                            L770:;
                                             if (l6) {
                                                 l6 = l8;
-                                                goto L763;
+                                                goto L769;
                                             }
-                                            L768:;
+                                            L774:;
                                             {
-                                                const u32 t769 = load32((l4 + ((u64)(l8 - 1u) << 3)) + 4ull);
-                                                l6 = t769;
+                                                const u32 t775 = load32((l4 + ((u64)(l8 - 1u) << 3)) + 4ull);
+                                                l6 = t775;
                                                 l8 = l8 - l6;
                                                 l6 = l6 ? l8 : 0u;
-                                                if (l6 > l9) goto L768;
+                                                if (l6 > l9) goto L774;
                                             }
                                         }
-                                        L763:;
+                                        L769:;
                                         store32(l28 + 20ull, l9);
                                         store32(l28 + 32ull, l6);
                                         l8 = l14 + l15;
@@ -21874,17 +21978,17 @@ static void engine_turn(struct engine *e, u64 l0, u64 l1, u64 l2, u64 l3, u64 l4
                                         goto L408;
                                     }
                                     L409:;
-                                    const u32 t770 = load32(l28 + 24ull);
-                                    const u32 t771 = load32(l28 + 20ull);
-                                    const u32 t772 = load32(l28 + 16ull);
-                                    l8 = t770 + (t771 + t772);
+                                    const u32 t776 = load32(l28 + 24ull);
+                                    const u32 t777 = load32(l28 + 20ull);
+                                    const u32 t778 = load32(l28 + 16ull);
+                                    l8 = t776 + (t777 + t778);
                                     l9 = 1u;
                                     l6 = 1u << (l10 & 31);
                                     if (l6 & 3u) { v407 = l10; goto L407; }
                                     if ((l6 & 12u) == 0) {
                                         l4 = l28 + 80ull;
-                                        const u32 t774 = load32(l4);
-                                        l6 = t774;
+                                        const u32 t780 = load32(l4);
+                                        l6 = t780;
                                         store32(l4, (l6 < l8) ? l8 : l6);
                                     }
                                     l6 = l10;
@@ -21896,11 +22000,11 @@ static void engine_turn(struct engine *e, u64 l0, u64 l1, u64 l2, u64 l3, u64 l4
                             L407:;
                             l6 = v407;
                             l4 = l28 + 72ull;
-                            const u64 t775 = load64(l4);
-                            store64(l4, t775 + 1ull);
+                            const u64 t781 = load64(l4);
+                            store64(l4, t781 + 1ull);
                             l4 = l28 + 80ull;
-                            const u32 t776 = load32(l4);
-                            l14 = t776;
+                            const u32 t782 = load32(l4);
+                            l14 = t782;
                             store32(l4, (l8 > l14) ? l8 : l14);
                             if (l9 == 0) { v405 = 0u; goto L405; }
                         }
@@ -21919,14 +22023,14 @@ static void engine_turn(struct engine *e, u64 l0, u64 l1, u64 l2, u64 l3, u64 l4
                 l23 = (l6 & 255u) + 1u;
             }
             L3:;
-            const u32 t778 = load32(l28 + 80ull);
-            l8 = t778;
-            const u64 t779 = load64(l28 + 72ull);
-            l4 = t779;
-            const u64 t780 = load64(l26 + 48u);
-            l32 = t780;
-            const u64 t781 = load64(l26 + 80u);
-            l28 = t781;
+            const u32 t784 = load32(l28 + 80ull);
+            l8 = t784;
+            const u64 t785 = load64(l28 + 72ull);
+            l4 = t785;
+            const u64 t786 = load64(l26 + 48u);
+            l32 = t786;
+            const u64 t787 = load64(l26 + 80u);
+            l28 = t787;
             store64(l37 + 32u, l48);
             l28 = l3 - l28;
             store64(l37 + 24u, (l3 < l28) ? 0ull : l28);
