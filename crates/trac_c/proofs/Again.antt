@@ -14,11 +14,11 @@ pub over-none : (most : ℕ) (fate : Fate) → most ≤ 0 → Went ≡ last_over
 over-none zero fate none = refl
 over-none (suc n) fate none = absurd (omega arith)
 
-wants-none : (most : ℕ) (fate : Fate) (printed : ℕ) → wanted_by (last_over most fate) printed ≡ 0
-wants-none zero fate printed = refl
-wants-none (suc n) fate printed = refl
+wants-none : (most : ℕ) (fate : Fate) → wanted_by (last_over most fate) ≡ 0
+wants-none zero fate = refl
+wants-none (suc n) fate = refl
 
-pub told-again : (most : ℕ) (fate : Fate) (m : MachineState) (last : Turn) (told : TracReport) (printed : ℕ) → last ≡ last_over most fate → told.fate ≡ turn_number last → told.peak ≡ m.peak → told.steps ≡ m.steps → told.written ≡ 0 → told.consumed ≡ 0 → told.wanted ≡ wanted_by last printed → told ≡ told_again most fate m
-told-again most fate m last told printed is fated peak steps written consumed wanted =
-    let wants = wanted ∙ ap (λ (t : Turn). wanted_by t printed) is ∙ wants-none most fate printed in
+pub told-again : (most : ℕ) (fate : Fate) (m : MachineState) (last : Turn) (told : TracReport) → last ≡ last_over most fate → told.fate ≡ turn_number last → told.peak ≡ m.peak → told.steps ≡ m.steps → told.written ≡ 0 → told.consumed ≡ 0 → told.wanted ≡ wanted_by last → told ≡ told_again most fate m
+told-again most fate m last told is fated peak steps written consumed wanted =
+    let wants = wanted ∙ ap (λ (t : Turn). wanted_by t) is ∙ wants-none most fate in
     λ i. record { fate = (fated ∙ ap turn_number is) i; peak = peak i; steps = steps i; written = written i; consumed = consumed i; wanted = wants i }

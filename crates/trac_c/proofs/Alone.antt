@@ -1,6 +1,6 @@
 -- Steps of a turn that touch no device.
 use Rattle.std.specs.Prelude.{true}
-use Rattle.trac_c.proofs.Words.{◌≡◌, ◌≢◌, ℕ, zero, suc, ◌+◌, ◌-◌, ◌<◌, ◌≤◌, Bool, false, not, Option, Some, None, refl, sym, ap, ◌∙◌, subst, arith, Text, Fate, MachineState, Moment, moment, awaited, next_function, is_none, nat_lt, ◌&&◌, if◌then◌else◌, is_short, waits_for_input, Goes, SomeTurned, Turn, Went, Over}
+use Rattle.trac_c.proofs.Words.{◌≡◌, ◌≢◌, ℕ, zero, suc, ◌+◌, ◌-◌, ◌<◌, ◌≤◌, Bool, false, not, Option, Some, None, refl, sym, ap, subst, arith, Text, Fate, MachineState, Moment, moment, awaited, next_function, is_none, nat_lt, ◌&&◌, if◌then◌else◌, is_short, waits_for_input, Goes, SomeTurned, Turn, Went, Over}
 use Rattle.std.proofs.lemmas.Bool.{and_right}
 use Rattle.trac_language.specs.declared.function.Function.{Function}
 use Rattle.trac_language.specs.declared.function.Function.TheVariants.{ReadString, ReadCharacter}
@@ -8,7 +8,7 @@ use Rattle.trac_devices.specs.Devices.{Stream}
 use Rattle.trac_core.specs.declared.machine.session.Awaits.TheVariants.{Nothing}
 use Rattle.trac_core.specs.Performed.{performs, touches_device}
 use Rattle.trac_core.specs.Machine.{Answers}
-use Rattle.trac_core.specs.Advancing.{StepsAlone, GoesAlone, EndsAlone, StopsAlone, Advanced}
+use Rattle.trac_core.specs.Advancing.{GoesAlone, StopsAlone, Advanced}
 use Rattle.trac_c.specs.declared.turn.Turn.TheVariants.{Waits, Full}
 use Rattle.trac_c.specs.Turned.{TurnsTo, EndsTurn}
 
@@ -50,7 +50,7 @@ goes-on most n k ended start old new source written going to goes =
 ends-turn : (ended : Bool) (most done : ℕ) (before : Moment) (last : Turn) (new : Moment) → last ≢ Went → done < most → TurnsTo ended before last new → EndsTurn ended most done before last new
 ends-turn ended most done before Went new other few turns = absurd (other refl)
 ends-turn ended most done before Waits new other few turns = (few, turns)
-ends-turn ended most done before Full new other few turns = (few, turns)
+ends-turn ended most done before (Full printed) new other few turns = (few, turns)
 ends-turn ended most done before (Over fate) new other few turns = (few, turns)
 
 -- and then comes what the turn ends with: what follows; or that the run is over already

@@ -138,8 +138,8 @@ module _ (ended : Bool) (most : ℕ) (input buffer : Text) (old new : MachineSta
       told.peak ≡ new.peak →
       told.written ≤ length buffer →
       told.consumed ≡ length input - length left.bytes →
-      ((input : Input) → told.wanted ≡ wanted_by last (length (next_printed new input))) →
-      (last ≡ Full → length buffer < told.written + told.wanted) →
+      told.wanted ≡ wanted_by last →
+      ((printed : ℕ) → last ≡ Full printed → (length buffer < told.written + printed) × ((input : Input) → printed ≡ length (next_printed new input))) →
       (last ≡ Waits → MayGetMore new left.bytes) →
       TellsTurn ended most input buffer old new told last left
   unfolding start

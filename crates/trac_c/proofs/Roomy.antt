@@ -1,13 +1,12 @@
 -- What fits the buffer never fails, and stands in it.
-use Rattle.std.specs.Prelude.{IsSome, true, ◌^◌}
+use Rattle.std.specs.Prelude.{IsSome, ◌^◌}
 use Rattle.std.proofs.lemmas.Bool.{lt-ltb}
-use Rattle.trac_c.proofs.Words.{◌≡◌, ◌≢◌, ℕ, ◌+◌, ◌-◌, ◌<◌, ◌≤◌, [], ◌∷◌, ◌++◌, length, take, Option, Some, None, refl, sym, ap, subst, ◌∙◌, arith, length-append, append-nil, is_none, nat_lt, ◌&&◌, if◌then◌else◌, Text, Fate, Input, MachineState, Moment, moment, ending, state_with, state_of, GoesOn, next_printed, step_prints, length-take-le}
+use Rattle.trac_c.proofs.Words.{◌≡◌, ◌≢◌, ℕ, ◌+◌, ◌<◌, ◌≤◌, [], ◌∷◌, ◌++◌, length, take, Option, Some, None, refl, sym, ap, subst, ◌∙◌, arith, length-append, append-nil, Text, Fate, MachineState, Moment, ending, state_with, state_of, GoesOn, next_printed, step_prints, length-take-le}
 use Rattle.trac_language.specs.declared.fate.Fate.TheVariants.{InputFailed, OutputFailed, Halted, InputEnded, Workspace, Steps}
 use Rattle.trac_language.specs.State.{State}
 use Rattle.trac_language.specs.Step.{Outcome, Next}
 unfoldable use Rattle.trac_language.specs.Step.{step}
 use Rattle.trac_language.specs.Step.{Over as Ends}
-use Rattle.trac_devices.specs.Devices.{Stream}
 use Rattle.trac_core.specs.Machine.{Answers, StopsAtOutput}
 use Rattle.trac_core.specs.Session.{output_after}
 use Rattle.trac_core.proofs.Outputs.{later_outcome, step-later}

@@ -1,5 +1,5 @@
 -- A turn between a source over its input and a sink over its buffer, in their bytes.
-use Rattle.trac_c.proofs.Words.{◌≡◌, ℕ, [], None, append-nil, Bool, false, ◌+◌, ◌<◌, length, take, arith, Text, Input, stream_in, MachineState, moment, ending, next_printed, SomeTurned, LacksRoom, stands, wanted_by, Turn, Full}
+use Rattle.trac_c.proofs.Words.{◌≡◌, ℕ, [], None, append-nil, Bool, false, ◌+◌, ◌<◌, length, take, Text, Input, stream_in, MachineState, moment, next_printed, SomeTurned, LacksRoom, stands, Turn}
 use Rattle.trac_c.specs.declared.devices.GivenSource.{GivenSource}
 use Rattle.trac_c.specs.declared.devices.RoomySink.{RoomySink}
 
@@ -21,11 +21,7 @@ told_turn ended most old new told source source' sink sink' last input given wri
 
 -- what is wanted has no room
 pub told_full :
-    (last : Turn) (m : MachineState) (sink : RoomySink) (given : Text) (written wanted : ℕ) →
-    sink.room.now ≡ given → written ≡ sink.len →
-    ((input : Input) → wanted ≡ wanted_by last (length (next_printed m input))) →
-    (last ≡ Full → LacksRoom m sink) → last ≡ Full → length given < written + wanted
-told_full last m sink given written wanted holds count asks lacks full =
-    let least = lacks full (ending []) in
-    let asked = rw full at (asks (ending [])) in
-    rw (← holds) (omega arith)
+    (printed : ℕ) (m : MachineState) (sink : RoomySink) (given : Text) (written : ℕ) →
+    sink.room.now ≡ given → written ≡ sink.len → LacksRoom printed m sink →
+    (length given < written + printed) × ((input : Input) → printed ≡ length (next_printed m input))
+told_full printed m sink given written holds count lacks = rw (← holds, count) lacks

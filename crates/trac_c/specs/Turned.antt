@@ -52,7 +52,7 @@ TurnsTo ended old Went new =
     × (GoesOn old new × (new.machine.fate ≡ None))
 TurnsTo ended old Waits new =
     (waits_for_input ended old.machine old.source.bytes ≡ true) × (new ≡ old)
-TurnsTo ended old Full new =
+TurnsTo ended old (Full printed) new =
     (waits_for_input ended old.machine old.source.bytes ≡ false) × (new ≡ old)
 TurnsTo ended old (Over fate) new =
     (waits_for_input ended old.machine old.source.bytes ≡ false)
@@ -78,7 +78,8 @@ GoesWithMore n old new =
 abbrev pub EndsTurn : Bool → (most done : ℕ) → Moment → Turn → Moment → Type 0
 EndsTurn ended most done before Went new = (done ≡ most) × (new ≡ before)
 EndsTurn ended most done before Waits new = (done < most) × TurnsTo ended before Waits new
-EndsTurn ended most done before Full new = (done < most) × TurnsTo ended before Full new
+EndsTurn ended most done before (Full printed) new =
+    (done < most) × TurnsTo ended before (Full printed) new
 EndsTurn ended most done before (Over fate) new =
     (done < most) × TurnsTo ended before (Over fate) new
 
@@ -100,24 +101,25 @@ written_to sink = take sink.len sink.room.now ++ listed sink.behind
 abbrev pub stands : MachineState → GivenSource → RoomySink → Moment
 stands m source sink = moment m (stream_in source.slice) (written_to sink)
 
--- the next step prints more, whatever the input, than there is room for in the sink
-abbrev pub LacksRoom : MachineState → RoomySink → Type 0
-LacksRoom m sink =
-    (input : Input) → length sink.room.now < sink.len + length (next_printed m input)
+-- the next step prints so many bytes, whatever the input, and in the sink is no room for them
+abbrev pub LacksRoom : ℕ → MachineState → RoomySink → Type 0
+LacksRoom printed m sink =
+    (length sink.room.now < sink.len + printed)
+    × ((input : Input) → printed ≡ length (next_printed m input))
 
 -- the number of what a turn ended with
 abbrev pub turn_number : Turn → ℕ
 turn_number Went = 0
 turn_number Waits = 7
-turn_number Full = 8
+turn_number (Full printed) = 8
 turn_number (Over fate) = number fate
 
 -- what is wanted: as many bytes as the next step prints, where there was no room for them
-abbrev pub wanted_by : Turn → ℕ → ℕ
-wanted_by Full printed = printed
-wanted_by Went printed = 0
-wanted_by Waits printed = 0
-wanted_by (Over fate) printed = 0
+abbrev pub wanted_by : Turn → ℕ
+wanted_by (Full printed) = printed
+wanted_by Went = 0
+wanted_by Waits = 0
+wanted_by (Over fate) = 0
 
 -- in numbers, a turn over this input, whose output stands at the front of a buffer. Where the input
 -- goes on behind these bytes, the steps that were done are those over all of it
@@ -136,8 +138,11 @@ pub record TellsTurn (ended : Bool) (most : ℕ) (input buffer : Text) (old new 
   pub peak : told.peak ≡ new.peak
   pub written : told.written ≤ length buffer
   pub consumed : told.consumed ≡ length input - length left.bytes
-  pub wanted : (input : Input) → told.wanted ≡ wanted_by last (length (next_printed new input))
-  pub full : last ≡ Full → length buffer < told.written + told.wanted
+  pub wanted : told.wanted ≡ wanted_by last
+  pub full :
+      (printed : ℕ) → last ≡ Full printed →
+      (length buffer < told.written + printed)
+      × ((input : Input) → printed ≡ length (next_printed new input))
   pub waits : last ≡ Waits → MayGetMore new left.bytes
 
 abbrev pub TurnOf :

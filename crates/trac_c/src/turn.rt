@@ -1,5 +1,5 @@
 //! A machine that C keeps, and which makes some steps a turn.
-ghost use Rattle.std.specs.Prelude.{◌≡◌, ◌+◌, ◌^◌, ◌<◌, None, Some, length};
+ghost use Rattle.std.specs.Prelude.{◌≡◌, ℕ, ◌+◌, ◌^◌, ◌<◌, ◌≤◌, MatchOption, None, Some, length};
 ghost use Rattle.trac_core.specs.Session.{awaited, next_function, next_printed};
 ghost use Rattle.trac_language.specs.State.{Input};
 ghost use Rattle.trac_c.specs.Turned.{TurnsTo, LacksRoom, is_short, is_ended, stands, SomeTurned};
@@ -17,8 +17,8 @@ pub(crate) enum Turn {
     Went,
     /// The next step waits for input; it wasn't done.
     Waits,
-    /// The next step prints more than there is room for; it wasn't done.
-    Full,
+    /// The next step prints so many bytes, more than there is room for; it wasn't done.
+    Full(u32),
     /// The run is over.
     Over(Fate),
 }
@@ -38,25 +38,22 @@ pub(crate) fn take_turn(
     let mut source = GivenSource::new(input);
     let mut sink = RoomySink::new(output);
     let last = go_on(machine, &mut source, &mut sink, ended != 0, most);
-    let wanted = wanted(machine, last);
     TracReport {
         fate: turn_number(last),
         peak: machine.peak(),
         steps: machine.steps(),
         written: sink.len(),
         consumed: input.len().saturating_sub(source.rest().len()),
-        wanted,
+        wanted: wanted(last),
     }
 }
 
 /// How many bytes are wanted after what a turn ended with.
-fn wanted(machine: &mut Machine<'static>, last: Turn) -> usize
-    ensures bytes { (input : Input) →
-        result ≡ wanted_by last (length (next_printed machine.old input)) }
-    ensures same { machine.new ≡ machine.old }
+fn wanted(last: Turn) -> usize
+    ensures { result ≡ wanted_by last }
 {
     match last {
-        Turn::Full => machine.prints() as usize,
+        Turn::Full(printed) => printed as usize,
         Turn::Went | Turn::Waits | Turn::Over(_) => 0,
     }
 }
@@ -68,7 +65,7 @@ fn turn_number(last: Turn) -> u32
     match last {
         Turn::Went => 0,
         Turn::Waits => 7,
-        Turn::Full => 8,
+        Turn::Full(_) => 8,
         Turn::Over(fate) => number(fate),
     }
 }
@@ -87,7 +84,8 @@ fn go_on(
         SomeTurned ended most (stands machine.old source.old sink.old) result
         (stands machine.new source.new sink.new) }
     ensures same_room { sink.new.room.ghost_name ≡ sink.old.room.ghost_name }
-    ensures full { result ≡ Turn.Full → LacksRoom machine.new sink.new }
+    ensures full { (printed : ℕ) → result ≡ Turn.Full printed →
+        LacksRoom printed machine.new sink.new }
     ensures waits { result ≡ Turn.Waits → MayGetMore machine.new source.new.slice.bytes }
     ensures fits { sink.new.behind ≡ None }
     ensures over { (fate : Fate) → machine.old.fate ≡ Some fate →
@@ -125,7 +123,8 @@ fn step_on(
         (result ≡ Turn.Over fate) × (machine.new ≡ machine.old)
         × (source.new ≡ source.old) × (sink.new ≡ sink.old) }
     ensures same_room { sink.new.room.ghost_name ≡ sink.old.room.ghost_name }
-    ensures full { result ≡ Turn.Full → LacksRoom machine.new sink.new }
+    ensures full { (printed : ℕ) → result ≡ Turn.Full printed →
+        LacksRoom printed machine.new sink.new }
     ensures waits { result ≡ Turn.Waits → MayGetMore machine.new source.new.slice.bytes }
     ensures fits { sink.new.behind ≡ None }
     ensures went { result ≡ Turn.Went → (machine.new.fate ≡ None) × (sink.new.failures ≡ 0) }
@@ -133,13 +132,32 @@ fn step_on(
     if !ended && waits(machine, source.rest()) {
         return Turn::Waits;
     }
-    if !machine.prints_within(sink.free() as u64) {
-        return Turn::Full;
+    if let Some(printed) = prints_past(machine, sink.free() as u64) {
+        return Turn::Full(printed);
     }
     match machine.step(source, sink) {
         None => Turn::Went,
         Some(fate) => Turn::Over(fate),
     }
+}
+
+/// How many bytes the next step prints, if these are more than there is room for. A text that it
+/// prints is measured once at most, and not at all where there is room for the whole neutral string.
+fn prints_past(machine: &mut Machine, free: u64) -> Option<u32>
+    ensures past { MatchOption result
+        ((input : Input) → length (next_printed machine.old input) ≤ free)
+        (λ printed. (free < printed)
+        × ((input : Input) → printed ≡ length (next_printed machine.old input))) }
+    ensures same { machine.new ≡ machine.old }
+{
+    if machine.neutral().len() as u64 <= free && machine.prints_within(free) {
+        return None;
+    }
+    let printed = machine.prints();
+    if u64::from(printed) <= free {
+        return None;
+    }
+    Some(printed)
 }
 
 /// Whether the next step reads more than these bytes. A string that is longer than the free cells

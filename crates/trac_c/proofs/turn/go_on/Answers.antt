@@ -1,4 +1,4 @@
-use Rattle.trac_c.proofs.Words.{◌≡◌, ◌+◌, ◌-◌, None, Some, refl, ◌∙◌, ap, sym, subst, arith, take, stands, stream_in, moment, Went, Over}
+use Rattle.trac_c.proofs.Words.{◌≡◌, ◌+◌, ◌-◌, ◌∙◌, ap, subst, arith, stands, stream_in, moment, Went}
 use Rattle.std.proofs.lemmas.Grind.{common_steps}
 use Rattle.trac_c.specs.Turned.{TurnsTo, written_to}
 use Rattle.trac_c.proofs.Alone.{goes-on, goes-further, ends-on, ends-full, is-going}
