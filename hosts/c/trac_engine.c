@@ -4,7 +4,7 @@
  * and what compilers make of it (memcpy, memset) alone.
  *
  * Crates: trac_language trac_space trac_values trac_store trac_forms trac_devices trac_functions trac_laws trac_core trac_c
- * Sources: 2e0ce1de205da2b7b70cd50bfac281ea3b43f7067ea3fd20a0a253133aee7898
+ * Sources: d72fd716eb2d3b349119376ddf0f315cc8ec6fe5cca8ada1e593be048cae89dd
  * Kit: rattle-kit-13f logic dac8208d650f15bf
  * Tools: wasm-opt version 108, wabt 1.0.32
  */
@@ -19374,28 +19374,28 @@ static void engine_turn(struct engine *e, u64 l0, u64 l1, u64 l2, u64 l3, u64 l4
     u64 l47 = 0;
     u64 l48 = 0;
     l37 = l0;
-    l28 = l1;
-    l32 = l2;
-    l24 = l6;
+    l29 = l1;
+    l40 = l3;
+    l25 = l6;
     l26 = e->stack_pointer - 208ull;
     e->stack_pointer = l26;
     {
         if ((i64)(l26 - e->stack) >= (i64)16ull) {
             store64(l26 + 88u, 0ull);
-            store64(l26 + 80u, l3);
+            store64(l26 + 80u, l40);
             store64(l26 + 96u, 0ull);
             store64(l26 + 48u, 0ull);
             store64(l26 + 40u, l5);
             store64(l26 + 56u, 0ull);
             store64(l26 + 64u, 0ull);
-            store64(l26 + 72u, l32 + ((l32 == 0) ? 4096ull : 0ull));
+            store64(l26 + 72u, l2 + ((l2 == 0) ? 4096ull : 0ull));
             store64(l26 + 32u, l4 + ((l4 == 0) ? 4096ull : 0ull));
             {
                 if (l7 == 0) goto L3;
-                l40 = l28 + 56ull;
-                l43 = l26 + 181ull;
-                l44 = l26 + 165ull;
-                l45 = l26 + 117ull;
+                l41 = l29 + 56ull;
+                l44 = l26 + 181ull;
+                l45 = l26 + 165ull;
+                l46 = l26 + 117ull;
                 l4 = 0ull;
                 L4:;
                 {
@@ -19403,100 +19403,100 @@ static void engine_turn(struct engine *e, u64 l0, u64 l1, u64 l2, u64 l3, u64 l4
                     store64(l26 + 104u, 0ull);
                     store64(l26 + 112u, 0ull);
                     store64(l26 + 120u, 0ull);
-                    l5 = l28 + 84ull;
+                    l5 = l29 + 84ull;
                     const u32 t5 = load8(l5);
                     u64 v6;
                     if (t5 != 1u) {
-                        l32 = l28 + 80ull;
-                        const u32 t7 = load32(l32);
+                        l2 = l29 + 80ull;
+                        const u32 t7 = load32(l2);
                         store32(l26 + 144u, t7);
-                        l41 = l28 + 72ull;
-                        const u64 t8 = load64(l41);
+                        l42 = l29 + 72ull;
+                        const u64 t8 = load64(l42);
                         store64(l26 + 136u, t8);
-                        const u64 t9 = load64(l28 + 64ull);
+                        const u64 t9 = load64(l29 + 64ull);
                         store64(l26 + 128u, t9);
-                        l35 = l26 + 104ull;
-                        l1 = l28;
-                        l30 = l26 + 128ull;
-                        l29 = l7 - l4;
+                        l36 = l26 + 104ull;
+                        l28 = l29;
+                        l32 = l26 + 128ull;
+                        l31 = l7 - l4;
                         l27 = e->stack_pointer - 160ull;
                         e->stack_pointer = l27;
                         {
                             {
                                 {
                                     if ((i64)(l27 - e->stack) >= (i64)16ull) {
-                                        const u64 t14 = load64(l30 + 8u);
+                                        const u64 t14 = load64(l32 + 8u);
                                         l38 = t14;
                                         store64(l27 + 56u, 0ull);
                                         store64(l27 + 64u, 0ull);
                                         store32(l27 + 76u, 0u);
-                                        const u32 t15 = load32(l1 + 20ull);
-                                        l8 = t15;
-                                        store32(l27 + 80u, l8);
-                                        const u32 t16 = load32(l30 + 16u);
-                                        l13 = t16;
-                                        const u64 t17 = load64(l30);
-                                        l30 = t17 - l38;
-                                        l33 = (l29 > l30) ? l30 : l29;
-                                        if ((l33 == 0) == 0) {
-                                            const u32 t19 = load32(l1 + 24ull);
-                                            const u32 t20 = load32(l1 + 16ull);
-                                            l9 = t19 + (l8 + t20);
-                                            l46 = l27 + 125ull;
-                                            l47 = l27 + 109ull;
-                                            l30 = l33;
+                                        const u32 t15 = load32(l28 + 20ull);
+                                        l11 = t15;
+                                        store32(l27 + 80u, l11);
+                                        const u32 t16 = load32(l32 + 16u);
+                                        l21 = t16;
+                                        const u64 t17 = load64(l32);
+                                        l32 = t17 - l38;
+                                        l3 = (l31 > l32) ? l32 : l31;
+                                        if ((l3 == 0) == 0) {
+                                            const u32 t19 = load32(l28 + 24ull);
+                                            const u32 t20 = load32(l28 + 16ull);
+                                            l8 = t19 + (l11 + t20);
+                                            l47 = l27 + 125ull;
+                                            l33 = l27 + 109ull;
+                                            l32 = l3;
                                             L21:;
                                             {
-                                                core_scan_pass(e, l27 + 56ull, l1, l30, l27 + 80ull, l27 + 76ull);
+                                                core_scan_pass(e, l27 + 56ull, l28, l32, l27 + 80ull, l27 + 76ull);
                                                 u64 v22;
                                                 {
                                                     const u32 t23 = load8(l27 + 56u);
                                                     if (t23 == 0) {
-                                                        l13 = (l9 > l13) ? l9 : l13;
+                                                        l21 = (l8 > l21) ? l8 : l21;
                                                         const u64 t25 = load64(l27 + 64u);
-                                                        v22 = l30 - t25; goto L22;
+                                                        v22 = l32 - t25; goto L22;
                                                     }
                                                     u32 v26;
                                                     {
                                                         const u32 t27 = load8(l27 + 60u);
                                                         if (t27 == 0) {
-                                                            store32(l1 + 32ull, 0u);
-                                                            l29 = l1 + 20ull;
-                                                            store32(l29, 0u);
-                                                            const u32 t29 = load32(l1 + 28ull);
-                                                            l9 = t29;
-                                                            l2 = l1 + 24ull;
-                                                            const u32 t30 = load32(l2);
-                                                            l8 = t30;
-                                                            l39 = l1 + 16ull;
+                                                            store32(l28 + 32ull, 0u);
+                                                            l31 = l28 + 20ull;
+                                                            store32(l31, 0u);
+                                                            const u32 t29 = load32(l28 + 28ull);
+                                                            l8 = t29;
+                                                            l30 = l28 + 24ull;
+                                                            const u32 t30 = load32(l30);
+                                                            l11 = t30;
+                                                            l39 = l28 + 16ull;
                                                             const u32 t31 = load32(l39);
-                                                            if ((l9 - (l8 + t31)) <= 10u) {
-                                                                const u32 t33 = space_space_Space_find_way(e, l1, 11ull);
+                                                            if ((l8 - (l11 + t31)) <= 10u) {
+                                                                const u32 t33 = space_space_Space_find_way(e, l28, 11ull);
                                                                 if (t33 == 0) goto L12;
-                                                                const u32 t34 = load32(l1 + 28ull);
-                                                                l9 = t34;
-                                                                const u32 t35 = load32(l1 + 24ull);
+                                                                const u32 t34 = load32(l28 + 24ull);
+                                                                l11 = t34;
+                                                                const u32 t35 = load32(l28 + 28ull);
                                                                 l8 = t35;
                                                             }
-                                                            const u64 t36 = load64(l1);
-                                                            l8 = l8 + 11u;
-                                                            space_space_write_bytes(e, t36 + ((u64)(l9 - l8) << 3), TABLES + 768u, 11ull);
-                                                            store32(l2, l8);
-                                                            const u32 t37 = load32(l29);
+                                                            const u64 t36 = load64(l28);
+                                                            l11 = l11 + 11u;
+                                                            space_space_write_bytes(e, t36 + ((u64)(l8 - l11) << 3), TABLES + 768u, 11ull);
+                                                            store32(l30, l11);
+                                                            const u32 t37 = load32(l31);
                                                             const u32 t38 = load32(l39);
-                                                            v26 = t37 + (t38 + l8); goto L26;
+                                                            v26 = t37 + (t38 + l11); goto L26;
                                                         }
-                                                        const u64 t39 = load64(l1);
-                                                        l2 = t39;
-                                                        const u32 t40 = load32(l1 + 16ull);
-                                                        l8 = t40;
+                                                        const u64 t39 = load64(l28);
+                                                        l30 = t39;
+                                                        const u32 t40 = load32(l28 + 16ull);
+                                                        l11 = t40;
                                                         const u64 t41 = load64(l27 + 64u);
                                                         l39 = t41;
-                                                        l17 = (u32)l39;
-                                                        const u32 t42 = load8((l2 + ((u64)(l8 + l17) << 3)) + 1ull);
-                                                        l16 = t42;
-                                                        const u32 t43 = load32(l1 + 20ull);
-                                                        l9 = t43;
+                                                        l16 = (u32)l39;
+                                                        const u32 t42 = load8((l30 + ((u64)(l11 + l16) << 3)) + 1ull);
+                                                        l12 = t42;
+                                                        const u32 t43 = load32(l28 + 20ull);
+                                                        l8 = t43;
                                                         store8(l27 + 114u, (u8)0u);
                                                         store16(l27 + 112u, (u16)0u);
                                                         {
@@ -19511,55 +19511,55 @@ static void engine_turn(struct engine *e, u64 l0, u64 l1, u64 l2, u64 l3, u64 l4
                                                                                             {
                                                                                                 {
                                                                                                     {
-                                                                                                        l6 = l8 + l9;
-                                                                                                        l15 = l17 + 1u;
-                                                                                                        l29 = (u64)(l8 + l15);
-                                                                                                        l31 = (u64)l6 - l29;
-                                                                                                        if (l31 < 2ull) goto L55;
-                                                                                                        l29 = l2 + (l29 << 3);
-                                                                                                        if (l31 != 2ull) {
-                                                                                                            const u32 t57 = load8(l29 + 16ull);
+                                                                                                        l6 = l8 + l11;
+                                                                                                        l13 = l16 + 1u;
+                                                                                                        l31 = (u64)(l11 + l13);
+                                                                                                        l34 = (u64)l6 - l31;
+                                                                                                        if (l34 < 2ull) goto L55;
+                                                                                                        l31 = l30 + (l31 << 3);
+                                                                                                        if (l34 != 2ull) {
+                                                                                                            const u32 t57 = load8(l31 + 16ull);
                                                                                                             if (t57 != 2u) goto L55;
                                                                                                         }
-                                                                                                        functions_function_function_of(e, l27 + 112ull, l29, l29 + 8ull);
+                                                                                                        functions_function_function_of(e, l27 + 112ull, l31, l31 + 8ull);
                                                                                                         const u32 t58 = load8(l27 + 112u);
                                                                                                         if (t58 == 1u) goto L54;
                                                                                                     }
                                                                                                     L55:;
-                                                                                                    l14 = 0u;
+                                                                                                    l9 = 0u;
                                                                                                     store8(l27 + 86u, (u8)0u);
                                                                                                     store16(l27 + 84u, (u16)0u);
-                                                                                                    l10 = 1u;
-                                                                                                    l11 = 0u;
-                                                                                                    l12 = l15;
+                                                                                                    l14 = 1u;
+                                                                                                    l15 = 0u;
+                                                                                                    l10 = l13;
                                                                                                     goto L53;
                                                                                                 }
                                                                                                 L54:;
                                                                                                 const u32 t59 = load8(l27 + 114u);
-                                                                                                l14 = t59;
+                                                                                                l9 = t59;
                                                                                                 const u32 t60 = load8(l27 + 113u);
-                                                                                                l11 = t60;
-                                                                                                l10 = 0u;
+                                                                                                l15 = t60;
+                                                                                                l14 = 0u;
                                                                                                 store8(l27 + 86u, (u8)0u);
                                                                                                 store16(l27 + 84u, (u16)0u);
-                                                                                                l12 = l17 + 4u;
-                                                                                                if ((l11 - 11u) < 14u) goto L53;
-                                                                                                if (((1u << (l11 & 31)) & 1012u) == 0) goto L52;
+                                                                                                l10 = l16 + 4u;
+                                                                                                if ((l15 - 11u) < 14u) goto L53;
+                                                                                                if (((1u << (l15 & 31)) & 1012u) == 0) goto L52;
                                                                                             }
                                                                                             L53:;
-                                                                                            l29 = l1 + 24ull;
-                                                                                            const u32 t61 = load32(l29);
+                                                                                            l31 = l28 + 24ull;
+                                                                                            const u32 t61 = load32(l31);
                                                                                             l22 = t61 - 1u;
-                                                                                            store32(l29, l22);
-                                                                                            l18 = l6 + l22;
+                                                                                            store32(l31, l22);
+                                                                                            l17 = l6 + l22;
                                                                                             l6 = 0u;
-                                                                                            if (l10) goto L44;
-                                                                                            l10 = (u32)(l39 >> 32);
-                                                                                            l16 = l16 == 0;
+                                                                                            if (l14) goto L44;
+                                                                                            l14 = (u32)(l39 >> 32);
+                                                                                            l12 = l12 == 0;
                                                                                             {
-                                                                                                if ((l11 - 5u) < 20u) goto L62;
+                                                                                                if ((l15 - 5u) < 20u) goto L62;
                                                                                                 {
-                                                                                                    switch (l11 - 2u) {
+                                                                                                    switch (l15 - 2u) {
                                                                                                     case 0: goto L63;
                                                                                                     case 2: goto L51;
                                                                                                     default: goto L62;
@@ -19567,26 +19567,26 @@ static void engine_turn(struct engine *e, u64 l0, u64 l1, u64 l2, u64 l3, u64 l4
                                                                                                 }
                                                                                                 L63:;
                                                                                                 const u32 t64 = load16(l27 + 84u);
-                                                                                                store16(l46, (u16)t64);
+                                                                                                store16(l47, (u16)t64);
                                                                                                 const u32 t65 = load8(l27 + 86u);
-                                                                                                store8(l46 + 2u, (u8)t65);
-                                                                                                store8(l27 + 124u, (u8)l16);
-                                                                                                store32(l27 + 120u, l10);
-                                                                                                store32(l27 + 116u, l9);
-                                                                                                store32(l27 + 112u, l12);
-                                                                                                functions_arguments_Arguments_next(e, l27 + 8ull, l27 + 112ull, l1);
+                                                                                                store8(l47 + 2u, (u8)t65);
+                                                                                                store8(l27 + 124u, (u8)l12);
+                                                                                                store32(l27 + 120u, l14);
+                                                                                                store32(l27 + 116u, l8);
+                                                                                                store32(l27 + 112u, l10);
+                                                                                                functions_arguments_Arguments_next(e, l27 + 8ull, l27 + 112ull, l28);
                                                                                                 const u32 t66 = load32(l27 + 8u);
-                                                                                                l9 = t66;
+                                                                                                l8 = t66;
                                                                                                 const u32 t67 = load32(l27 + 12u);
-                                                                                                if (l9 == t67) goto L44;
-                                                                                                l29 = l2 + ((u64)(l8 + l9) << 3);
-                                                                                                const u32 t68 = load8(l29);
-                                                                                                const u64 t69 = l40;
+                                                                                                if (l8 == t67) goto L44;
+                                                                                                l31 = l30 + ((u64)(l8 + l11) << 3);
+                                                                                                const u32 t68 = load8(l31);
+                                                                                                const u64 t69 = l41;
                                                                                                 u32 v70;
                                                                                                 if (t68) {
                                                                                                     v70 = 0u;
                                                                                                 } else {
-                                                                                                    const u32 t71 = load8(l29 + 1ull);
+                                                                                                    const u32 t71 = load8(l31 + 1ull);
                                                                                                     v70 = t71;
                                                                                                 }
                                                                                                 store8(t69, (u8)v70);
@@ -19594,13 +19594,13 @@ static void engine_turn(struct engine *e, u64 l0, u64 l1, u64 l2, u64 l3, u64 l4
                                                                                             }
                                                                                             L62:;
                                                                                             const u32 t72 = load16(l27 + 84u);
-                                                                                            store16(l47, (u16)t72);
+                                                                                            store16(l33, (u16)t72);
                                                                                             const u32 t73 = load8(l27 + 86u);
-                                                                                            store8(l47 + 2u, (u8)t73);
-                                                                                            store8(l27 + 108u, (u8)l16);
-                                                                                            store32(l27 + 104u, l10);
-                                                                                            store32(l27 + 100u, l9);
-                                                                                            store32(l27 + 96u, l12);
+                                                                                            store8(l33 + 2u, (u8)t73);
+                                                                                            store8(l27 + 108u, (u8)l12);
+                                                                                            store32(l27 + 104u, l14);
+                                                                                            store32(l27 + 100u, l8);
+                                                                                            store32(l27 + 96u, l10);
                                                                                             store64(l27 + 88u, 0ull);
                                                                                             {
                                                                                                 {
@@ -19621,7 +19621,7 @@ static void engine_turn(struct engine *e, u64 l0, u64 l1, u64 l2, u64 l3, u64 l4
                                                                                                                                                             {
                                                                                                                                                                 {
                                                                                                                                                                     {
-                                                                                                                                                                        switch (l11 - 5u) {
+                                                                                                                                                                        switch (l15 - 5u) {
                                                                                                                                                                         case 0: goto L80;
                                                                                                                                                                         case 1: goto L79;
                                                                                                                                                                         case 2: goto L77;
@@ -19645,19 +19645,19 @@ static void engine_turn(struct engine *e, u64 l0, u64 l1, u64 l2, u64 l3, u64 l4
                                                                                                                                                                         }
                                                                                                                                                                     }
                                                                                                                                                                     L92:;
-                                                                                                                                                                    functions_comparing_greater(e, l27 + 88ull, l1, l27 + 96ull);
+                                                                                                                                                                    functions_comparing_greater(e, l27 + 88ull, l28, l27 + 96ull);
                                                                                                                                                                     goto L47;
                                                                                                                                                                 }
                                                                                                                                                                 L91:;
-                                                                                                                                                                functions_arithmetic_arithmetic(e, l27 + 88ull, l1, l14, l27 + 96ull);
+                                                                                                                                                                functions_arithmetic_arithmetic(e, l27 + 88ull, l28, l9, l27 + 96ull);
                                                                                                                                                                 goto L47;
                                                                                                                                                             }
                                                                                                                                                             L90:;
-                                                                                                                                                            functions_bit_strings_union(e, l27 + 88ull, l1, l27 + 96ull);
+                                                                                                                                                            functions_bit_strings_union(e, l27 + 88ull, l28, l27 + 96ull);
                                                                                                                                                             goto L47;
                                                                                                                                                         }
                                                                                                                                                         L89:;
-                                                                                                                                                        functions_bit_strings_intersection(e, l27 + 88ull, l1, l27 + 96ull);
+                                                                                                                                                        functions_bit_strings_intersection(e, l27 + 88ull, l28, l27 + 96ull);
                                                                                                                                                         goto L47;
                                                                                                                                                     }
                                                                                                                                                     L88:;
@@ -19667,35 +19667,35 @@ static void engine_turn(struct engine *e, u64 l0, u64 l1, u64 l2, u64 l3, u64 l4
                                                                                                                                                     const u64 t94 = load64(l27 + 104u);
                                                                                                                                                     store64(l27 + 144u, t94);
                                                                                                                                                     store64(l27 + 124u, 0ull);
-                                                                                                                                                    functions_arguments_Arguments_next(e, l27 + 16ull, l27 + 136ull, l1);
+                                                                                                                                                    functions_arguments_Arguments_next(e, l27 + 16ull, l27 + 136ull, l28);
                                                                                                                                                     const u32 t95 = load32(l27 + 16u);
-                                                                                                                                                    l16 = t95;
+                                                                                                                                                    l12 = t95;
                                                                                                                                                     const u32 t96 = load32(l27 + 20u);
-                                                                                                                                                    l10 = t96;
-                                                                                                                                                    l29 = (u64)(l10 + l8);
-                                                                                                                                                    l31 = (u64)(l16 + l8) - l29;
-                                                                                                                                                    l29 = (l2 + (l29 << 3)) - 8ull;
-                                                                                                                                                    l6 = l10;
+                                                                                                                                                    l14 = t96;
+                                                                                                                                                    l31 = (u64)(l14 + l11);
+                                                                                                                                                    l34 = (u64)(l12 + l11) - l31;
+                                                                                                                                                    l31 = (l30 + (l31 << 3)) - 8ull;
+                                                                                                                                                    l6 = l14;
                                                                                                                                                     L97:;
                                                                                                                                                     {
                                                                                                                                                         {
-                                                                                                                                                            l11 = l6;
-                                                                                                                                                            if (l31 == 0) goto L98;
-                                                                                                                                                            const u32 t99 = load8(l29);
+                                                                                                                                                            l15 = l6;
+                                                                                                                                                            if (l34 == 0) goto L98;
+                                                                                                                                                            const u32 t99 = load8(l31);
                                                                                                                                                             if (t99) goto L98;
-                                                                                                                                                            l31 = l31 + 1ull;
-                                                                                                                                                            l6 = l11 - 1u;
-                                                                                                                                                            l2 = l29 + 1ull;
-                                                                                                                                                            l29 = l29 - 8ull;
-                                                                                                                                                            const u32 t100 = load8(l2);
+                                                                                                                                                            l34 = l34 + 1ull;
+                                                                                                                                                            l6 = l15 - 1u;
+                                                                                                                                                            l30 = l31 + 1ull;
+                                                                                                                                                            l31 = l31 - 8ull;
+                                                                                                                                                            const u32 t100 = load8(l30);
                                                                                                                                                             if ((t100 & 248u) == 48u) goto L97;
                                                                                                                                                         }
                                                                                                                                                         L98:;
                                                                                                                                                     }
-                                                                                                                                                    store32(l27 + 120u, l10);
-                                                                                                                                                    store32(l27 + 116u, l11);
+                                                                                                                                                    store32(l27 + 120u, l14);
+                                                                                                                                                    store32(l27 + 116u, l15);
                                                                                                                                                     store32(l27 + 112u, 2u);
-                                                                                                                                                    functions_bit_strings_give_bits(e, l27 + 152ull, l1, l16, l11, l27 + 112ull);
+                                                                                                                                                    functions_bit_strings_give_bits(e, l27 + 152ull, l28, l12, l15, l27 + 112ull);
                                                                                                                                                     const u32 t101 = load16(l27 + 152u);
                                                                                                                                                     store16(l27 + 88u, (u16)t101);
                                                                                                                                                     const u32 t102 = load32(l27 + 156u);
@@ -19703,39 +19703,39 @@ static void engine_turn(struct engine *e, u64 l0, u64 l1, u64 l2, u64 l3, u64 l4
                                                                                                                                                     goto L47;
                                                                                                                                                 }
                                                                                                                                                 L87:;
-                                                                                                                                                functions_bit_strings_shift(e, l27 + 88ull, l1, l27 + 96ull);
+                                                                                                                                                functions_bit_strings_shift(e, l27 + 88ull, l28, l27 + 96ull);
                                                                                                                                                 goto L47;
                                                                                                                                             }
                                                                                                                                             L86:;
-                                                                                                                                            functions_bit_strings_rotate(e, l27 + 88ull, l1, l27 + 96ull);
+                                                                                                                                            functions_bit_strings_rotate(e, l27 + 88ull, l28, l27 + 96ull);
                                                                                                                                             goto L47;
                                                                                                                                         }
                                                                                                                                         L85:;
-                                                                                                                                        functions_form_parts_call_segment(e, l27 + 88ull, l1, l27 + 96ull);
+                                                                                                                                        functions_form_parts_call_segment(e, l27 + 88ull, l28, l27 + 96ull);
                                                                                                                                         goto L47;
                                                                                                                                     }
                                                                                                                                     L84:;
-                                                                                                                                    functions_form_parts_call_character(e, l27 + 88ull, l1, l27 + 96ull);
+                                                                                                                                    functions_form_parts_call_character(e, l27 + 88ull, l28, l27 + 96ull);
                                                                                                                                     goto L47;
                                                                                                                                 }
                                                                                                                                 L83:;
-                                                                                                                                functions_form_parts_call_number(e, l27 + 88ull, l1, l27 + 96ull);
+                                                                                                                                functions_form_parts_call_number(e, l27 + 88ull, l28, l27 + 96ull);
                                                                                                                                 goto L47;
                                                                                                                             }
                                                                                                                             L82:;
-                                                                                                                            functions_form_parts_initial_part(e, l27 + 88ull, l1, l27 + 96ull);
+                                                                                                                            functions_form_parts_initial_part(e, l27 + 88ull, l28, l27 + 96ull);
                                                                                                                             goto L47;
                                                                                                                         }
                                                                                                                         L81:;
-                                                                                                                        functions_form_parts_call_restore(e, l27 + 88ull, l1, l27 + 96ull);
+                                                                                                                        functions_form_parts_call_restore(e, l27 + 88ull, l28, l27 + 96ull);
                                                                                                                         goto L47;
                                                                                                                     }
                                                                                                                     L80:;
-                                                                                                                    functions_form_calls_define_string(e, l27 + 88ull, l1, l27 + 96ull);
+                                                                                                                    functions_form_calls_define_string(e, l27 + 88ull, l28, l27 + 96ull);
                                                                                                                     goto L47;
                                                                                                                 }
                                                                                                                 L79:;
-                                                                                                                functions_form_calls_segment_string(e, l27 + 88ull, l1, l27 + 96ull);
+                                                                                                                functions_form_calls_segment_string(e, l27 + 88ull, l28, l27 + 96ull);
                                                                                                                 goto L47;
                                                                                                             }
                                                                                                             L78:;
@@ -19744,88 +19744,88 @@ static void engine_turn(struct engine *e, u64 l0, u64 l1, u64 l2, u64 l3, u64 l4
                                                                                                             const u64 t104 = load64(l27 + 96u);
                                                                                                             store64(l27 + 112u, t104);
                                                                                                             const u32 t105 = load8(l27 + 124u);
-                                                                                                            l10 = t105;
-                                                                                                            functions_arguments_Arguments_next(e, l27 + 48ull, l27 + 112ull, l1);
+                                                                                                            l14 = t105;
+                                                                                                            functions_arguments_Arguments_next(e, l27 + 48ull, l27 + 112ull, l28);
                                                                                                             const u32 t106 = load32(l27 + 52u);
-                                                                                                            l11 = t106;
+                                                                                                            l15 = t106;
                                                                                                             const u32 t107 = load32(l27 + 48u);
                                                                                                             l6 = t107;
                                                                                                             u32 v108;
                                                                                                             {
-                                                                                                                const u32 t109 = load32(l1 + 40ull);
-                                                                                                                l16 = t109;
-                                                                                                                if (l16 >= 8u) {
-                                                                                                                    forms_work_Work_find_among_more(e, l27 + 32ull, l1, l6, l11);
+                                                                                                                const u32 t109 = load32(l28 + 40ull);
+                                                                                                                l12 = t109;
+                                                                                                                if (l12 >= 8u) {
+                                                                                                                    forms_work_Work_find_among_more(e, l27 + 32ull, l28, l6, l15);
                                                                                                                     const u32 t111 = load8(l27 + 32u);
-                                                                                                                    l11 = t111;
+                                                                                                                    l15 = t111;
                                                                                                                     const u32 t112 = load32(l27 + 36u);
                                                                                                                     v108 = t112; goto L108;
                                                                                                                 }
                                                                                                                 {
-                                                                                                                    if (l16 == 0) goto L113;
-                                                                                                                    const u64 t114 = load32(l2 + 4ull);
-                                                                                                                    l29 = (u64)(l8 + l11);
-                                                                                                                    l31 = (u64)(l6 + l8);
-                                                                                                                    if (t114 != (l29 - l31)) goto L113;
-                                                                                                                    l36 = 17ull - (l31 << 3);
-                                                                                                                    l31 = (l29 ^ 18446744073709551615ull) + l31;
-                                                                                                                    l29 = l2 + (l29 << 3);
+                                                                                                                    if (l12 == 0) goto L113;
+                                                                                                                    const u64 t114 = load32(l30 + 4ull);
+                                                                                                                    l31 = (u64)(l11 + l15);
+                                                                                                                    l34 = (u64)(l6 + l11);
+                                                                                                                    if (t114 != (l31 - l34)) goto L113;
+                                                                                                                    l1 = 17ull - (l34 << 3);
+                                                                                                                    l34 = (l31 ^ 18446744073709551615ull) + l34;
+                                                                                                                    l31 = l30 + (l31 << 3);
                                                                                                                     L115:;
                                                                                                                     {
-                                                                                                                        l31 = l31 + 1ull;
-                                                                                                                        if (l31 == 0) goto L50;
-                                                                                                                        l2 = l29 - 7ull;
-                                                                                                                        l34 = l29 + l36;
-                                                                                                                        l29 = l29 - 8ull;
-                                                                                                                        const u32 t116 = load8(l34);
-                                                                                                                        const u32 t117 = load8(l2);
+                                                                                                                        l34 = l34 + 1ull;
+                                                                                                                        if (l34 == 0) goto L50;
+                                                                                                                        l30 = l31 - 7ull;
+                                                                                                                        l35 = l1 + l31;
+                                                                                                                        l31 = l31 - 8ull;
+                                                                                                                        const u32 t116 = load8(l35);
+                                                                                                                        const u32 t117 = load8(l30);
                                                                                                                         if (t116 == t117) goto L115;
                                                                                                                     }
                                                                                                                 }
                                                                                                                 L113:;
-                                                                                                                forms_work_Work_find_among_few(e, l27 + 40ull, l1, l6, l11);
+                                                                                                                forms_work_Work_find_among_few(e, l27 + 40ull, l28, l6, l15);
                                                                                                                 const u32 t118 = load8(l27 + 40u);
-                                                                                                                l11 = t118;
+                                                                                                                l15 = t118;
                                                                                                                 const u32 t119 = load32(l27 + 44u);
                                                                                                                 v108 = t119;
                                                                                                             }
                                                                                                             L108:;
                                                                                                             l6 = v108;
-                                                                                                            if ((l11 & 255u) != 1u) goto L49;
+                                                                                                            if ((l15 & 255u) != 1u) goto L49;
                                                                                                             goto L48;
                                                                                                         }
                                                                                                         L77:;
-                                                                                                        functions_form_calls_delete_definition(e, l27 + 88ull, l1, l27 + 96ull);
+                                                                                                        functions_form_calls_delete_definition(e, l27 + 88ull, l28, l27 + 96ull);
                                                                                                         goto L47;
                                                                                                     }
                                                                                                     L76:;
-                                                                                                    functions_form_calls_delete_all(e, l27 + 88ull, l1);
+                                                                                                    functions_form_calls_delete_all(e, l27 + 88ull, l28);
                                                                                                     goto L47;
                                                                                                 }
                                                                                                 L75:;
-                                                                                                functions_form_calls_list_names(e, l27 + 88ull, l1, l27 + 96ull);
+                                                                                                functions_form_calls_list_names(e, l27 + 88ull, l28, l27 + 96ull);
                                                                                                 goto L47;
                                                                                             }
                                                                                             L74:;
-                                                                                            functions_comparing_equal(e, l27 + 88ull, l1, l27 + 96ull);
+                                                                                            functions_comparing_equal(e, l27 + 88ull, l28, l27 + 96ull);
                                                                                             goto L47;
                                                                                         }
                                                                                         L52:;
-                                                                                        store32(l35 + 20u, 0u);
-                                                                                        store32(l35 + 16u, l13);
-                                                                                        l1 = l33 - l30;
-                                                                                        store64(l35, l1);
-                                                                                        store64(l35 + 8u, l1 + l38);
+                                                                                        store32(l36 + 20u, 0u);
+                                                                                        store32(l36 + 16u, l21);
+                                                                                        l28 = l3 - l32;
+                                                                                        store64(l36, l28);
+                                                                                        store64(l36 + 8u, l28 + l38);
                                                                                         goto L10;
                                                                                     }
                                                                                     L51:;
-                                                                                    l30 = l33 - l30;
-                                                                                    l1 = l30 + l38;
-                                                                                    l8 = 0u;
+                                                                                    l32 = l3 - l32;
+                                                                                    l28 = l32 + l38;
+                                                                                    l11 = 0u;
                                                                                     goto L46;
                                                                                 }
                                                                                 L50:;
-                                                                                store64(l1 + 44ull, 0ull);
+                                                                                store64(l28 + 44ull, 0ull);
                                                                                 l6 = 0u;
                                                                                 goto L48;
                                                                             }
@@ -19836,193 +19836,193 @@ static void engine_turn(struct engine *e, u64 l0, u64 l1, u64 l2, u64 l3, u64 l4
                                                                         }
                                                                         L48:;
                                                                         const u32 t120 = load32(l27 + 116u);
-                                                                        l11 = t120;
+                                                                        l15 = t120;
                                                                         const u32 t121 = load32(l27 + 112u);
-                                                                        l16 = t121;
+                                                                        l12 = t121;
                                                                         {
-                                                                            if ((l10 & 1u) == 0) goto L122;
-                                                                            if (l11 >= l16) goto L122;
-                                                                            const u32 t123 = load32(l1 + 44ull);
-                                                                            const u32 t124 = load32(l1 + 48ull);
-                                                                            const u32 t125 = store_store_place_of(e, l1, t123, t124, l6);
-                                                                            l10 = t125;
-                                                                            l12 = 0u;
-                                                                            const u64 t126 = load64(l1);
-                                                                            l31 = t126;
-                                                                            l29 = l31 + ((u64)l10 << 3);
-                                                                            const u32 t127 = load32(l29 + 12ull);
-                                                                            l19 = t127;
-                                                                            const u32 t128 = load32(l29 + 20ull);
-                                                                            l14 = t128;
-                                                                            if (l19 != l14) {
-                                                                                const u32 t130 = load32(l29 + 4ull);
-                                                                                l25 = (l10 + t130) + 3u;
-                                                                                l12 = l25 + l14;
+                                                                            if ((l14 & 1u) == 0) goto L122;
+                                                                            if (l12 <= l15) goto L122;
+                                                                            const u32 t123 = load32(l28 + 44ull);
+                                                                            const u32 t124 = load32(l28 + 48ull);
+                                                                            const u32 t125 = store_store_place_of(e, l28, t123, t124, l6);
+                                                                            l14 = t125;
+                                                                            l10 = 0u;
+                                                                            const u64 t126 = load64(l28);
+                                                                            l34 = t126;
+                                                                            l31 = l34 + ((u64)l14 << 3);
+                                                                            const u32 t127 = load32(l31 + 12ull);
+                                                                            l18 = t127;
+                                                                            const u32 t128 = load32(l31 + 20ull);
+                                                                            l9 = t128;
+                                                                            if (l18 != l9) {
+                                                                                const u32 t130 = load32(l31 + 4ull);
+                                                                                l23 = (l14 + t130) + 3u;
+                                                                                l10 = l23 + l9;
                                                                                 u32 v131;
                                                                                 {
-                                                                                    l10 = l19 - l14;
-                                                                                    const u32 t132 = load32(l1 + 28ull);
+                                                                                    l14 = l18 - l9;
+                                                                                    const u32 t132 = load32(l28 + 28ull);
                                                                                     l20 = t132;
-                                                                                    const u32 t133 = load32(l1 + 20ull);
-                                                                                    const u32 t134 = load32(l1 + 24ull);
-                                                                                    l21 = t134;
-                                                                                    const u32 t135 = load32(l1 + 16ull);
-                                                                                    if (l10 > (l20 - (t133 + (l21 + t135)))) {
-                                                                                        store_fill_load_items_in_way(e, l27 + 24ull, l1, l12, l19 + l25);
+                                                                                    const u32 t133 = load32(l28 + 20ull);
+                                                                                    const u32 t134 = load32(l28 + 24ull);
+                                                                                    l19 = t134;
+                                                                                    const u32 t135 = load32(l28 + 16ull);
+                                                                                    if (l14 > (l20 - (t133 + (l19 + t135)))) {
+                                                                                        store_fill_load_items_in_way(e, l27 + 24ull, l28, l10, l18 + l23);
                                                                                         const u32 t137 = load8(l27 + 24u);
-                                                                                        l14 = t137;
+                                                                                        l9 = t137;
                                                                                         const u32 t138 = load32(l27 + 28u);
                                                                                         v131 = t138; goto L131;
                                                                                     }
-                                                                                    l0 = (u64)l10;
-                                                                                    l34 = (u64)l12;
+                                                                                    l0 = (u64)l14;
+                                                                                    l35 = (u64)l10;
                                                                                     {
                                                                                         {
                                                                                             {
                                                                                                 {
                                                                                                     {
                                                                                                         {
-                                                                                                            if (l10 >= 8u) {
-                                                                                                                if (l10 == 8u) goto L143;
-                                                                                                                l29 = l31 + (l34 << 3);
-                                                                                                                l2 = l0;
+                                                                                                            if (l14 >= 8u) {
+                                                                                                                if (l14 == 8u) goto L143;
+                                                                                                                l31 = l34 + (l35 << 3);
+                                                                                                                l30 = l0;
                                                                                                                 goto L144;
                                                                                                             }
-                                                                                                            if (l10 >= 4u) {
-                                                                                                                l14 = 0u;
-                                                                                                                l29 = l31 + (l34 << 3);
-                                                                                                                const u32 t147 = load8(l29 + 24ull);
-                                                                                                                const u32 t148 = load8(l29 + 16ull);
-                                                                                                                const u32 t149 = load8(l29 + 8ull);
-                                                                                                                const u32 t150 = load8(l29);
+                                                                                                            if (l14 >= 4u) {
+                                                                                                                l9 = 0u;
+                                                                                                                l31 = l34 + (l35 << 3);
+                                                                                                                const u32 t147 = load8(l31 + 24ull);
+                                                                                                                const u32 t148 = load8(l31 + 16ull);
+                                                                                                                const u32 t149 = load8(l31 + 8ull);
+                                                                                                                const u32 t150 = load8(l31);
                                                                                                                 if (((t147 + t148) | (t149 + t150)) & 255u) { v131 = 0u; goto L131; }
-                                                                                                                l2 = l0 + l34;
-                                                                                                                l29 = l31 + (l2 << 3);
-                                                                                                                const u32 t151 = load8(l29 - 8ull);
-                                                                                                                const u32 t152 = load8(l29 - 16ull);
-                                                                                                                const u32 t153 = load8(l29 - 24ull);
-                                                                                                                const u32 t154 = load8(l29 - 32ull);
+                                                                                                                l30 = l0 + l35;
+                                                                                                                l31 = l34 + (l30 << 3);
+                                                                                                                const u32 t151 = load8(l31 - 8ull);
+                                                                                                                const u32 t152 = load8(l31 - 16ull);
+                                                                                                                const u32 t153 = load8(l31 - 24ull);
+                                                                                                                const u32 t154 = load8(l31 - 32ull);
                                                                                                                 if (((t151 + t152) | (t153 + t154)) & 255u) { v131 = 0u; goto L131; }
-                                                                                                                l12 = l10 + l21;
-                                                                                                                l29 = (u64)(l20 - l12);
-                                                                                                                core_slice_edits_slice_T_copy_from_slice(e, l31 + (l29 << 3), l31 + (l34 << 3), 4ull);
-                                                                                                                const u64 t155 = l29 - l34;
-                                                                                                                l29 = l2 - 4ull;
-                                                                                                                core_slice_edits_slice_T_copy_from_slice(e, l31 + ((t155 + l29) << 3), l31 + (l29 << 3), 4ull);
+                                                                                                                l10 = l14 + l19;
+                                                                                                                l31 = (u64)(l20 - l10);
+                                                                                                                core_slice_edits_slice_T_copy_from_slice(e, l34 + (l31 << 3), l34 + (l35 << 3), 4ull);
+                                                                                                                const u64 t155 = l31 - l35;
+                                                                                                                l31 = l30 - 4ull;
+                                                                                                                core_slice_edits_slice_T_copy_from_slice(e, l34 + ((t155 + l31) << 3), l34 + (l31 << 3), 4ull);
                                                                                                                 goto L140;
                                                                                                             }
-                                                                                                            l29 = l31 + (l34 << 3);
-                                                                                                            const u32 t156 = load8(l29);
-                                                                                                            l19 = t156;
-                                                                                                            if (l10 < 2u) goto L142;
-                                                                                                            l14 = 0u;
-                                                                                                            const u32 t157 = load8(l29 + 8ull);
-                                                                                                            if (t157 | (l19 & 255u)) { v131 = 0u; goto L131; }
-                                                                                                            l2 = l0 + l34;
-                                                                                                            l29 = l31 + (l2 << 3);
-                                                                                                            const u32 t158 = load8(l29 - 8ull);
-                                                                                                            const u32 t159 = load8(l29 - 16ull);
+                                                                                                            l31 = l34 + (l35 << 3);
+                                                                                                            const u32 t156 = load8(l31);
+                                                                                                            l18 = t156;
+                                                                                                            if (l14 < 2u) goto L142;
+                                                                                                            l9 = 0u;
+                                                                                                            const u32 t157 = load8(l31 + 8ull);
+                                                                                                            if (t157 | (l18 & 255u)) { v131 = 0u; goto L131; }
+                                                                                                            l30 = l0 + l35;
+                                                                                                            l31 = l34 + (l30 << 3);
+                                                                                                            const u32 t158 = load8(l31 - 8ull);
+                                                                                                            const u32 t159 = load8(l31 - 16ull);
                                                                                                             if (t158 | t159) { v131 = 0u; goto L131; }
-                                                                                                            l12 = l10 + l21;
-                                                                                                            l29 = (u64)(l20 - l12);
-                                                                                                            core_slice_edits_slice_T_copy_from_slice(e, l31 + (l29 << 3), l31 + (l34 << 3), 2ull);
-                                                                                                            const u64 t160 = l29 - l34;
-                                                                                                            l29 = l2 - 2ull;
-                                                                                                            core_slice_edits_slice_T_copy_from_slice(e, l31 + ((t160 + l29) << 3), l31 + (l29 << 3), 2ull);
+                                                                                                            l10 = l14 + l19;
+                                                                                                            l31 = (u64)(l20 - l10);
+                                                                                                            core_slice_edits_slice_T_copy_from_slice(e, l34 + (l31 << 3), l34 + (l35 << 3), 2ull);
+                                                                                                            const u64 t160 = l31 - l35;
+                                                                                                            l31 = l30 - 2ull;
+                                                                                                            core_slice_edits_slice_T_copy_from_slice(e, l34 + ((t160 + l31) << 3), l34 + (l31 << 3), 2ull);
                                                                                                             goto L140;
                                                                                                         }
                                                                                                         L144:;
                                                                                                         L161:;
                                                                                                         {
-                                                                                                            const u32 t162 = load8(l29 + 56ull);
-                                                                                                            const u32 t163 = load8(l29 + 48ull);
-                                                                                                            const u32 t164 = load8(l29 + 40ull);
-                                                                                                            const u32 t165 = load8(l29 + 32ull);
-                                                                                                            const u32 t166 = load8(l29 + 24ull);
-                                                                                                            const u32 t167 = load8(l29 + 16ull);
-                                                                                                            const u32 t168 = load8(l29 + 8ull);
-                                                                                                            const u32 t169 = load8(l29);
+                                                                                                            const u32 t162 = load8(l31 + 56ull);
+                                                                                                            const u32 t163 = load8(l31 + 48ull);
+                                                                                                            const u32 t164 = load8(l31 + 40ull);
+                                                                                                            const u32 t165 = load8(l31 + 32ull);
+                                                                                                            const u32 t166 = load8(l31 + 24ull);
+                                                                                                            const u32 t167 = load8(l31 + 16ull);
+                                                                                                            const u32 t168 = load8(l31 + 8ull);
+                                                                                                            const u32 t169 = load8(l31);
                                                                                                             if ((t162 | ((t163 + (t164 + (t165 + (t166 + (t167 + (t168 + t169)))))) & 255u)) == 0) {
-                                                                                                                l29 = l29 + 64ull;
-                                                                                                                l2 = l2 - 8ull;
-                                                                                                                if (l2 >= 9ull) goto L161;
+                                                                                                                l31 = l31 + 64ull;
+                                                                                                                l30 = l30 - 8ull;
+                                                                                                                if (l30 >= 9ull) goto L161;
                                                                                                                 goto L143;
                                                                                                             }
                                                                                                         }
-                                                                                                        l14 = 0u;
+                                                                                                        l9 = 0u;
                                                                                                         v131 = 0u; goto L131;
                                                                                                     }
                                                                                                     L143:;
-                                                                                                    l14 = 0u;
-                                                                                                    l2 = l0 + l34;
-                                                                                                    l29 = l31 + (l2 << 3);
-                                                                                                    const u32 t171 = load8(l29 - 56ull);
-                                                                                                    const u32 t172 = load8(l29 - 64ull);
-                                                                                                    const u32 t173 = load8(l29 - 48ull);
-                                                                                                    const u32 t174 = load8(l29 - 40ull);
-                                                                                                    const u32 t175 = load8(l29 - 32ull);
-                                                                                                    const u32 t176 = load8(l29 - 24ull);
-                                                                                                    const u32 t177 = load8(l29 - 16ull);
-                                                                                                    const u32 t178 = load8(l29 - 8ull);
+                                                                                                    l9 = 0u;
+                                                                                                    l30 = l0 + l35;
+                                                                                                    l31 = l34 + (l30 << 3);
+                                                                                                    const u32 t171 = load8(l31 - 56ull);
+                                                                                                    const u32 t172 = load8(l31 - 64ull);
+                                                                                                    const u32 t173 = load8(l31 - 48ull);
+                                                                                                    const u32 t174 = load8(l31 - 40ull);
+                                                                                                    const u32 t175 = load8(l31 - 32ull);
+                                                                                                    const u32 t176 = load8(l31 - 24ull);
+                                                                                                    const u32 t177 = load8(l31 - 16ull);
+                                                                                                    const u32 t178 = load8(l31 - 8ull);
                                                                                                     if ((((((((t171 + t172) + t173) + t174) + t175) + t176) + t177) & 255u) | t178) { v131 = 0u; goto L131; }
-                                                                                                    l12 = l10 + l21;
-                                                                                                    l42 = (u64)(l20 - l12);
-                                                                                                    if (l10 > 24u) goto L141;
-                                                                                                    if (l10 != 8u) {
-                                                                                                        l29 = l31 + (l42 << 3);
-                                                                                                        l2 = l31 + (l34 << 3);
-                                                                                                        l36 = l0;
+                                                                                                    l10 = l14 + l19;
+                                                                                                    l43 = (u64)(l20 - l10);
+                                                                                                    if (l14 > 24u) goto L141;
+                                                                                                    if (l14 != 8u) {
+                                                                                                        l31 = l34 + (l43 << 3);
+                                                                                                        l30 = l34 + (l35 << 3);
+                                                                                                        l1 = l0;
                                                                                                         L180:;
                                                                                                         {
-                                                                                                            core_slice_edits_slice_T_copy_from_slice(e, l29, l2, 8ull);
-                                                                                                            l29 = l29 + 64ull;
-                                                                                                            l2 = l2 + 64ull;
-                                                                                                            l36 = l36 - 8ull;
-                                                                                                            if (l36 > 8ull) goto L180;
+                                                                                                            core_slice_edits_slice_T_copy_from_slice(e, l31, l30, 8ull);
+                                                                                                            l31 = l31 + 64ull;
+                                                                                                            l30 = l30 + 64ull;
+                                                                                                            l1 = l1 - 8ull;
+                                                                                                            if (l1 > 8ull) goto L180;
                                                                                                         }
                                                                                                     }
-                                                                                                    l29 = l0 - 8ull;
-                                                                                                    core_slice_edits_slice_T_copy_from_slice(e, l31 + ((l29 + l42) << 3), l31 + ((l29 + l34) << 3), 8ull);
-                                                                                                    store32(l1 + 24ull, l12);
+                                                                                                    l31 = l0 - 8ull;
+                                                                                                    core_slice_edits_slice_T_copy_from_slice(e, l34 + ((l31 + l43) << 3), l34 + ((l31 + l35) << 3), 8ull);
+                                                                                                    store32(l28 + 24ull, l10);
                                                                                                     goto L139;
                                                                                                 }
                                                                                                 L142:;
-                                                                                                l14 = 0u;
-                                                                                                if (l19 & 255u) { v131 = 0u; goto L131; }
-                                                                                                l12 = l10 + l21;
-                                                                                                if (l10 != 1u) goto L140;
-                                                                                                l29 = l31 + ((u64)(l20 - l12) << 3);
-                                                                                                l2 = l31 + (l34 << 3);
-                                                                                                const u32 t181 = load16(l2);
-                                                                                                store16(l29, (u16)t181);
-                                                                                                const u32 t182 = load32(l2 + 4ull);
-                                                                                                store32(l29 + 4ull, t182);
+                                                                                                l9 = 0u;
+                                                                                                if (l18 & 255u) { v131 = 0u; goto L131; }
+                                                                                                l10 = l14 + l19;
+                                                                                                if (l14 != 1u) goto L140;
+                                                                                                l31 = l34 + ((u64)(l20 - l10) << 3);
+                                                                                                l30 = l34 + (l35 << 3);
+                                                                                                const u32 t181 = load16(l30);
+                                                                                                store16(l31, (u16)t181);
+                                                                                                const u32 t182 = load32(l30 + 4ull);
+                                                                                                store32(l31 + 4ull, t182);
                                                                                                 goto L140;
                                                                                             }
                                                                                             L141:;
-                                                                                            space_copies_copy_long(e, l31, l34, l2, l42);
+                                                                                            space_copies_copy_long(e, l34, l35, l30, l43);
                                                                                         }
                                                                                         L140:;
-                                                                                        store32(l1 + 24ull, l12);
+                                                                                        store32(l28 + 24ull, l10);
                                                                                     }
                                                                                     L139:;
-                                                                                    l14 = 1u;
-                                                                                    v131 = l10;
+                                                                                    l9 = 1u;
+                                                                                    v131 = l14;
                                                                                 }
                                                                                 L131:;
-                                                                                l12 = v131;
-                                                                                if ((l14 & 255u) != 1u) goto L122;
+                                                                                l10 = v131;
+                                                                                if ((l9 & 255u) != 1u) goto L122;
                                                                             }
-                                                                            store32(l27 + 92u, l12);
+                                                                            store32(l27 + 92u, l10);
                                                                             store16(l27 + 88u, (u16)2u);
                                                                             goto L47;
                                                                         }
                                                                         L122:;
-                                                                        const u32 t183 = forms_work_Work_fill_body(e, l1, l6, l16, l11);
-                                                                        l11 = t183;
+                                                                        const u32 t183 = forms_work_Work_fill_body(e, l28, l6, l12, l15);
+                                                                        l15 = t183;
                                                                         store32(l27 + 92u, 0u);
                                                                         store8(l27 + 89u, (u8)0u);
-                                                                        store8(l27 + 88u, (u8)l11);
+                                                                        store8(l27 + 88u, (u8)l15);
                                                                     }
                                                                     L47:;
                                                                     const u32 t184 = load32(l27 + 92u);
@@ -20038,110 +20038,110 @@ static void engine_turn(struct engine *e, u64 l0, u64 l1, u64 l2, u64 l3, u64 l4
                                                                         }
                                                                     }
                                                                     L185:;
-                                                                    const u32 t187 = load32(l1 + 24ull);
-                                                                    const u32 t188 = load32(l1 + 20ull);
-                                                                    const u32 t189 = load32(l1 + 16ull);
-                                                                    l18 = t187 + (t188 + t189);
-                                                                    l30 = l33 - l30;
-                                                                    l1 = l30 + l38;
+                                                                    const u32 t187 = load32(l28 + 24ull);
+                                                                    const u32 t188 = load32(l28 + 20ull);
+                                                                    const u32 t189 = load32(l28 + 16ull);
+                                                                    l17 = t187 + (t188 + t189);
+                                                                    l32 = l3 - l32;
+                                                                    l28 = l32 + l38;
                                                                     const u32 t190 = load8(l27 + 89u);
-                                                                    l8 = t190;
-                                                                    l9 = 1u << (l8 & 31);
-                                                                    if (l9 & 3u) goto L46;
-                                                                    if (l9 & 12u) goto L11;
-                                                                    l13 = (l13 < l18) ? l18 : l13;
+                                                                    l11 = t190;
+                                                                    l8 = 1u << (l11 & 31);
+                                                                    if (l8 & 3u) goto L46;
+                                                                    if (l8 & 12u) goto L11;
+                                                                    l21 = (l17 > l21) ? l17 : l21;
                                                                     goto L11;
                                                                 }
                                                                 L46:;
-                                                                l13 = (l13 < l18) ? l18 : l13;
-                                                                l1 = l1 + 1ull;
+                                                                l21 = (l17 > l21) ? l17 : l21;
+                                                                l28 = l28 + 1ull;
                                                                 goto L11;
                                                             }
                                                             L45:;
-                                                            const u32 t191 = load32(l1 + 20ull);
-                                                            l11 = t191;
-                                                            core_delivery_deliver(e, l1, l17, l9);
-                                                            v26 = l11 + (l8 + l22); goto L26;
+                                                            const u32 t191 = load32(l28 + 20ull);
+                                                            l15 = t191;
+                                                            core_delivery_deliver(e, l28, l16, l8);
+                                                            v26 = l15 + (l11 + l22); goto L26;
                                                         }
                                                         L44:;
-                                                        const u64 t192 = load64(l1);
-                                                        const u64 t193 = load32(l1 + 16ull);
-                                                        l29 = t192 + (t193 << 3);
+                                                        const u64 t192 = load64(l28);
+                                                        const u64 t193 = load32(l28 + 16ull);
+                                                        l31 = t192 + (t193 << 3);
                                                         {
                                                             {
-                                                                const u32 t196 = load32(l1 + 32ull);
-                                                                l8 = t196;
-                                                                l9 = l8 <= l17;
-                                                                if (l9) goto L195;
-                                                                if ((l8 - l17) != 1u) goto L195;
-                                                                const u32 t197 = load32((l29 + ((l39 << 3) & 34359738360ull)) + 4ull);
-                                                                l8 = t197;
-                                                                l9 = l8 ? (l15 - l8) : 0u;
+                                                                const u32 t196 = load32(l28 + 32ull);
+                                                                l11 = t196;
+                                                                l8 = l11 <= l16;
+                                                                if (l8) goto L195;
+                                                                if ((l11 - l16) != 1u) goto L195;
+                                                                const u32 t197 = load32((l31 + ((l39 << 3) & 34359738360ull)) + 4ull);
+                                                                l11 = t197;
+                                                                l8 = l11 ? (l13 - l11) : 0u;
                                                                 goto L194;
                                                             }
                                                             L195:;
-                                                            if (l9) {
-                                                                l9 = l8;
+                                                            if (l8) {
+                                                                l8 = l11;
                                                                 goto L194;
                                                             }
                                                             L199:;
                                                             {
-                                                                const u32 t200 = load32((l29 + ((u64)(l8 - 1u) << 3)) + 4ull);
-                                                                l9 = t200;
-                                                                l8 = l8 - l9;
-                                                                l9 = l9 ? l8 : 0u;
-                                                                if (l9 > l17) goto L199;
+                                                                const u32 t200 = load32((l31 + ((u64)(l11 - 1u) << 3)) + 4ull);
+                                                                l8 = t200;
+                                                                l11 = l11 - l8;
+                                                                l8 = l8 ? l11 : 0u;
+                                                                if (l8 > l16) goto L199;
                                                             }
                                                         }
                                                         L194:;
-                                                        store32(l1 + 20ull, l17);
-                                                        store32(l1 + 32ull, l9);
-                                                        v26 = l6 + l18;
+                                                        store32(l28 + 20ull, l16);
+                                                        store32(l28 + 32ull, l8);
+                                                        v26 = l6 + l17;
                                                     }
                                                     L26:;
-                                                    l8 = v26;
+                                                    l11 = v26;
                                                     store32(l27 + 76u, 0u);
-                                                    const u32 t201 = load32(l1 + 20ull);
-                                                    l9 = t201;
-                                                    store32(l27 + 80u, l9);
-                                                    const u32 t202 = load32(l1 + 24ull);
-                                                    const u32 t203 = load32(l1 + 16ull);
-                                                    l9 = t202 + (l9 + t203);
-                                                    l13 = (l8 > l13) ? l8 : l13;
-                                                    v22 = l30 - 1ull;
+                                                    const u32 t201 = load32(l28 + 20ull);
+                                                    l8 = t201;
+                                                    store32(l27 + 80u, l8);
+                                                    const u32 t202 = load32(l28 + 24ull);
+                                                    const u32 t203 = load32(l28 + 16ull);
+                                                    l8 = t202 + (l8 + t203);
+                                                    l21 = (l11 > l21) ? l11 : l21;
+                                                    v22 = l32 - 1ull;
                                                 }
                                                 L22:;
-                                                l30 = v22;
-                                                if (l30 != 0ull) goto L21;
+                                                l32 = v22;
+                                                if (l32 != 0ull) goto L21;
                                             }
                                         }
-                                        store32(l35 + 20u, 0u);
-                                        store32(l35 + 16u, l13);
-                                        store64(l35, l33);
-                                        store64(l35 + 8u, l33 + l38);
+                                        store32(l36 + 20u, 0u);
+                                        store32(l36 + 16u, l21);
+                                        store64(l36, l3);
+                                        store64(l36 + 8u, l3 + l38);
                                         goto L10;
                                     }
                                     trap();
                                 }
                                 L12:;
-                                l30 = l33 - l30;
-                                l1 = l30 + l38;
-                                l8 = 2u;
+                                l32 = l3 - l32;
+                                l28 = l32 + l38;
+                                l11 = 2u;
                             }
                             L11:;
-                            store16(l35 + 22u, (u16)0u);
-                            store8(l35 + 21u, (u8)l8);
-                            store8(l35 + 20u, (u8)1u);
-                            store32(l35 + 16u, l13);
-                            store64(l35 + 8u, l1);
-                            store64(l35, l30);
+                            store16(l36 + 22u, (u16)0u);
+                            store8(l36 + 21u, (u8)l11);
+                            store8(l36 + 20u, (u8)1u);
+                            store32(l36 + 16u, l21);
+                            store64(l36 + 8u, l28);
+                            store64(l36, l32);
                         }
                         L10:;
                         e->stack_pointer = l27 + 160ull;
                         const u64 t204 = load64(l26 + 112u);
-                        store64(l41, t204);
+                        store64(l42, t204);
                         const u32 t205 = load32(l26 + 120u);
-                        store32(l32, t205);
+                        store32(l2, t205);
                         const u32 t206 = load16(l26 + 124u);
                         store16(l5, (u16)t206);
                         const u64 t207 = load64(l26 + 104u);
@@ -20149,17 +20149,17 @@ static void engine_turn(struct engine *e, u64 l0, u64 l1, u64 l2, u64 l3, u64 l4
                     } else {
                         v6 = 0ull;
                     }
-                    l41 = v6 + l4;
-                    if (l41 == l7) goto L3;
+                    l42 = v6 + l4;
+                    if (l42 == l7) goto L3;
                     {
-                        if (l24) goto L208;
+                        if (l25) goto L208;
                         const u64 t209 = load64(l26 + 80u);
                         l30 = t209;
                         const u64 t210 = load64(l26 + 72u);
-                        l2 = t210;
+                        l3 = t210;
                         {
                             {
-                                const u32 t213 = core_machine_Machine_awaits(e, l28);
+                                const u32 t213 = core_machine_Machine_awaits(e, l29);
                                 switch ((t213 & 255u) - 1u) {
                                 case 0: goto L212;
                                 case 1: goto L211;
@@ -20167,33 +20167,33 @@ static void engine_turn(struct engine *e, u64 l0, u64 l1, u64 l2, u64 l3, u64 l4
                                 }
                             }
                             L212:;
-                            const u32 t214 = load8(l40);
+                            const u32 t214 = load8(l41);
                             l9 = t214;
                             {
                                 if (l30 <= 3ull) {
                                     if (l30 == 0) goto L215;
                                     l8 = l9 & 255u;
-                                    const u32 t217 = load8(l2);
+                                    const u32 t217 = load8(l3);
                                     if (l8 == t217) goto L208;
-                                    const u32 t218 = load8(l2 + (l30 >> 1));
+                                    const u32 t218 = load8(l3 + (l30 >> 1));
                                     if (t218 == l8) goto L208;
-                                    const u32 t219 = load8((l2 + l30) - 1ull);
+                                    const u32 t219 = load8((l3 + l30) - 1ull);
                                     if (t219 == (l9 & 255u)) goto L208;
                                     goto L215;
                                 }
                                 if (l30 <= 8ull) {
                                     l8 = l9 & 255u;
-                                    const u32 t221 = load8(l2);
+                                    const u32 t221 = load8(l3);
                                     if (l8 == t221) goto L208;
-                                    const u32 t222 = load8(l2 + 1ull);
+                                    const u32 t222 = load8(l3 + 1ull);
                                     if (t222 == l8) goto L208;
                                     l8 = l9 & 255u;
-                                    const u32 t223 = load8(l2 + 2ull);
+                                    const u32 t223 = load8(l3 + 2ull);
                                     if (l8 == t223) goto L208;
-                                    const u32 t224 = load8(l2 + 3ull);
+                                    const u32 t224 = load8(l3 + 3ull);
                                     if (t224 == l8) goto L208;
                                     l8 = l9 & 255u;
-                                    l4 = l2 + l30;
+                                    l4 = l3 + l30;
                                     const u32 t225 = load8(l4 - 4ull);
                                     if (l8 == t225) goto L208;
                                     const u32 t226 = load8(l4 - 3ull);
@@ -20207,28 +20207,28 @@ static void engine_turn(struct engine *e, u64 l0, u64 l1, u64 l2, u64 l3, u64 l4
                                 }
                                 if (l30 <= 32ull) {
                                     l8 = l9 & 255u;
-                                    const u32 t230 = load8(l2);
+                                    const u32 t230 = load8(l3);
                                     if (l8 == t230) goto L208;
-                                    const u32 t231 = load8(l2 + 1ull);
+                                    const u32 t231 = load8(l3 + 1ull);
                                     if (t231 == l8) goto L208;
                                     l8 = l9 & 255u;
-                                    const u32 t232 = load8(l2 + 2ull);
+                                    const u32 t232 = load8(l3 + 2ull);
                                     if (l8 == t232) goto L208;
-                                    const u32 t233 = load8(l2 + 3ull);
+                                    const u32 t233 = load8(l3 + 3ull);
                                     if (t233 == l8) goto L208;
                                     l8 = l9 & 255u;
-                                    const u32 t234 = load8(l2 + 4ull);
+                                    const u32 t234 = load8(l3 + 4ull);
                                     if (l8 == t234) goto L208;
-                                    const u32 t235 = load8(l2 + 5ull);
+                                    const u32 t235 = load8(l3 + 5ull);
                                     if (t235 == l8) goto L208;
                                     l8 = l9 & 255u;
-                                    const u32 t236 = load8(l2 + 6ull);
+                                    const u32 t236 = load8(l3 + 6ull);
                                     if (l8 == t236) goto L208;
-                                    const u32 t237 = load8(l2 + 7ull);
+                                    const u32 t237 = load8(l3 + 7ull);
                                     if (t237 == l8) goto L208;
                                     l8 = l9 & 255u;
-                                    l32 = l30 - 8ull;
-                                    l4 = l2 + ((l32 < 8ull) ? l32 : 8ull);
+                                    l2 = l30 - 8ull;
+                                    l4 = l3 + ((l2 < 8ull) ? l2 : 8ull);
                                     const u32 t238 = load8(l4);
                                     if (l8 == t238) goto L208;
                                     const u32 t239 = load8(l4 + 1ull);
@@ -20249,7 +20249,7 @@ static void engine_turn(struct engine *e, u64 l0, u64 l1, u64 l2, u64 l3, u64 l4
                                     const u32 t245 = load8(l4 + 7ull);
                                     if (t245 == l8) goto L208;
                                     l8 = l9 & 255u;
-                                    l4 = l2 + ((l32 < 16ull) ? l32 : 16ull);
+                                    l4 = l3 + ((l2 < 16ull) ? l2 : 16ull);
                                     const u32 t246 = load8(l4);
                                     if (l8 == t246) goto L208;
                                     const u32 t247 = load8(l4 + 1ull);
@@ -20270,7 +20270,7 @@ static void engine_turn(struct engine *e, u64 l0, u64 l1, u64 l2, u64 l3, u64 l4
                                     const u32 t253 = load8(l4 + 7ull);
                                     if (t253 == l8) goto L208;
                                     l8 = l9 & 255u;
-                                    l4 = l2 + l32;
+                                    l4 = l2 + l3;
                                     const u32 t254 = load8(l4);
                                     if (l8 == t254) goto L208;
                                     const u32 t255 = load8(l4 + 1ull);
@@ -20294,87 +20294,87 @@ static void engine_turn(struct engine *e, u64 l0, u64 l1, u64 l2, u64 l3, u64 l4
                                 }
                                 if (l30 <= 64ull) {
                                     l8 = l9 & 255u;
-                                    const u32 t263 = load8(l2);
+                                    const u32 t263 = load8(l3);
                                     if (l8 == t263) goto L208;
-                                    const u32 t264 = load8(l2 + 1ull);
+                                    const u32 t264 = load8(l3 + 1ull);
                                     if (t264 == l8) goto L208;
                                     l8 = l9 & 255u;
-                                    const u32 t265 = load8(l2 + 2ull);
+                                    const u32 t265 = load8(l3 + 2ull);
                                     if (l8 == t265) goto L208;
-                                    const u32 t266 = load8(l2 + 3ull);
+                                    const u32 t266 = load8(l3 + 3ull);
                                     if (t266 == l8) goto L208;
                                     l8 = l9 & 255u;
-                                    const u32 t267 = load8(l2 + 4ull);
+                                    const u32 t267 = load8(l3 + 4ull);
                                     if (l8 == t267) goto L208;
-                                    const u32 t268 = load8(l2 + 5ull);
+                                    const u32 t268 = load8(l3 + 5ull);
                                     if (t268 == l8) goto L208;
                                     l8 = l9 & 255u;
-                                    const u32 t269 = load8(l2 + 6ull);
+                                    const u32 t269 = load8(l3 + 6ull);
                                     if (l8 == t269) goto L208;
-                                    const u32 t270 = load8(l2 + 7ull);
+                                    const u32 t270 = load8(l3 + 7ull);
                                     if (t270 == l8) goto L208;
                                     l8 = l9 & 255u;
-                                    const u32 t271 = load8(l2 + 8ull);
+                                    const u32 t271 = load8(l3 + 8ull);
                                     if (l8 == t271) goto L208;
-                                    const u32 t272 = load8(l2 + 9ull);
+                                    const u32 t272 = load8(l3 + 9ull);
                                     if (t272 == l8) goto L208;
                                     l8 = l9 & 255u;
-                                    const u32 t273 = load8(l2 + 10ull);
+                                    const u32 t273 = load8(l3 + 10ull);
                                     if (l8 == t273) goto L208;
-                                    const u32 t274 = load8(l2 + 11ull);
+                                    const u32 t274 = load8(l3 + 11ull);
                                     if (t274 == l8) goto L208;
                                     l8 = l9 & 255u;
-                                    const u32 t275 = load8(l2 + 12ull);
+                                    const u32 t275 = load8(l3 + 12ull);
                                     if (l8 == t275) goto L208;
-                                    const u32 t276 = load8(l2 + 13ull);
+                                    const u32 t276 = load8(l3 + 13ull);
                                     if (t276 == l8) goto L208;
                                     l8 = l9 & 255u;
-                                    const u32 t277 = load8(l2 + 14ull);
+                                    const u32 t277 = load8(l3 + 14ull);
                                     if (l8 == t277) goto L208;
-                                    const u32 t278 = load8(l2 + 15ull);
+                                    const u32 t278 = load8(l3 + 15ull);
                                     if (t278 == l8) goto L208;
                                     l8 = l9 & 255u;
-                                    const u32 t279 = load8(l2 + 16ull);
+                                    const u32 t279 = load8(l3 + 16ull);
                                     if (l8 == t279) goto L208;
-                                    const u32 t280 = load8(l2 + 17ull);
+                                    const u32 t280 = load8(l3 + 17ull);
                                     if (t280 == l8) goto L208;
                                     l8 = l9 & 255u;
-                                    const u32 t281 = load8(l2 + 18ull);
+                                    const u32 t281 = load8(l3 + 18ull);
                                     if (l8 == t281) goto L208;
-                                    const u32 t282 = load8(l2 + 19ull);
+                                    const u32 t282 = load8(l3 + 19ull);
                                     if (t282 == l8) goto L208;
                                     l8 = l9 & 255u;
-                                    const u32 t283 = load8(l2 + 20ull);
+                                    const u32 t283 = load8(l3 + 20ull);
                                     if (l8 == t283) goto L208;
-                                    const u32 t284 = load8(l2 + 21ull);
+                                    const u32 t284 = load8(l3 + 21ull);
                                     if (t284 == l8) goto L208;
                                     l8 = l9 & 255u;
-                                    const u32 t285 = load8(l2 + 22ull);
+                                    const u32 t285 = load8(l3 + 22ull);
                                     if (l8 == t285) goto L208;
-                                    const u32 t286 = load8(l2 + 23ull);
+                                    const u32 t286 = load8(l3 + 23ull);
                                     if (t286 == l8) goto L208;
                                     l8 = l9 & 255u;
-                                    const u32 t287 = load8(l2 + 24ull);
+                                    const u32 t287 = load8(l3 + 24ull);
                                     if (l8 == t287) goto L208;
-                                    const u32 t288 = load8(l2 + 25ull);
+                                    const u32 t288 = load8(l3 + 25ull);
                                     if (t288 == l8) goto L208;
                                     l8 = l9 & 255u;
-                                    const u32 t289 = load8(l2 + 26ull);
+                                    const u32 t289 = load8(l3 + 26ull);
                                     if (l8 == t289) goto L208;
-                                    const u32 t290 = load8(l2 + 27ull);
+                                    const u32 t290 = load8(l3 + 27ull);
                                     if (t290 == l8) goto L208;
                                     l8 = l9 & 255u;
-                                    const u32 t291 = load8(l2 + 28ull);
+                                    const u32 t291 = load8(l3 + 28ull);
                                     if (l8 == t291) goto L208;
-                                    const u32 t292 = load8(l2 + 29ull);
+                                    const u32 t292 = load8(l3 + 29ull);
                                     if (t292 == l8) goto L208;
                                     l8 = l9 & 255u;
-                                    const u32 t293 = load8(l2 + 30ull);
+                                    const u32 t293 = load8(l3 + 30ull);
                                     if (l8 == t293) goto L208;
-                                    const u32 t294 = load8(l2 + 31ull);
+                                    const u32 t294 = load8(l3 + 31ull);
                                     if (t294 == l8) goto L208;
                                     l8 = l9 & 255u;
-                                    l4 = l2 + l30;
+                                    l4 = l3 + l30;
                                     const u32 t295 = load8(l4 - 32ull);
                                     if (l8 == t295) goto L208;
                                     const u32 t296 = load8(l4 - 31ull);
@@ -20458,23 +20458,23 @@ static void engine_turn(struct engine *e, u64 l0, u64 l1, u64 l2, u64 l3, u64 l4
                                 }
                                 l0 = l30 & 18446744073709551552ull;
                                 l1 = 0ull;
-                                l5 = l2;
+                                l5 = l3;
                                 {
                                     L328:;
                                     {
                                         l6 = 0u;
-                                        l32 = 0ull;
+                                        l2 = 0ull;
                                         L329:;
                                         {
                                             l8 = l9 & 255u;
-                                            l4 = l5 + l32;
+                                            l4 = l2 + l5;
                                             const u32 t330 = load8(l4);
                                             const u32 t331 = load8(l4 + 1ull);
                                             const u32 t332 = load8(l4 + 2ull);
                                             const u32 t333 = load8(l4 + 3ull);
                                             l6 = (((l6 | (l8 == t330)) | (t331 == l8)) | (t332 == l8)) | (t333 == l8);
-                                            l32 = l32 + 4ull;
-                                            if (l32 != 64ull) goto L329;
+                                            l2 = l2 + 4ull;
+                                            if (l2 != 64ull) goto L329;
                                         }
                                         if (l6 & 1u) goto L327;
                                         l5 = l5 + 64ull;
@@ -20485,9 +20485,9 @@ static void engine_turn(struct engine *e, u64 l0, u64 l1, u64 l2, u64 l3, u64 l4
                                 }
                                 L327:;
                                 {
-                                    l32 = l30 - l1;
-                                    if (l32 < 32ull) goto L334;
-                                    l4 = l1 + l2;
+                                    l2 = l30 - l1;
+                                    if (l2 < 32ull) goto L334;
+                                    l4 = l1 + l3;
                                     L335:;
                                     {
                                         {
@@ -20572,17 +20572,17 @@ static void engine_turn(struct engine *e, u64 l0, u64 l1, u64 l2, u64 l3, u64 l4
                                             const u32 t368 = load8(l4 + 31ull);
                                             if (t368 == l8) goto L336;
                                             l4 = l4 + 32ull;
-                                            l32 = l32 - 32ull;
-                                            if (l32 > 31ull) goto L335;
+                                            l2 = l2 - 32ull;
+                                            if (l2 > 31ull) goto L335;
                                             goto L334;
                                         }
                                         L336:;
                                     }
-                                    if (l32 > 31ull) goto L208;
+                                    if (l2 > 31ull) goto L208;
                                 }
                                 L334:;
                                 l8 = l9 & 255u;
-                                l4 = l2 + l30;
+                                l4 = l3 + l30;
                                 const u32 t369 = load8(l4 - 32ull);
                                 if (l8 == t369) goto L208;
                                 const u32 t370 = load8(l4 - 31ull);
@@ -20664,24 +20664,26 @@ static void engine_turn(struct engine *e, u64 l0, u64 l1, u64 l2, u64 l3, u64 l4
                                 if (t400 == l8) goto L208;
                             }
                             L215:;
-                            const u32 t401 = load32(l28 + 24ull);
-                            const u32 t402 = load32(l28 + 20ull);
-                            const u32 t403 = load32(l28 + 16ull);
-                            const u64 t404 = load32(l28 + 8ull);
+                            const u32 t401 = load32(l29 + 24ull);
+                            const u32 t402 = load32(l29 + 20ull);
+                            const u32 t403 = load32(l29 + 16ull);
+                            const u64 t404 = load32(l29 + 8ull);
                             if ((l30 + (u64)((t401 + (t402 + t403)))) > (t404 + 1ull)) goto L208;
-                            l23 = 7u;
+                            l24 = 7u;
                             goto L3;
                         }
                         L211:;
                         if ((l30 == 0) == 0) goto L208;
-                        l23 = 7u;
+                        l24 = 7u;
                         goto L3;
                     }
                     L208:;
-                    u32 v405;
+                    const u32 t405 = load8(l29 + 84ull);
+                    l8 = t405;
+                    u32 v406;
                     {
                         {
-                            u32 v407;
+                            u32 v408;
                             {
                                 {
                                     {
@@ -20692,655 +20694,686 @@ static void engine_turn(struct engine *e, u64 l0, u64 l1, u64 l2, u64 l3, u64 l4
                                                         {
                                                             {
                                                                 {
-                                                                    const u32 t417 = load8(l28 + 84ull);
-                                                                    if (t417 == 1u) goto L416;
                                                                     {
+                                                                        u32 v419;
                                                                         {
-                                                                            const u64 t420 = load64(l28 + 72ull);
-                                                                            l4 = t420;
-                                                                            const u64 t421 = load64(l28 + 64ull);
-                                                                            l32 = t421;
-                                                                            if (l4 == l32) goto L419;
-                                                                            const u32 t422 = load32(l28 + 24ull);
-                                                                            l8 = t422;
-                                                                            if (l8 == 0) goto L419;
-                                                                            const u64 t423 = load64(l28);
-                                                                            l5 = t423;
-                                                                            const u32 t424 = load32(l28 + 28ull);
-                                                                            const u32 t425 = load8((l5 + ((u64)(t424 - l8) << 3)) + 1ull);
-                                                                            if (t425 != 41u) goto L419;
-                                                                            const u32 t426 = load32(l28 + 32ull);
-                                                                            l8 = t426;
-                                                                            if (l8 == 0) goto L419;
-                                                                            l8 = l8 - (l8 != 0u);
-                                                                            const u64 t427 = load64(l26 + 40u);
-                                                                            const u64 t428 = load64(l26 + 48u);
-                                                                            l30 = t427 - t428;
-                                                                            const u32 t429 = load32(l28 + 20ull);
-                                                                            l6 = t429;
-                                                                            if (l30 >= (u64)l6) {
-                                                                                const u32 t431 = load32(l28 + 16ull);
-                                                                                l9 = t431;
-                                                                                store8(l26 + 130u, (u8)0u);
-                                                                                store16(l26 + 128u, (u16)0u);
-                                                                                l2 = (u64)(((l8 + l9) + 1u));
-                                                                                l1 = (u64)(l6 + l9) - l2;
-                                                                                if (l1 < 2ull) goto L419;
-                                                                                l5 = l5 + (l2 << 3);
-                                                                                if (l1 != 2ull) {
-                                                                                    const u32 t433 = load8(l5 + 16ull);
-                                                                                    if (t433 != 2u) goto L419;
+                                                                            const u64 t420 = load64(l26 + 40u);
+                                                                            const u64 t421 = load64(l26 + 48u);
+                                                                            l4 = t420 - t421;
+                                                                            const u32 t422 = load32(l29 + 16ull);
+                                                                            l6 = t422;
+                                                                            const u32 t423 = load32(l29 + 20ull);
+                                                                            l9 = t423;
+                                                                            l2 = (u64)(l6 + l9);
+                                                                            if (l4 >= (l2 - (u64)l6)) {
+                                                                                if ((l8 & 255u) == 1u) goto L417;
+                                                                                const u64 t425 = load64(l29 + 72ull);
+                                                                                l5 = t425;
+                                                                                const u64 t426 = load64(l29 + 64ull);
+                                                                                l30 = t426;
+                                                                                if (l5 == l30) goto L418;
+                                                                                const u32 t427 = load32(l29 + 24ull);
+                                                                                l8 = t427;
+                                                                                if (l8 == 0) goto L418;
+                                                                                const u64 t428 = load64(l29);
+                                                                                l3 = t428;
+                                                                                const u32 t429 = load32(l29 + 28ull);
+                                                                                const u32 t430 = load8((l3 + ((u64)(t429 - l8) << 3)) + 1ull);
+                                                                                if (t430 != 41u) goto L418;
+                                                                                const u32 t431 = load32(l29 + 32ull);
+                                                                                l8 = t431;
+                                                                                if (l8 == 0) goto L418;
+                                                                                l8 = l8 - (l8 != 0u);
+                                                                                if ((u64)l9 <= l4) {
+                                                                                    store8(l26 + 130u, (u8)0u);
+                                                                                    store16(l26 + 128u, (u16)0u);
+                                                                                    l1 = (u64)(((l6 + l8) + 1u));
+                                                                                    l2 = l2 - l1;
+                                                                                    if (l2 < 2ull) goto L418;
+                                                                                    l3 = l3 + (l1 << 3);
+                                                                                    if (l2 != 2ull) {
+                                                                                        const u32 t434 = load8(l3 + 16ull);
+                                                                                        if (t434 != 2u) goto L418;
+                                                                                    }
+                                                                                    functions_function_function_of(e, l26 + 128ull, l3, l3 + 8ull);
+                                                                                    const u32 t435 = load8(l26 + 128u);
+                                                                                    if (t435 != 1u) goto L418;
+                                                                                    const u32 t436 = load8(l26 + 129u);
+                                                                                    if (t436 != 10u) goto L418;
                                                                                 }
-                                                                                functions_function_function_of(e, l26 + 128ull, l5, l5 + 8ull);
-                                                                                const u32 t434 = load8(l26 + 128u);
-                                                                                if (t434 != 1u) goto L419;
-                                                                                const u32 t435 = load8(l26 + 129u);
-                                                                                if (t435 != 10u) goto L419;
+                                                                                const u32 t437 = core_machine_printing_call_len(e, l29, l8);
+                                                                                l6 = t437;
+                                                                                const u32 t438 = load8(l29 + 84ull);
+                                                                                l8 = t438;
+                                                                                if (l4 >= (u64)l6) { v419 = l8; goto L419; }
                                                                             }
-                                                                            const u32 t436 = core_machine_printing_call_len(e, l28, l8);
-                                                                            l6 = t436;
-                                                                            const u32 t437 = load8(l28 + 84ull);
-                                                                            l8 = t437;
-                                                                            if (l30 < (u64)l6) goto L418;
-                                                                            if ((l8 & 255u) == 1u) goto L416;
-                                                                            const u64 t438 = load64(l28 + 64ull);
-                                                                            l32 = t438;
-                                                                            const u64 t439 = load64(l28 + 72ull);
-                                                                            l4 = t439;
+                                                                            if ((l8 & 255u) == 1u) goto L417;
+                                                                            const u64 t439 = load64(l29 + 72ull);
+                                                                            l5 = t439;
+                                                                            const u64 t440 = load64(l29 + 64ull);
+                                                                            l30 = t440;
+                                                                            if (l5 == l30) goto L418;
+                                                                            const u32 t441 = load32(l29 + 24ull);
+                                                                            l8 = t441;
+                                                                            if (l8 == 0) goto L418;
+                                                                            const u64 t442 = load64(l29);
+                                                                            const u32 t443 = load32(l29 + 28ull);
+                                                                            const u32 t444 = load8((t442 + ((u64)(t443 - l8) << 3)) + 1ull);
+                                                                            if (t444 != 41u) goto L418;
+                                                                            const u32 t445 = load32(l29 + 32ull);
+                                                                            l8 = t445;
+                                                                            if (l8 == 0) goto L418;
+                                                                            const u32 t446 = core_machine_printing_call_len(e, l29, l8 - 1u);
+                                                                            l2 = (u64)t446;
+                                                                            if (l2 > l4) {
+                                                                                l24 = 8u;
+                                                                                l48 = l2;
+                                                                                goto L3;
+                                                                            }
+                                                                            const u32 t448 = load8(l29 + 84ull);
+                                                                            v419 = t448;
                                                                         }
                                                                         L419:;
-                                                                        if (l4 == l32) {
-                                                                            store16(l28 + 84ull, (u16)769u);
-                                                                            l6 = 3u;
-                                                                            v405 = 1u; goto L405;
-                                                                        }
-                                                                        const u32 t441 = load32(l28 + 24ull);
-                                                                        l8 = t441;
-                                                                        const u32 t442 = load32(l28 + 16ull);
-                                                                        l9 = t442;
-                                                                        const u32 t443 = load32(l28 + 20ull);
-                                                                        l14 = t443;
-                                                                        store32(l26 + 168u, l14);
-                                                                        l6 = 0u;
-                                                                        store32(l26 + 152u, 0u);
-                                                                        store64(l26 + 136u, 0ull);
-                                                                        store64(l26 + 128u, 0ull);
-                                                                        core_scan_pass(e, l26 + 128ull, l28, 1ull, l26 + 168ull, l26 + 152ull);
-                                                                        const u32 t444 = load8(l26 + 128u);
-                                                                        if (t444 == 1u) {
-                                                                            const u32 t446 = load8(l26 + 132u);
-                                                                            if (t446 == 0) {
-                                                                                l9 = 0u;
-                                                                                store32(l28 + 32ull, 0u);
-                                                                                l4 = l28 + 20ull;
-                                                                                store32(l4, 0u);
-                                                                                const u32 t448 = load32(l28 + 28ull);
-                                                                                l6 = t448;
-                                                                                l5 = l28 + 24ull;
-                                                                                const u32 t449 = load32(l5);
-                                                                                l8 = t449;
-                                                                                l32 = l28 + 16ull;
-                                                                                const u32 t450 = load32(l32);
-                                                                                if ((l6 - (l8 + t450)) <= 10u) {
-                                                                                    const u32 t452 = space_space_Space_find_way(e, l28, 11ull);
-                                                                                    if (t452 == 0) {
-                                                                                        l6 = 2u;
-                                                                                        goto L406;
-                                                                                    }
-                                                                                    const u32 t454 = load32(l28 + 24ull);
-                                                                                    l8 = t454;
-                                                                                    const u32 t455 = load32(l28 + 28ull);
-                                                                                    l6 = t455;
+                                                                        if ((v419 & 255u) == 1u) goto L417;
+                                                                        const u64 t449 = load64(l29 + 64ull);
+                                                                        l30 = t449;
+                                                                        const u64 t450 = load64(l29 + 72ull);
+                                                                        l5 = t450;
+                                                                    }
+                                                                    L418:;
+                                                                    if (l5 == l30) {
+                                                                        store16(l29 + 84ull, (u16)769u);
+                                                                        l6 = 3u;
+                                                                        v406 = 1u; goto L406;
+                                                                    }
+                                                                    const u32 t452 = load32(l29 + 24ull);
+                                                                    l8 = t452;
+                                                                    const u32 t453 = load32(l29 + 16ull);
+                                                                    l9 = t453;
+                                                                    const u32 t454 = load32(l29 + 20ull);
+                                                                    l20 = t454;
+                                                                    store32(l26 + 168u, l20);
+                                                                    l6 = 0u;
+                                                                    store32(l26 + 152u, 0u);
+                                                                    store64(l26 + 136u, 0ull);
+                                                                    store64(l26 + 128u, 0ull);
+                                                                    core_scan_pass(e, l26 + 128ull, l29, 1ull, l26 + 168ull, l26 + 152ull);
+                                                                    const u32 t455 = load8(l26 + 128u);
+                                                                    if (t455 == 1u) {
+                                                                        const u32 t457 = load8(l26 + 132u);
+                                                                        if (t457 == 0) {
+                                                                            l9 = 0u;
+                                                                            store32(l29 + 32ull, 0u);
+                                                                            l4 = l29 + 20ull;
+                                                                            store32(l4, 0u);
+                                                                            const u32 t459 = load32(l29 + 28ull);
+                                                                            l6 = t459;
+                                                                            l5 = l29 + 24ull;
+                                                                            const u32 t460 = load32(l5);
+                                                                            l8 = t460;
+                                                                            l2 = l29 + 16ull;
+                                                                            const u32 t461 = load32(l2);
+                                                                            if ((l6 - (l8 + t461)) <= 10u) {
+                                                                                const u32 t463 = space_space_Space_find_way(e, l29, 11ull);
+                                                                                if (t463 == 0) {
+                                                                                    l6 = 2u;
+                                                                                    goto L407;
                                                                                 }
-                                                                                const u64 t456 = load64(l28);
-                                                                                l8 = l8 + 11u;
-                                                                                space_space_write_bytes(e, t456 + ((u64)(l6 - l8) << 3), TABLES + 768u, 11ull);
-                                                                                store32(l5, l8);
-                                                                                const u32 t457 = load32(l4);
-                                                                                const u32 t458 = load32(l32);
-                                                                                l8 = t457 + (t458 + l8);
-                                                                                goto L408;
+                                                                                const u32 t465 = load32(l29 + 24ull);
+                                                                                l8 = t465;
+                                                                                const u32 t466 = load32(l29 + 28ull);
+                                                                                l6 = t466;
                                                                             }
-                                                                            const u64 t459 = load64(l26 + 136u);
-                                                                            l32 = t459;
-                                                                            l4 = l28 + 24ull;
-                                                                            const u32 t460 = load32(l4);
-                                                                            l19 = t460 - 1u;
-                                                                            store32(l4, l19);
-                                                                            const u32 t461 = load32(l28 + 20ull);
-                                                                            l14 = t461;
-                                                                            const u32 t462 = load32(l28 + 16ull);
-                                                                            l8 = t462;
-                                                                            store64(l26 + 184u, 0ull);
-                                                                            store64(l26 + 168u, 0ull);
-                                                                            store64(l26 + 176u, 0ull);
-                                                                            store64(l26 + 152u, 0ull);
-                                                                            store64(l26 + 160u, 0ull);
-                                                                            const u64 t463 = load64(l28);
-                                                                            l4 = t463;
-                                                                            l9 = (u32)l32;
-                                                                            const u32 t464 = load8((l4 + ((u64)(l8 + l9) << 3)) + 1ull);
-                                                                            l6 = t464;
-                                                                            store8(l26 + 130u, (u8)0u);
-                                                                            store16(l26 + 128u, (u16)0u);
+                                                                            const u64 t467 = load64(l29);
+                                                                            l8 = l8 + 11u;
+                                                                            space_space_write_bytes(e, t467 + ((u64)(l6 - l8) << 3), TABLES + 768u, 11ull);
+                                                                            store32(l5, l8);
+                                                                            const u32 t468 = load32(l4);
+                                                                            const u32 t469 = load32(l2);
+                                                                            l8 = t468 + (t469 + l8);
+                                                                            goto L409;
+                                                                        }
+                                                                        const u64 t470 = load64(l26 + 136u);
+                                                                        l2 = t470;
+                                                                        l4 = l29 + 24ull;
+                                                                        const u32 t471 = load32(l4);
+                                                                        l23 = t471 - 1u;
+                                                                        store32(l4, l23);
+                                                                        const u32 t472 = load32(l29 + 20ull);
+                                                                        l20 = t472;
+                                                                        const u32 t473 = load32(l29 + 16ull);
+                                                                        l8 = t473;
+                                                                        store64(l26 + 184u, 0ull);
+                                                                        store64(l26 + 168u, 0ull);
+                                                                        store64(l26 + 176u, 0ull);
+                                                                        store64(l26 + 152u, 0ull);
+                                                                        store64(l26 + 160u, 0ull);
+                                                                        const u64 t474 = load64(l29);
+                                                                        l4 = t474;
+                                                                        l9 = (u32)l2;
+                                                                        const u32 t475 = load8((l4 + ((u64)(l8 + l9) << 3)) + 1ull);
+                                                                        l6 = t475;
+                                                                        store8(l26 + 130u, (u8)0u);
+                                                                        store16(l26 + 128u, (u16)0u);
+                                                                        {
+                                                                            l14 = l8 + l20;
+                                                                            l15 = l9 + 1u;
+                                                                            l5 = (u64)(l8 + l15);
+                                                                            l30 = (u64)l14 - l5;
+                                                                            if (l30 < 2ull) goto L476;
+                                                                            l5 = l4 + (l5 << 3);
+                                                                            if (l30 != 2ull) {
+                                                                                const u32 t478 = load8(l5 + 16ull);
+                                                                                if (t478 != 2u) goto L476;
+                                                                            }
+                                                                            functions_function_function_of(e, l26 + 128ull, l5, l5 + 8ull);
+                                                                            const u32 t479 = load8(l26 + 128u);
+                                                                            if (t479 != 1u) goto L476;
+                                                                            l13 = (u32)(l2 >> 32);
+                                                                            l6 = l6 == 0;
+                                                                            l16 = l9 + 4u;
                                                                             {
-                                                                                l20 = l8 + l14;
-                                                                                l21 = l9 + 1u;
-                                                                                l5 = (u64)(l8 + l21);
-                                                                                l30 = (u64)l20 - l5;
-                                                                                if (l30 < 2ull) goto L465;
-                                                                                l5 = l4 + (l5 << 3);
-                                                                                if (l30 != 2ull) {
-                                                                                    const u32 t467 = load8(l5 + 16ull);
-                                                                                    if (t467 != 2u) goto L465;
-                                                                                }
-                                                                                functions_function_function_of(e, l26 + 128ull, l5, l5 + 8ull);
-                                                                                const u32 t468 = load8(l26 + 128u);
-                                                                                if (t468 != 1u) goto L465;
-                                                                                l10 = (u32)(l32 >> 32);
-                                                                                l6 = l6 == 0;
-                                                                                l12 = l9 + 4u;
                                                                                 {
                                                                                     {
                                                                                         {
                                                                                             {
                                                                                                 {
-                                                                                                    {
-                                                                                                        const u32 t475 = load8(l26 + 129u);
-                                                                                                        l11 = t475;
-                                                                                                        switch (l11 - 1u) {
-                                                                                                        case 0: goto L474;
-                                                                                                        case 1: goto L471;
-                                                                                                        case 2: goto L473;
-                                                                                                        case 3: goto L471;
-                                                                                                        case 4: goto L471;
-                                                                                                        case 5: goto L471;
-                                                                                                        case 6: goto L471;
-                                                                                                        case 7: goto L471;
-                                                                                                        case 8: goto L471;
-                                                                                                        case 9: goto L472;
-                                                                                                        case 10: goto L471;
-                                                                                                        case 11: goto L471;
-                                                                                                        case 12: goto L471;
-                                                                                                        case 13: goto L471;
-                                                                                                        case 14: goto L471;
-                                                                                                        case 15: goto L471;
-                                                                                                        case 16: goto L471;
-                                                                                                        case 17: goto L471;
-                                                                                                        case 18: goto L471;
-                                                                                                        case 19: goto L471;
-                                                                                                        case 20: goto L471;
-                                                                                                        case 21: goto L471;
-                                                                                                        case 22: goto L471;
-                                                                                                        case 23: goto L471;
-                                                                                                        default: goto L470;
-                                                                                                        }
+                                                                                                    const u32 t486 = load8(l26 + 129u);
+                                                                                                    l12 = t486;
+                                                                                                    switch (l12 - 1u) {
+                                                                                                    case 0: goto L485;
+                                                                                                    case 1: goto L482;
+                                                                                                    case 2: goto L484;
+                                                                                                    case 3: goto L482;
+                                                                                                    case 4: goto L482;
+                                                                                                    case 5: goto L482;
+                                                                                                    case 6: goto L482;
+                                                                                                    case 7: goto L482;
+                                                                                                    case 8: goto L482;
+                                                                                                    case 9: goto L483;
+                                                                                                    case 10: goto L482;
+                                                                                                    case 11: goto L482;
+                                                                                                    case 12: goto L482;
+                                                                                                    case 13: goto L482;
+                                                                                                    case 14: goto L482;
+                                                                                                    case 15: goto L482;
+                                                                                                    case 16: goto L482;
+                                                                                                    case 17: goto L482;
+                                                                                                    case 18: goto L482;
+                                                                                                    case 19: goto L482;
+                                                                                                    case 20: goto L482;
+                                                                                                    case 21: goto L482;
+                                                                                                    case 22: goto L482;
+                                                                                                    case 23: goto L482;
+                                                                                                    default: goto L481;
                                                                                                     }
-                                                                                                    L474:;
-                                                                                                    l5 = l26 + 184ull;
-                                                                                                    l0 = l28;
-                                                                                                    l1 = l26 + 72ull;
-                                                                                                    l4 = e->stack_pointer - 16ull;
-                                                                                                    e->stack_pointer = l4;
-                                                                                                    u32 v476;
+                                                                                                }
+                                                                                                L485:;
+                                                                                                l1 = l26 + 184ull;
+                                                                                                l0 = l29;
+                                                                                                l5 = l26 + 72ull;
+                                                                                                l3 = e->stack_pointer - 16ull;
+                                                                                                e->stack_pointer = l3;
+                                                                                                u32 v487;
+                                                                                                {
                                                                                                     {
-                                                                                                        {
-                                                                                                            if ((i64)(l4 - e->stack) >= (i64)16ull) {
-                                                                                                                l6 = 4u;
-                                                                                                                const u32 t479 = load8(l1 + 17ull);
-                                                                                                                if (t479) { v476 = 1u; goto L476; }
-                                                                                                                {
-                                                                                                                    const u64 t481 = load64(l1 + 8u);
-                                                                                                                    l2 = t481;
-                                                                                                                    if (l2 == 0) {
-                                                                                                                        const u32 t483 = load8(l1 + 16ull);
-                                                                                                                        if (t483) goto L480;
-                                                                                                                        store8(l1 + 17ull, (u8)1u);
-                                                                                                                        v476 = 1u; goto L476;
-                                                                                                                    }
-                                                                                                                    store64(l1 + 8u, l2 - 1ull);
-                                                                                                                    const u64 t484 = load64(l1);
-                                                                                                                    l2 = t484;
-                                                                                                                    store64(l1, l2 + 1ull);
-                                                                                                                    const u32 t485 = load8(l2);
-                                                                                                                    l6 = t485;
-                                                                                                                    store64(l4 + 8u, 0ull);
-                                                                                                                    store8(l4 + 9u, (u8)l6);
-                                                                                                                    const u32 t486 = load32(l0 + 28ull);
-                                                                                                                    l1 = l0 + 20ull;
-                                                                                                                    const u32 t487 = load32(l1);
-                                                                                                                    l10 = t487;
-                                                                                                                    const u32 t488 = load32(l0 + 16ull);
-                                                                                                                    l11 = l10 + t488;
-                                                                                                                    const u32 t489 = load32(l0 + 24ull);
-                                                                                                                    if (t486 != (l11 + t489)) {
-                                                                                                                        l2 = l0 + 32ull;
-                                                                                                                        const u32 t491 = load32(l2);
-                                                                                                                        l12 = t491;
-                                                                                                                        const u64 t492 = load64(l0);
-                                                                                                                        l0 = t492 + ((u64)l11 << 3);
-                                                                                                                        store8(l0, (u8)0u);
-                                                                                                                        store32(l0 + 4ull, 0u);
-                                                                                                                        store8(l0 + 1ull, (u8)l6);
-                                                                                                                        store32(l1, l10 + 1u);
-                                                                                                                        store32(l2, l12);
-                                                                                                                        goto L477;
-                                                                                                                    }
-                                                                                                                    const u32 t493 = space_space_Space_push_in_way(e, l0, l4 + 8ull);
-                                                                                                                    if (t493) goto L477;
-                                                                                                                    l6 = 0u;
-                                                                                                                    v476 = 0u; goto L476;
+                                                                                                        if ((i64)(l3 - e->stack) >= (i64)16ull) {
+                                                                                                            l11 = 4u;
+                                                                                                            const u32 t490 = load8(l5 + 17ull);
+                                                                                                            if (t490) { v487 = 1u; goto L487; }
+                                                                                                            {
+                                                                                                                const u64 t492 = load64(l5 + 8u);
+                                                                                                                l4 = t492;
+                                                                                                                if (l4 == 0) {
+                                                                                                                    const u32 t494 = load8(l5 + 16ull);
+                                                                                                                    if (t494) goto L491;
+                                                                                                                    store8(l5 + 17ull, (u8)1u);
+                                                                                                                    v487 = 1u; goto L487;
                                                                                                                 }
-                                                                                                                L480:;
-                                                                                                                l1 = l1 + 24ull;
-                                                                                                                const u64 t494 = load64(l1);
-                                                                                                                store64(l1, t494 + 1ull);
-                                                                                                                v476 = 4u; goto L476;
+                                                                                                                store64(l5 + 8u, l4 - 1ull);
+                                                                                                                const u64 t495 = load64(l5);
+                                                                                                                l4 = t495;
+                                                                                                                store64(l5, l4 + 1ull);
+                                                                                                                const u32 t496 = load8(l4);
+                                                                                                                l11 = t496;
+                                                                                                                store64(l3 + 8u, 0ull);
+                                                                                                                store8(l3 + 9u, (u8)l11);
+                                                                                                                const u32 t497 = load32(l0 + 28ull);
+                                                                                                                l5 = l0 + 20ull;
+                                                                                                                const u32 t498 = load32(l5);
+                                                                                                                l10 = t498;
+                                                                                                                const u32 t499 = load32(l0 + 16ull);
+                                                                                                                l13 = l10 + t499;
+                                                                                                                const u32 t500 = load32(l0 + 24ull);
+                                                                                                                if (t497 != (l13 + t500)) {
+                                                                                                                    l4 = l0 + 32ull;
+                                                                                                                    const u32 t502 = load32(l4);
+                                                                                                                    l6 = t502;
+                                                                                                                    const u64 t503 = load64(l0);
+                                                                                                                    l0 = t503 + ((u64)l13 << 3);
+                                                                                                                    store8(l0, (u8)0u);
+                                                                                                                    store32(l0 + 4ull, 0u);
+                                                                                                                    store8(l0 + 1ull, (u8)l11);
+                                                                                                                    store32(l5, l10 + 1u);
+                                                                                                                    store32(l4, l6);
+                                                                                                                    goto L488;
+                                                                                                                }
+                                                                                                                const u32 t504 = space_space_Space_push_in_way(e, l0, l3 + 8ull);
+                                                                                                                if (t504) goto L488;
+                                                                                                                l11 = 0u;
+                                                                                                                v487 = 0u; goto L487;
                                                                                                             }
-                                                                                                            trap();
+                                                                                                            L491:;
+                                                                                                            l5 = l5 + 24ull;
+                                                                                                            const u64 t505 = load64(l5);
+                                                                                                            store64(l5, t505 + 1ull);
+                                                                                                            v487 = 4u; goto L487;
                                                                                                         }
-                                                                                                        L477:;
-                                                                                                        l6 = 1u;
-                                                                                                        v476 = 0u;
+                                                                                                        trap();
                                                                                                     }
-                                                                                                    L476:;
-                                                                                                    l10 = v476;
+                                                                                                    L488:;
+                                                                                                    l11 = 1u;
+                                                                                                    v487 = 0u;
+                                                                                                }
+                                                                                                L487:;
+                                                                                                l10 = v487;
+                                                                                                store8(l1, (u8)l11);
+                                                                                                store32(l1 + 4ull, 0u);
+                                                                                                store8(l1 + 1ull, (u8)l10);
+                                                                                                e->stack_pointer = l3 + 16ull;
+                                                                                                goto L480;
+                                                                                            }
+                                                                                            L484:;
+                                                                                            store16(l44, (u16)0u);
+                                                                                            store8(l44 + 2u, (u8)0u);
+                                                                                            store8(l26 + 180u, (u8)l6);
+                                                                                            store32(l26 + 176u, l13);
+                                                                                            store32(l26 + 172u, l20);
+                                                                                            store32(l26 + 168u, l16);
+                                                                                            l5 = l26 + 184ull;
+                                                                                            l1 = l29;
+                                                                                            l28 = l26 + 168ull;
+                                                                                            l33 = l26 + 32ull;
+                                                                                            l3 = e->stack_pointer - 32ull;
+                                                                                            e->stack_pointer = l3;
+                                                                                            {
+                                                                                                l0 = l3;
+                                                                                                if ((i64)(l0 - e->stack) >= (i64)16ull) {
+                                                                                                    const u64 t508 = load64(l28 + 8u);
+                                                                                                    store64(l0 + 24u, t508);
+                                                                                                    const u64 t509 = load64(l28);
+                                                                                                    store64(l0 + 16u, t509);
+                                                                                                    functions_arguments_Arguments_next(e, l0 + 8ull, l0 + 16ull, l1);
+                                                                                                    l6 = 3u;
+                                                                                                    u32 v510;
+                                                                                                    {
+                                                                                                        const u32 t511 = load32(l0 + 12u);
+                                                                                                        l10 = t511;
+                                                                                                        const u32 t512 = load32(l0 + 8u);
+                                                                                                        l13 = t512;
+                                                                                                        if (l10 == l13) { v510 = 0u; goto L510; }
+                                                                                                        const u64 t513 = load64(l1);
+                                                                                                        const u32 t514 = load32(l1 + 16ull);
+                                                                                                        const u32 t515 = l13;
+                                                                                                        l13 = t514;
+                                                                                                        l30 = (u64)(t515 + l13);
+                                                                                                        l28 = t513 + (l30 << 3);
+                                                                                                        {
+                                                                                                            l4 = (u64)(l10 + l13);
+                                                                                                            l1 = l4 - l30;
+                                                                                                            if (l1 <= 15ull) {
+                                                                                                                {
+                                                                                                                    L519:;
+                                                                                                                    {
+                                                                                                                        l10 = 0u;
+                                                                                                                        const u32 t520 = load8(l28);
+                                                                                                                        if (t520 == 0) {
+                                                                                                                            const u32 t522 = load8(l28 + 1ull);
+                                                                                                                            l10 = t522;
+                                                                                                                        }
+                                                                                                                        {
+                                                                                                                            l3 = l33 + 16ull;
+                                                                                                                            const u64 t524 = load64(l3);
+                                                                                                                            l30 = t524;
+                                                                                                                            const u64 t525 = load64(l33 + 8ull);
+                                                                                                                            if (l30 < t525) {
+                                                                                                                                const u64 t527 = load64(l33);
+                                                                                                                                store8(t527 + l30, (u8)l10);
+                                                                                                                                const u64 t528 = load64(l3);
+                                                                                                                                store64(l3, t528 + 1ull);
+                                                                                                                                goto L523;
+                                                                                                                            }
+                                                                                                                            l3 = l33 + 24ull;
+                                                                                                                            const u32 t529 = load8(l3);
+                                                                                                                            if (t529 == 1u) goto L518;
+                                                                                                                            store8(l33 + 25ull, (u8)l10);
+                                                                                                                            store8(l3, (u8)1u);
+                                                                                                                        }
+                                                                                                                        L523:;
+                                                                                                                        l28 = l28 + 8ull;
+                                                                                                                        l1 = l1 - 1ull;
+                                                                                                                        if ((l1 == 0) == 0) goto L519;
+                                                                                                                    }
+                                                                                                                    v510 = 0u; goto L510;
+                                                                                                                }
+                                                                                                                L518:;
+                                                                                                                l33 = l33 + 32ull;
+                                                                                                                const u64 t530 = load64(l33);
+                                                                                                                store64(l33, t530 + 1ull);
+                                                                                                                goto L516;
+                                                                                                            }
+                                                                                                            l3 = l33 + 16ull;
+                                                                                                            const u64 t531 = load64(l3);
+                                                                                                            const u64 t532 = load64(l33);
+                                                                                                            const u64 t533 = load64(l33 + 8ull);
+                                                                                                            const u64 t534 = c_filling_put_characters(e, l28, l1, t531, t532, t533);
+                                                                                                            l32 = t534;
+                                                                                                            const u64 t535 = load64(l3);
+                                                                                                            const u64 t536 = l3;
+                                                                                                            l3 = l32 + t535;
+                                                                                                            store64(t536, l3);
+                                                                                                            if (l1 == l32) { v510 = 0u; goto L510; }
+                                                                                                            l28 = l28 + (l32 << 3);
+                                                                                                            l1 = (l30 + l32) - l4;
+                                                                                                            {
+                                                                                                                L538:;
+                                                                                                                {
+                                                                                                                    l10 = 0u;
+                                                                                                                    const u32 t539 = load8(l28);
+                                                                                                                    if (t539 == 0) {
+                                                                                                                        const u32 t541 = load8(l28 + 1ull);
+                                                                                                                        l10 = t541;
+                                                                                                                    }
+                                                                                                                    {
+                                                                                                                        const u64 t543 = load64(l33 + 8ull);
+                                                                                                                        if (t543 > l3) {
+                                                                                                                            const u64 t545 = load64(l33);
+                                                                                                                            store8(t545 + l3, (u8)l10);
+                                                                                                                            l3 = l33 + 16ull;
+                                                                                                                            const u64 t546 = load64(l3);
+                                                                                                                            const u64 t547 = l3;
+                                                                                                                            l3 = t546 + 1ull;
+                                                                                                                            store64(t547, l3);
+                                                                                                                            goto L542;
+                                                                                                                        }
+                                                                                                                        l30 = l33 + 24ull;
+                                                                                                                        const u32 t548 = load8(l30);
+                                                                                                                        if (t548 == 1u) goto L537;
+                                                                                                                        store8(l33 + 25ull, (u8)l10);
+                                                                                                                        store8(l30, (u8)1u);
+                                                                                                                    }
+                                                                                                                    L542:;
+                                                                                                                    l28 = l28 + 8ull;
+                                                                                                                    l1 = l1 + 1ull;
+                                                                                                                    if ((l1 == 0) == 0) goto L538;
+                                                                                                                }
+                                                                                                                v510 = 0u; goto L510;
+                                                                                                            }
+                                                                                                            L537:;
+                                                                                                            l33 = l33 + 32ull;
+                                                                                                            const u64 t549 = load64(l33);
+                                                                                                            store64(l33, t549 + 1ull);
+                                                                                                        }
+                                                                                                        L516:;
+                                                                                                        l6 = 4u;
+                                                                                                        v510 = 5u;
+                                                                                                    }
+                                                                                                    L510:;
+                                                                                                    l10 = v510;
                                                                                                     store8(l5, (u8)l6);
                                                                                                     store32(l5 + 4ull, 0u);
                                                                                                     store8(l5 + 1ull, (u8)l10);
-                                                                                                    e->stack_pointer = l4 + 16ull;
-                                                                                                    goto L469;
+                                                                                                    e->stack_pointer = l0 + 32ull;
+                                                                                                    goto L506;
                                                                                                 }
-                                                                                                L473:;
-                                                                                                store16(l43, (u16)0u);
-                                                                                                store8(l43 + 2u, (u8)0u);
-                                                                                                store8(l26 + 180u, (u8)l6);
-                                                                                                store32(l26 + 176u, l10);
-                                                                                                store32(l26 + 172u, l14);
-                                                                                                store32(l26 + 168u, l12);
-                                                                                                l36 = l26 + 184ull;
-                                                                                                l1 = l28;
-                                                                                                l5 = l26 + 168ull;
-                                                                                                l4 = l26 + 32ull;
-                                                                                                l0 = e->stack_pointer - 32ull;
-                                                                                                e->stack_pointer = l0;
-                                                                                                {
-                                                                                                    l2 = l0;
-                                                                                                    if ((i64)(l2 - e->stack) >= (i64)16ull) {
-                                                                                                        const u64 t497 = load64(l5 + 8u);
-                                                                                                        store64(l2 + 24u, t497);
-                                                                                                        const u64 t498 = load64(l5);
-                                                                                                        store64(l2 + 16u, t498);
-                                                                                                        functions_arguments_Arguments_next(e, l2 + 8ull, l2 + 16ull, l1);
-                                                                                                        l11 = 3u;
-                                                                                                        u32 v499;
-                                                                                                        {
-                                                                                                            const u32 t500 = load32(l2 + 12u);
-                                                                                                            l6 = t500;
-                                                                                                            const u32 t501 = load32(l2 + 8u);
-                                                                                                            l10 = t501;
-                                                                                                            if (l6 == l10) { v499 = 0u; goto L499; }
-                                                                                                            const u64 t502 = load64(l1);
-                                                                                                            const u32 t503 = load32(l1 + 16ull);
-                                                                                                            const u32 t504 = l10;
-                                                                                                            l10 = t503;
-                                                                                                            l30 = (u64)(t504 + l10);
-                                                                                                            l5 = t502 + (l30 << 3);
-                                                                                                            {
-                                                                                                                l27 = (u64)(l6 + l10);
-                                                                                                                l1 = l27 - l30;
-                                                                                                                if (l1 <= 15ull) {
-                                                                                                                    {
-                                                                                                                        L508:;
-                                                                                                                        {
-                                                                                                                            l6 = 0u;
-                                                                                                                            const u32 t509 = load8(l5);
-                                                                                                                            if (t509 == 0) {
-                                                                                                                                const u32 t511 = load8(l5 + 1ull);
-                                                                                                                                l6 = t511;
-                                                                                                                            }
-                                                                                                                            {
-                                                                                                                                l0 = l4 + 16ull;
-                                                                                                                                const u64 t513 = load64(l0);
-                                                                                                                                l30 = t513;
-                                                                                                                                const u64 t514 = load64(l4 + 8ull);
-                                                                                                                                if (l30 < t514) {
-                                                                                                                                    const u64 t516 = load64(l4);
-                                                                                                                                    store8(t516 + l30, (u8)l6);
-                                                                                                                                    const u64 t517 = load64(l0);
-                                                                                                                                    store64(l0, t517 + 1ull);
-                                                                                                                                    goto L512;
-                                                                                                                                }
-                                                                                                                                l0 = l4 + 24ull;
-                                                                                                                                const u32 t518 = load8(l0);
-                                                                                                                                if (t518 == 1u) goto L507;
-                                                                                                                                store8(l4 + 25ull, (u8)l6);
-                                                                                                                                store8(l0, (u8)1u);
-                                                                                                                            }
-                                                                                                                            L512:;
-                                                                                                                            l5 = l5 + 8ull;
-                                                                                                                            l1 = l1 - 1ull;
-                                                                                                                            if ((l1 == 0) == 0) goto L508;
-                                                                                                                        }
-                                                                                                                        v499 = 0u; goto L499;
-                                                                                                                    }
-                                                                                                                    L507:;
-                                                                                                                    l4 = l4 + 32ull;
-                                                                                                                    const u64 t519 = load64(l4);
-                                                                                                                    store64(l4, t519 + 1ull);
-                                                                                                                    goto L505;
-                                                                                                                }
-                                                                                                                l0 = l4 + 16ull;
-                                                                                                                const u64 t520 = load64(l0);
-                                                                                                                const u64 t521 = load64(l4);
-                                                                                                                const u64 t522 = load64(l4 + 8ull);
-                                                                                                                const u64 t523 = c_filling_put_characters(e, l5, l1, t520, t521, t522);
-                                                                                                                l33 = t523;
-                                                                                                                const u64 t524 = load64(l0);
-                                                                                                                const u64 t525 = l0;
-                                                                                                                l0 = l33 + t524;
-                                                                                                                store64(t525, l0);
-                                                                                                                if (l1 == l33) { v499 = 0u; goto L499; }
-                                                                                                                l5 = l5 + (l33 << 3);
-                                                                                                                l1 = (l30 + l33) - l27;
-                                                                                                                {
-                                                                                                                    L527:;
-                                                                                                                    {
-                                                                                                                        l6 = 0u;
-                                                                                                                        const u32 t528 = load8(l5);
-                                                                                                                        if (t528 == 0) {
-                                                                                                                            const u32 t530 = load8(l5 + 1ull);
-                                                                                                                            l6 = t530;
-                                                                                                                        }
-                                                                                                                        {
-                                                                                                                            const u64 t532 = load64(l4 + 8ull);
-                                                                                                                            if (t532 > l0) {
-                                                                                                                                const u64 t534 = load64(l4);
-                                                                                                                                store8(t534 + l0, (u8)l6);
-                                                                                                                                l0 = l4 + 16ull;
-                                                                                                                                const u64 t535 = load64(l0);
-                                                                                                                                const u64 t536 = l0;
-                                                                                                                                l0 = t535 + 1ull;
-                                                                                                                                store64(t536, l0);
-                                                                                                                                goto L531;
-                                                                                                                            }
-                                                                                                                            l30 = l4 + 24ull;
-                                                                                                                            const u32 t537 = load8(l30);
-                                                                                                                            if (t537 == 1u) goto L526;
-                                                                                                                            store8(l4 + 25ull, (u8)l6);
-                                                                                                                            store8(l30, (u8)1u);
-                                                                                                                        }
-                                                                                                                        L531:;
-                                                                                                                        l5 = l5 + 8ull;
-                                                                                                                        l1 = l1 + 1ull;
-                                                                                                                        if ((l1 == 0) == 0) goto L527;
-                                                                                                                    }
-                                                                                                                    v499 = 0u; goto L499;
-                                                                                                                }
-                                                                                                                L526:;
-                                                                                                                l4 = l4 + 32ull;
-                                                                                                                const u64 t538 = load64(l4);
-                                                                                                                store64(l4, t538 + 1ull);
-                                                                                                            }
-                                                                                                            L505:;
-                                                                                                            l11 = 4u;
-                                                                                                            v499 = 5u;
-                                                                                                        }
-                                                                                                        L499:;
-                                                                                                        l6 = v499;
-                                                                                                        store8(l36, (u8)l11);
-                                                                                                        store32(l36 + 4ull, 0u);
-                                                                                                        store8(l36 + 1ull, (u8)l6);
-                                                                                                        e->stack_pointer = l2 + 32ull;
-                                                                                                        goto L495;
-                                                                                                    }
-                                                                                                    trap();
-                                                                                                }
-                                                                                                L495:;
-                                                                                                goto L469;
+                                                                                                trap();
                                                                                             }
-                                                                                            L472:;
-                                                                                            store16(l44, (u16)0u);
-                                                                                            store8(l44 + 2u, (u8)0u);
-                                                                                            store8(l26 + 164u, (u8)l6);
-                                                                                            store32(l26 + 160u, l10);
-                                                                                            store32(l26 + 156u, l14);
-                                                                                            store32(l26 + 152u, l12);
-                                                                                            l33 = l26 + 184ull;
-                                                                                            l0 = l28;
-                                                                                            l4 = l26 + 152ull;
-                                                                                            l5 = l26 + 32ull;
-                                                                                            l1 = e->stack_pointer - 80ull;
-                                                                                            e->stack_pointer = l1;
-                                                                                            u32 v539;
+                                                                                            L506:;
+                                                                                            goto L480;
+                                                                                        }
+                                                                                        L483:;
+                                                                                        store16(l45, (u16)0u);
+                                                                                        store8(l45 + 2u, (u8)0u);
+                                                                                        store8(l26 + 164u, (u8)l6);
+                                                                                        store32(l26 + 160u, l13);
+                                                                                        store32(l26 + 156u, l20);
+                                                                                        store32(l26 + 152u, l16);
+                                                                                        l4 = l26 + 184ull;
+                                                                                        l0 = l29;
+                                                                                        l30 = l26 + 152ull;
+                                                                                        l32 = l26 + 32ull;
+                                                                                        l33 = e->stack_pointer - 80ull;
+                                                                                        e->stack_pointer = l33;
+                                                                                        u32 v550;
+                                                                                        {
                                                                                             {
                                                                                                 {
                                                                                                     {
                                                                                                         {
                                                                                                             {
-                                                                                                                {
-                                                                                                                    if ((i64)(l1 - e->stack) >= (i64)16ull) {
-                                                                                                                        const u64 t546 = load64(l4 + 8u);
-                                                                                                                        store64(l1 + 32u, t546);
-                                                                                                                        const u64 t547 = load64(l4);
-                                                                                                                        store64(l1 + 24u, t547);
-                                                                                                                        functions_arguments_Arguments_next(e, l1 + 16ull, l1 + 24ull, l0);
-                                                                                                                        const u32 t548 = load32(l1 + 20u);
-                                                                                                                        l10 = t548;
-                                                                                                                        const u32 t549 = load32(l1 + 16u);
-                                                                                                                        l6 = t549;
-                                                                                                                        store64(l1 + 72u, 0ull);
-                                                                                                                        store64(l1 + 64u, 0ull);
-                                                                                                                        store64(l1 + 56u, 0ull);
-                                                                                                                        store64(l1 + 48u, 0ull);
-                                                                                                                        store64(l1 + 40u, 0ull);
-                                                                                                                        u32 v550;
-                                                                                                                        {
-                                                                                                                            const u32 t551 = load32(l0 + 40ull);
-                                                                                                                            l11 = t551;
-                                                                                                                            if (l11 >= 8u) {
-                                                                                                                                forms_work_Work_find_among_more(e, l1, l0, l6, l10);
-                                                                                                                                const u32 t553 = load32(l1 + 4u);
-                                                                                                                                l6 = t553;
-                                                                                                                                const u32 t554 = load8(l1);
-                                                                                                                                v550 = t554; goto L550;
-                                                                                                                            }
-                                                                                                                            {
-                                                                                                                                if (l11 == 0) goto L555;
-                                                                                                                                const u64 t556 = load64(l0);
-                                                                                                                                l30 = t556;
-                                                                                                                                const u64 t557 = load32(l30 + 4ull);
-                                                                                                                                const u32 t558 = load32(l0 + 16ull);
-                                                                                                                                l11 = t558;
-                                                                                                                                l4 = (u64)(l11 + l10);
-                                                                                                                                l2 = (u64)(l6 + l11);
-                                                                                                                                if (t557 != (l4 - l2)) goto L555;
-                                                                                                                                l36 = 17ull - (l2 << 3);
-                                                                                                                                l2 = (l4 ^ 18446744073709551615ull) + l2;
-                                                                                                                                l4 = l30 + (l4 << 3);
-                                                                                                                                L559:;
-                                                                                                                                {
-                                                                                                                                    l2 = l2 + 1ull;
-                                                                                                                                    if (l2 == 0) goto L544;
-                                                                                                                                    l30 = l4 - 7ull;
-                                                                                                                                    l27 = l4 + l36;
-                                                                                                                                    l4 = l4 - 8ull;
-                                                                                                                                    const u32 t560 = load8(l27);
-                                                                                                                                    const u32 t561 = load8(l30);
-                                                                                                                                    if (t560 == t561) goto L559;
-                                                                                                                                }
-                                                                                                                            }
-                                                                                                                            L555:;
-                                                                                                                            forms_work_Work_find_among_few(e, l1 + 8ull, l0, l6, l10);
-                                                                                                                            const u32 t562 = load32(l1 + 12u);
-                                                                                                                            l6 = t562;
-                                                                                                                            const u32 t563 = load8(l1 + 8u);
-                                                                                                                            v550 = t563;
+                                                                                                                if ((i64)(l33 - e->stack) >= (i64)16ull) {
+                                                                                                                    const u64 t557 = load64(l30 + 8u);
+                                                                                                                    store64(l33 + 32u, t557);
+                                                                                                                    const u64 t558 = load64(l30);
+                                                                                                                    store64(l33 + 24u, t558);
+                                                                                                                    functions_arguments_Arguments_next(e, l33 + 16ull, l33 + 24ull, l0);
+                                                                                                                    const u32 t559 = load32(l33 + 20u);
+                                                                                                                    l13 = t559;
+                                                                                                                    const u32 t560 = load32(l33 + 16u);
+                                                                                                                    l10 = t560;
+                                                                                                                    store64(l33 + 72u, 0ull);
+                                                                                                                    store64(l33 + 64u, 0ull);
+                                                                                                                    store64(l33 + 56u, 0ull);
+                                                                                                                    store64(l33 + 48u, 0ull);
+                                                                                                                    store64(l33 + 40u, 0ull);
+                                                                                                                    u32 v561;
+                                                                                                                    {
+                                                                                                                        const u32 t562 = load32(l0 + 40ull);
+                                                                                                                        l6 = t562;
+                                                                                                                        if (l6 >= 8u) {
+                                                                                                                            forms_work_Work_find_among_more(e, l33, l0, l10, l13);
+                                                                                                                            const u32 t564 = load32(l33 + 4u);
+                                                                                                                            l10 = t564;
+                                                                                                                            const u32 t565 = load8(l33);
+                                                                                                                            v561 = t565; goto L561;
                                                                                                                         }
-                                                                                                                        L550:;
-                                                                                                                        if ((v550 & 255u) != 1u) goto L542;
-                                                                                                                        goto L543;
+                                                                                                                        {
+                                                                                                                            if (l6 == 0) goto L566;
+                                                                                                                            const u64 t567 = load64(l0);
+                                                                                                                            l5 = t567;
+                                                                                                                            const u64 t568 = load32(l5 + 4ull);
+                                                                                                                            const u32 t569 = load32(l0 + 16ull);
+                                                                                                                            l6 = t569;
+                                                                                                                            l30 = (u64)(l6 + l13);
+                                                                                                                            l28 = (u64)(l6 + l10);
+                                                                                                                            if (t568 != (l30 - l28)) goto L566;
+                                                                                                                            l3 = 17ull - (l28 << 3);
+                                                                                                                            l28 = (l30 ^ 18446744073709551615ull) + l28;
+                                                                                                                            l30 = l5 + (l30 << 3);
+                                                                                                                            L570:;
+                                                                                                                            {
+                                                                                                                                l28 = l28 + 1ull;
+                                                                                                                                if (l28 == 0) goto L555;
+                                                                                                                                l5 = l30 - 7ull;
+                                                                                                                                l1 = l3 + l30;
+                                                                                                                                l30 = l30 - 8ull;
+                                                                                                                                const u32 t571 = load8(l1);
+                                                                                                                                const u32 t572 = load8(l5);
+                                                                                                                                if (t571 == t572) goto L570;
+                                                                                                                            }
+                                                                                                                        }
+                                                                                                                        L566:;
+                                                                                                                        forms_work_Work_find_among_few(e, l33 + 8ull, l0, l10, l13);
+                                                                                                                        const u32 t573 = load32(l33 + 12u);
+                                                                                                                        l10 = t573;
+                                                                                                                        const u32 t574 = load8(l33 + 8u);
+                                                                                                                        v561 = t574;
                                                                                                                     }
-                                                                                                                    trap();
+                                                                                                                    L561:;
+                                                                                                                    if ((v561 & 255u) != 1u) goto L553;
+                                                                                                                    goto L554;
                                                                                                                 }
-                                                                                                                L544:;
-                                                                                                                store64(l0 + 44ull, 0ull);
-                                                                                                                l6 = 0u;
+                                                                                                                trap();
                                                                                                             }
-                                                                                                            L543:;
-                                                                                                            forms_work_Work_stored(e, l1 + 40ull, l0, l6);
-                                                                                                            const u64 t564 = load64(l1 + 64u);
-                                                                                                            l4 = t564;
-                                                                                                            const u32 t565 = load32(l1 + 72u);
-                                                                                                            l10 = t565;
-                                                                                                            const u32 t566 = core_display_show_items2(e, l1 + 40ull, 0u, l10, l5);
-                                                                                                            if (t566 & 255u) goto L540;
-                                                                                                            l0 = l5 + 16ull;
-                                                                                                            const u64 t567 = load64(l0);
-                                                                                                            l2 = t567;
-                                                                                                            l30 = l5 + 8ull;
-                                                                                                            const u64 t568 = load64(l30);
-                                                                                                            if (l2 >= t568) {
-                                                                                                                l4 = l5 + 24ull;
-                                                                                                                const u32 t570 = load8(l4);
-                                                                                                                if (t570 == 1u) goto L541;
-                                                                                                                store16(l4, (u16)15361u);
-                                                                                                                goto L541;
-                                                                                                            }
-                                                                                                            const u64 t571 = load64(l5);
-                                                                                                            store8(t571 + l2, (u8)60u);
-                                                                                                            const u64 t572 = load64(l0);
-                                                                                                            l2 = t572 + 1ull;
-                                                                                                            store64(l0, l2);
-                                                                                                            {
-                                                                                                                const u64 t574 = load64(l30);
-                                                                                                                l0 = t574;
-                                                                                                                if (l0 <= l2) {
-                                                                                                                    l30 = l5 + 24ull;
-                                                                                                                    const u32 t576 = load8(l30);
-                                                                                                                    if (t576 == 1u) goto L541;
-                                                                                                                    store16(l30, (u16)24065u);
-                                                                                                                    goto L573;
-                                                                                                                }
-                                                                                                                const u64 t577 = load64(l5);
-                                                                                                                store8(t577 + l2, (u8)94u);
-                                                                                                                l2 = l5 + 16ull;
-                                                                                                                const u64 t578 = load64(l2);
-                                                                                                                const u64 t579 = l2;
-                                                                                                                l2 = t578 + 1ull;
-                                                                                                                store64(t579, l2);
-                                                                                                                const u64 t580 = load64(l5 + 8ull);
-                                                                                                                l0 = t580;
-                                                                                                            }
-                                                                                                            L573:;
-                                                                                                            {
-                                                                                                                if (l0 <= l2) {
-                                                                                                                    l2 = l5 + 24ull;
-                                                                                                                    const u32 t583 = load8(l2);
-                                                                                                                    if (t583 == 1u) goto L541;
-                                                                                                                    store16(l2, (u16)15873u);
-                                                                                                                    goto L581;
-                                                                                                                }
-                                                                                                                const u64 t584 = load64(l5);
-                                                                                                                store8(t584 + l2, (u8)62u);
-                                                                                                                l2 = l5 + 16ull;
-                                                                                                                const u64 t585 = load64(l2);
-                                                                                                                store64(l2, t585 + 1ull);
-                                                                                                            }
-                                                                                                            L581:;
-                                                                                                            const u32 t586 = core_display_show_items2(e, l1 + 40ull, l10, (u32)l4, l5);
-                                                                                                            if (t586 & 255u) goto L540;
+                                                                                                            L555:;
+                                                                                                            store64(l0 + 44ull, 0ull);
+                                                                                                            l10 = 0u;
                                                                                                         }
-                                                                                                        L542:;
-                                                                                                        l6 = 3u;
-                                                                                                        v539 = 0u; goto L539;
+                                                                                                        L554:;
+                                                                                                        forms_work_Work_stored(e, l33 + 40ull, l0, l10);
+                                                                                                        const u64 t575 = load64(l33 + 64u);
+                                                                                                        l30 = t575;
+                                                                                                        const u32 t576 = load32(l33 + 72u);
+                                                                                                        l13 = t576;
+                                                                                                        const u32 t577 = core_display_show_items2(e, l33 + 40ull, 0u, l13, l32);
+                                                                                                        if (t577 & 255u) goto L551;
+                                                                                                        l0 = l32 + 16ull;
+                                                                                                        const u64 t578 = load64(l0);
+                                                                                                        l28 = t578;
+                                                                                                        l5 = l32 + 8ull;
+                                                                                                        const u64 t579 = load64(l5);
+                                                                                                        if (l28 >= t579) {
+                                                                                                            l30 = l32 + 24ull;
+                                                                                                            const u32 t581 = load8(l30);
+                                                                                                            if (t581 == 1u) goto L552;
+                                                                                                            store16(l30, (u16)15361u);
+                                                                                                            goto L552;
+                                                                                                        }
+                                                                                                        const u64 t582 = load64(l32);
+                                                                                                        store8(t582 + l28, (u8)60u);
+                                                                                                        const u64 t583 = load64(l0);
+                                                                                                        l28 = t583 + 1ull;
+                                                                                                        store64(l0, l28);
+                                                                                                        {
+                                                                                                            const u64 t585 = load64(l5);
+                                                                                                            l0 = t585;
+                                                                                                            if (l0 <= l28) {
+                                                                                                                l5 = l32 + 24ull;
+                                                                                                                const u32 t587 = load8(l5);
+                                                                                                                if (t587 == 1u) goto L552;
+                                                                                                                store16(l5, (u16)24065u);
+                                                                                                                goto L584;
+                                                                                                            }
+                                                                                                            const u64 t588 = load64(l32);
+                                                                                                            store8(t588 + l28, (u8)94u);
+                                                                                                            l28 = l32 + 16ull;
+                                                                                                            const u64 t589 = load64(l28);
+                                                                                                            const u64 t590 = l28;
+                                                                                                            l28 = t589 + 1ull;
+                                                                                                            store64(t590, l28);
+                                                                                                            const u64 t591 = load64(l32 + 8ull);
+                                                                                                            l0 = t591;
+                                                                                                        }
+                                                                                                        L584:;
+                                                                                                        {
+                                                                                                            if (l0 <= l28) {
+                                                                                                                l28 = l32 + 24ull;
+                                                                                                                const u32 t594 = load8(l28);
+                                                                                                                if (t594 == 1u) goto L552;
+                                                                                                                store16(l28, (u16)15873u);
+                                                                                                                goto L592;
+                                                                                                            }
+                                                                                                            const u64 t595 = load64(l32);
+                                                                                                            store8(t595 + l28, (u8)62u);
+                                                                                                            l28 = l32 + 16ull;
+                                                                                                            const u64 t596 = load64(l28);
+                                                                                                            store64(l28, t596 + 1ull);
+                                                                                                        }
+                                                                                                        L592:;
+                                                                                                        const u32 t597 = core_display_show_items2(e, l33 + 40ull, l13, (u32)l30, l32);
+                                                                                                        if (t597 & 255u) goto L551;
                                                                                                     }
-                                                                                                    L541:;
-                                                                                                    l4 = l5 + 32ull;
-                                                                                                    const u64 t587 = load64(l4);
-                                                                                                    store64(l4, t587 + 1ull);
+                                                                                                    L553:;
+                                                                                                    l10 = 3u;
+                                                                                                    v550 = 0u; goto L550;
                                                                                                 }
-                                                                                                L540:;
-                                                                                                l6 = 4u;
-                                                                                                v539 = 5u;
+                                                                                                L552:;
+                                                                                                l30 = l32 + 32ull;
+                                                                                                const u64 t598 = load64(l30);
+                                                                                                store64(l30, t598 + 1ull);
                                                                                             }
-                                                                                            L539:;
-                                                                                            l10 = v539;
-                                                                                            store8(l33, (u8)l6);
-                                                                                            store32(l33 + 4ull, 0u);
-                                                                                            store8(l33 + 1ull, (u8)l10);
-                                                                                            e->stack_pointer = l1 + 80ull;
-                                                                                            goto L469;
+                                                                                            L551:;
+                                                                                            l10 = 4u;
+                                                                                            v550 = 5u;
                                                                                         }
-                                                                                        L471:;
-                                                                                        const u32 t588 = load8(l26 + 130u);
-                                                                                        l13 = t588;
-                                                                                        l15 = 0u;
-                                                                                        store16(l45, (u16)0u);
-                                                                                        store8(l45 + 2u, (u8)0u);
-                                                                                        store8(l26 + 116u, (u8)l6);
-                                                                                        store32(l26 + 112u, l10);
-                                                                                        store32(l26 + 108u, l14);
-                                                                                        store32(l26 + 104u, l12);
-                                                                                        store64(l26 + 192u, 0ull);
+                                                                                        L550:;
+                                                                                        l13 = v550;
+                                                                                        store8(l4, (u8)l10);
+                                                                                        store32(l4 + 4ull, 0u);
+                                                                                        store8(l4 + 1ull, (u8)l13);
+                                                                                        e->stack_pointer = l33 + 80ull;
+                                                                                        goto L480;
+                                                                                    }
+                                                                                    L482:;
+                                                                                    const u32 t599 = load8(l26 + 130u);
+                                                                                    l18 = t599;
+                                                                                    l17 = 0u;
+                                                                                    store16(l46, (u16)0u);
+                                                                                    store8(l46 + 2u, (u8)0u);
+                                                                                    store8(l26 + 116u, (u8)l6);
+                                                                                    store32(l26 + 112u, l13);
+                                                                                    store32(l26 + 108u, l20);
+                                                                                    store32(l26 + 104u, l16);
+                                                                                    store64(l26 + 192u, 0ull);
+                                                                                    {
+                                                                                        if ((l12 - 5u) < 20u) goto L600;
+                                                                                        l13 = 0u;
                                                                                         {
-                                                                                            if ((l11 - 5u) < 20u) goto L589;
-                                                                                            l10 = 0u;
-                                                                                            {
-                                                                                                switch (l11 - 3u) {
-                                                                                                case 0: goto L589;
-                                                                                                case 1: goto L411;
-                                                                                                default: goto L590;
-                                                                                                }
+                                                                                            switch (l12 - 3u) {
+                                                                                            case 0: goto L600;
+                                                                                            case 1: goto L412;
+                                                                                            default: goto L601;
                                                                                             }
-                                                                                            L590:;
-                                                                                            l2 = l26 + 192ull;
-                                                                                            l1 = l26 + 104ull;
-                                                                                            l0 = e->stack_pointer - 32ull;
-                                                                                            e->stack_pointer = l0;
-                                                                                            {
-                                                                                                if ((i64)(l0 - e->stack) >= (i64)16ull) {
-                                                                                                    const u64 t593 = load64(l1 + 8u);
-                                                                                                    store64(l0 + 24u, t593);
-                                                                                                    const u64 t594 = load64(l1);
-                                                                                                    store64(l0 + 16u, t594);
-                                                                                                    functions_arguments_Arguments_next(e, l0 + 8ull, l0 + 16ull, l28);
-                                                                                                    const u32 t595 = load32(l0 + 8u);
-                                                                                                    l6 = t595;
-                                                                                                    const u32 t596 = load32(l0 + 12u);
-                                                                                                    if (l6 != t596) {
-                                                                                                        const u64 t598 = load64(l28);
-                                                                                                        const u32 t599 = load32(l28 + 16ull);
-                                                                                                        l1 = t598 + ((u64)(t599 + l6) << 3);
-                                                                                                        const u32 t600 = load8(l1);
-                                                                                                        const u64 t601 = l40;
-                                                                                                        u32 v602;
-                                                                                                        if (t600) {
-                                                                                                            v602 = 0u;
-                                                                                                        } else {
-                                                                                                            const u32 t603 = load8(l1 + 1ull);
-                                                                                                            v602 = t603;
-                                                                                                        }
-                                                                                                        store8(t601, (u8)v602);
-                                                                                                    }
-                                                                                                    store16(l2, (u16)3u);
-                                                                                                    store32(l2 + 4ull, 0u);
-                                                                                                    e->stack_pointer = l0 + 32ull;
-                                                                                                    goto L591;
-                                                                                                }
-                                                                                                trap();
-                                                                                            }
-                                                                                            L591:;
-                                                                                            const u32 t604 = load32(l26 + 196u);
-                                                                                            l15 = t604;
-                                                                                            const u32 t605 = load8(l26 + 193u);
-                                                                                            l10 = t605;
-                                                                                            const u32 t606 = load8(l26 + 192u);
-                                                                                            l11 = t606;
-                                                                                            goto L411;
                                                                                         }
-                                                                                        L589:;
-                                                                                        store64(l26 + 200u, 0ull);
+                                                                                        L601:;
+                                                                                        l0 = l26 + 192ull;
+                                                                                        l1 = l26 + 104ull;
+                                                                                        l3 = e->stack_pointer - 32ull;
+                                                                                        e->stack_pointer = l3;
+                                                                                        {
+                                                                                            if ((i64)(l3 - e->stack) >= (i64)16ull) {
+                                                                                                const u64 t604 = load64(l1 + 8u);
+                                                                                                store64(l3 + 24u, t604);
+                                                                                                const u64 t605 = load64(l1);
+                                                                                                store64(l3 + 16u, t605);
+                                                                                                functions_arguments_Arguments_next(e, l3 + 8ull, l3 + 16ull, l29);
+                                                                                                const u32 t606 = load32(l3 + 8u);
+                                                                                                l6 = t606;
+                                                                                                const u32 t607 = load32(l3 + 12u);
+                                                                                                if (l6 != t607) {
+                                                                                                    const u64 t609 = load64(l29);
+                                                                                                    const u32 t610 = load32(l29 + 16ull);
+                                                                                                    l1 = t609 + ((u64)(t610 + l6) << 3);
+                                                                                                    const u32 t611 = load8(l1);
+                                                                                                    const u64 t612 = l41;
+                                                                                                    u32 v613;
+                                                                                                    if (t611) {
+                                                                                                        v613 = 0u;
+                                                                                                    } else {
+                                                                                                        const u32 t614 = load8(l1 + 1ull);
+                                                                                                        v613 = t614;
+                                                                                                    }
+                                                                                                    store8(t612, (u8)v613);
+                                                                                                }
+                                                                                                store16(l0, (u16)3u);
+                                                                                                store32(l0 + 4ull, 0u);
+                                                                                                e->stack_pointer = l3 + 32ull;
+                                                                                                goto L602;
+                                                                                            }
+                                                                                            trap();
+                                                                                        }
+                                                                                        L602:;
+                                                                                        const u32 t615 = load32(l26 + 196u);
+                                                                                        l17 = t615;
+                                                                                        const u32 t616 = load8(l26 + 193u);
+                                                                                        l13 = t616;
+                                                                                        const u32 t617 = load8(l26 + 192u);
+                                                                                        l12 = t617;
+                                                                                        goto L412;
+                                                                                    }
+                                                                                    L600:;
+                                                                                    store64(l26 + 200u, 0ull);
+                                                                                    {
                                                                                         {
                                                                                             {
                                                                                                 {
@@ -21360,684 +21393,663 @@ static void engine_turn(struct engine *e, u64 l0, u64 l1, u64 l2, u64 l3, u64 l4
                                                                                                                                                         {
                                                                                                                                                             {
                                                                                                                                                                 {
-                                                                                                                                                                    {
-                                                                                                                                                                        switch (l11 - 5u) {
-                                                                                                                                                                        case 0: goto L613;
-                                                                                                                                                                        case 1: goto L612;
-                                                                                                                                                                        case 2: goto L610;
-                                                                                                                                                                        case 3: goto L609;
-                                                                                                                                                                        case 4: goto L608;
-                                                                                                                                                                        case 6: goto L611;
-                                                                                                                                                                        case 7: goto L618;
-                                                                                                                                                                        case 8: goto L617;
-                                                                                                                                                                        case 9: goto L616;
-                                                                                                                                                                        case 10: goto L615;
-                                                                                                                                                                        case 11: goto L614;
-                                                                                                                                                                        case 12: goto L626;
-                                                                                                                                                                        case 13: goto L625;
-                                                                                                                                                                        case 14: goto L624;
-                                                                                                                                                                        case 15: goto L623;
-                                                                                                                                                                        case 16: goto L622;
-                                                                                                                                                                        case 17: goto L621;
-                                                                                                                                                                        case 18: goto L620;
-                                                                                                                                                                        case 19: goto L619;
-                                                                                                                                                                        default: goto L607;
-                                                                                                                                                                        }
+                                                                                                                                                                    switch (l12 - 5u) {
+                                                                                                                                                                    case 0: goto L624;
+                                                                                                                                                                    case 1: goto L623;
+                                                                                                                                                                    case 2: goto L621;
+                                                                                                                                                                    case 3: goto L620;
+                                                                                                                                                                    case 4: goto L619;
+                                                                                                                                                                    case 6: goto L622;
+                                                                                                                                                                    case 7: goto L629;
+                                                                                                                                                                    case 8: goto L628;
+                                                                                                                                                                    case 9: goto L627;
+                                                                                                                                                                    case 10: goto L626;
+                                                                                                                                                                    case 11: goto L625;
+                                                                                                                                                                    case 12: goto L637;
+                                                                                                                                                                    case 13: goto L636;
+                                                                                                                                                                    case 14: goto L635;
+                                                                                                                                                                    case 15: goto L634;
+                                                                                                                                                                    case 16: goto L633;
+                                                                                                                                                                    case 17: goto L632;
+                                                                                                                                                                    case 18: goto L631;
+                                                                                                                                                                    case 19: goto L630;
+                                                                                                                                                                    default: goto L618;
                                                                                                                                                                     }
-                                                                                                                                                                    L626:;
-                                                                                                                                                                    functions_comparing_equal(e, l26 + 200ull, l28, l26 + 104ull);
-                                                                                                                                                                    goto L412;
                                                                                                                                                                 }
-                                                                                                                                                                L625:;
-                                                                                                                                                                functions_comparing_greater(e, l26 + 200ull, l28, l26 + 104ull);
-                                                                                                                                                                goto L412;
-                                                                                                                                                            }
-                                                                                                                                                            L624:;
-                                                                                                                                                            functions_arithmetic_arithmetic(e, l26 + 200ull, l28, l13, l26 + 104ull);
-                                                                                                                                                            goto L412;
-                                                                                                                                                        }
-                                                                                                                                                        L623:;
-                                                                                                                                                        functions_bit_strings_union(e, l26 + 200ull, l28, l26 + 104ull);
-                                                                                                                                                        goto L412;
-                                                                                                                                                    }
-                                                                                                                                                    L622:;
-                                                                                                                                                    functions_bit_strings_intersection(e, l26 + 200ull, l28, l26 + 104ull);
-                                                                                                                                                    goto L412;
-                                                                                                                                                }
-                                                                                                                                                L621:;
-                                                                                                                                                l4 = l26 + 200ull;
-                                                                                                                                                l2 = l26 + 104ull;
-                                                                                                                                                l1 = e->stack_pointer - 64ull;
-                                                                                                                                                e->stack_pointer = l1;
-                                                                                                                                                {
-                                                                                                                                                    l0 = l1;
-                                                                                                                                                    if ((i64)(l0 - e->stack) >= (i64)16ull) {
-                                                                                                                                                        store64(l0 + 32u, 0ull);
-                                                                                                                                                        store64(l0 + 56u, 0ull);
-                                                                                                                                                        const u64 t629 = load64(l2);
-                                                                                                                                                        store64(l0 + 40u, t629);
-                                                                                                                                                        const u64 t630 = load64(l2 + 8u);
-                                                                                                                                                        store64(l0 + 48u, t630);
-                                                                                                                                                        functions_arguments_Arguments_next(e, l0 + 8ull, l0 + 40ull, l28);
-                                                                                                                                                        const u32 t631 = load32(l28 + 16ull);
-                                                                                                                                                        l10 = t631;
-                                                                                                                                                        const u32 t632 = load32(l0 + 8u);
-                                                                                                                                                        l12 = t632;
-                                                                                                                                                        const u32 t633 = load32(l0 + 12u);
-                                                                                                                                                        l11 = t633;
-                                                                                                                                                        l2 = (u64)(l10 + l11);
-                                                                                                                                                        l1 = (u64)(l10 + l12) - l2;
-                                                                                                                                                        const u64 t634 = load64(l28);
-                                                                                                                                                        l2 = (t634 + (l2 << 3)) - 8ull;
-                                                                                                                                                        l6 = l11;
-                                                                                                                                                        L635:;
-                                                                                                                                                        {
-                                                                                                                                                            {
-                                                                                                                                                                l10 = l6;
-                                                                                                                                                                if (l1 == 0) goto L636;
-                                                                                                                                                                const u32 t637 = load8(l2);
-                                                                                                                                                                if (t637) goto L636;
-                                                                                                                                                                l1 = l1 + 1ull;
-                                                                                                                                                                l6 = l10 - 1u;
-                                                                                                                                                                l5 = l2 + 1ull;
-                                                                                                                                                                l2 = l2 - 8ull;
-                                                                                                                                                                const u32 t638 = load8(l5);
-                                                                                                                                                                if ((t638 & 248u) == 48u) goto L635;
+                                                                                                                                                                L637:;
+                                                                                                                                                                functions_comparing_equal(e, l26 + 200ull, l29, l26 + 104ull);
+                                                                                                                                                                goto L413;
                                                                                                                                                             }
                                                                                                                                                             L636:;
+                                                                                                                                                            functions_comparing_greater(e, l26 + 200ull, l29, l26 + 104ull);
+                                                                                                                                                            goto L413;
                                                                                                                                                         }
-                                                                                                                                                        store32(l0 + 28u, l11);
-                                                                                                                                                        store32(l0 + 24u, l10);
-                                                                                                                                                        store32(l0 + 20u, 2u);
-                                                                                                                                                        functions_bit_strings_give_bits(e, l0 + 56ull, l28, l12, l10, l0 + 20ull);
-                                                                                                                                                        const u32 t639 = load16(l0 + 56u);
-                                                                                                                                                        store16(l4, (u16)t639);
-                                                                                                                                                        const u32 t640 = load32(l0 + 60u);
-                                                                                                                                                        store32(l4 + 4ull, t640);
-                                                                                                                                                        e->stack_pointer = l0 + 64ull;
-                                                                                                                                                        goto L627;
+                                                                                                                                                        L635:;
+                                                                                                                                                        functions_arithmetic_arithmetic(e, l26 + 200ull, l29, l18, l26 + 104ull);
+                                                                                                                                                        goto L413;
                                                                                                                                                     }
-                                                                                                                                                    trap();
+                                                                                                                                                    L634:;
+                                                                                                                                                    functions_bit_strings_union(e, l26 + 200ull, l29, l26 + 104ull);
+                                                                                                                                                    goto L413;
                                                                                                                                                 }
-                                                                                                                                                L627:;
-                                                                                                                                                goto L412;
+                                                                                                                                                L633:;
+                                                                                                                                                functions_bit_strings_intersection(e, l26 + 200ull, l29, l26 + 104ull);
+                                                                                                                                                goto L413;
                                                                                                                                             }
-                                                                                                                                            L620:;
-                                                                                                                                            functions_bit_strings_shift(e, l26 + 200ull, l28, l26 + 104ull);
-                                                                                                                                            goto L412;
+                                                                                                                                            L632:;
+                                                                                                                                            l4 = l26 + 200ull;
+                                                                                                                                            l5 = l26 + 104ull;
+                                                                                                                                            l0 = e->stack_pointer - 64ull;
+                                                                                                                                            e->stack_pointer = l0;
+                                                                                                                                            {
+                                                                                                                                                l1 = l0;
+                                                                                                                                                if ((i64)(l1 - e->stack) >= (i64)16ull) {
+                                                                                                                                                    store64(l1 + 32u, 0ull);
+                                                                                                                                                    store64(l1 + 56u, 0ull);
+                                                                                                                                                    const u64 t640 = load64(l5);
+                                                                                                                                                    store64(l1 + 40u, t640);
+                                                                                                                                                    const u64 t641 = load64(l5 + 8u);
+                                                                                                                                                    store64(l1 + 48u, t641);
+                                                                                                                                                    functions_arguments_Arguments_next(e, l1 + 8ull, l1 + 40ull, l29);
+                                                                                                                                                    const u32 t642 = load32(l29 + 16ull);
+                                                                                                                                                    l10 = t642;
+                                                                                                                                                    const u32 t643 = load32(l1 + 8u);
+                                                                                                                                                    l11 = t643;
+                                                                                                                                                    const u32 t644 = load32(l1 + 12u);
+                                                                                                                                                    l13 = t644;
+                                                                                                                                                    l5 = (u64)(l10 + l13);
+                                                                                                                                                    l0 = (u64)(l10 + l11) - l5;
+                                                                                                                                                    const u64 t645 = load64(l29);
+                                                                                                                                                    l5 = (t645 + (l5 << 3)) - 8ull;
+                                                                                                                                                    l6 = l13;
+                                                                                                                                                    L646:;
+                                                                                                                                                    {
+                                                                                                                                                        {
+                                                                                                                                                            l10 = l6;
+                                                                                                                                                            if (l0 == 0) goto L647;
+                                                                                                                                                            const u32 t648 = load8(l5);
+                                                                                                                                                            if (t648) goto L647;
+                                                                                                                                                            l0 = l0 + 1ull;
+                                                                                                                                                            l6 = l10 - 1u;
+                                                                                                                                                            l3 = l5 + 1ull;
+                                                                                                                                                            l5 = l5 - 8ull;
+                                                                                                                                                            const u32 t649 = load8(l3);
+                                                                                                                                                            if ((t649 & 248u) == 48u) goto L646;
+                                                                                                                                                        }
+                                                                                                                                                        L647:;
+                                                                                                                                                    }
+                                                                                                                                                    store32(l1 + 28u, l13);
+                                                                                                                                                    store32(l1 + 24u, l10);
+                                                                                                                                                    store32(l1 + 20u, 2u);
+                                                                                                                                                    functions_bit_strings_give_bits(e, l1 + 56ull, l29, l11, l10, l1 + 20ull);
+                                                                                                                                                    const u32 t650 = load16(l1 + 56u);
+                                                                                                                                                    store16(l4, (u16)t650);
+                                                                                                                                                    const u32 t651 = load32(l1 + 60u);
+                                                                                                                                                    store32(l4 + 4ull, t651);
+                                                                                                                                                    e->stack_pointer = l1 + 64ull;
+                                                                                                                                                    goto L638;
+                                                                                                                                                }
+                                                                                                                                                trap();
+                                                                                                                                            }
+                                                                                                                                            L638:;
+                                                                                                                                            goto L413;
                                                                                                                                         }
-                                                                                                                                        L619:;
-                                                                                                                                        functions_bit_strings_rotate(e, l26 + 200ull, l28, l26 + 104ull);
-                                                                                                                                        goto L412;
+                                                                                                                                        L631:;
+                                                                                                                                        functions_bit_strings_shift(e, l26 + 200ull, l29, l26 + 104ull);
+                                                                                                                                        goto L413;
                                                                                                                                     }
-                                                                                                                                    L618:;
-                                                                                                                                    functions_form_parts_call_segment(e, l26 + 200ull, l28, l26 + 104ull);
-                                                                                                                                    goto L412;
+                                                                                                                                    L630:;
+                                                                                                                                    functions_bit_strings_rotate(e, l26 + 200ull, l29, l26 + 104ull);
+                                                                                                                                    goto L413;
                                                                                                                                 }
-                                                                                                                                L617:;
-                                                                                                                                functions_form_parts_call_character(e, l26 + 200ull, l28, l26 + 104ull);
-                                                                                                                                goto L412;
+                                                                                                                                L629:;
+                                                                                                                                functions_form_parts_call_segment(e, l26 + 200ull, l29, l26 + 104ull);
+                                                                                                                                goto L413;
                                                                                                                             }
-                                                                                                                            L616:;
-                                                                                                                            functions_form_parts_call_number(e, l26 + 200ull, l28, l26 + 104ull);
-                                                                                                                            goto L412;
+                                                                                                                            L628:;
+                                                                                                                            functions_form_parts_call_character(e, l26 + 200ull, l29, l26 + 104ull);
+                                                                                                                            goto L413;
                                                                                                                         }
-                                                                                                                        L615:;
-                                                                                                                        functions_form_parts_initial_part(e, l26 + 200ull, l28, l26 + 104ull);
-                                                                                                                        goto L412;
+                                                                                                                        L627:;
+                                                                                                                        functions_form_parts_call_number(e, l26 + 200ull, l29, l26 + 104ull);
+                                                                                                                        goto L413;
                                                                                                                     }
-                                                                                                                    L614:;
-                                                                                                                    functions_form_parts_call_restore(e, l26 + 200ull, l28, l26 + 104ull);
-                                                                                                                    goto L412;
+                                                                                                                    L626:;
+                                                                                                                    functions_form_parts_initial_part(e, l26 + 200ull, l29, l26 + 104ull);
+                                                                                                                    goto L413;
                                                                                                                 }
-                                                                                                                L613:;
-                                                                                                                functions_form_calls_define_string(e, l26 + 200ull, l28, l26 + 104ull);
-                                                                                                                goto L412;
+                                                                                                                L625:;
+                                                                                                                functions_form_parts_call_restore(e, l26 + 200ull, l29, l26 + 104ull);
+                                                                                                                goto L413;
                                                                                                             }
-                                                                                                            L612:;
-                                                                                                            functions_form_calls_segment_string(e, l26 + 200ull, l28, l26 + 104ull);
-                                                                                                            goto L412;
+                                                                                                            L624:;
+                                                                                                            functions_form_calls_define_string(e, l26 + 200ull, l29, l26 + 104ull);
+                                                                                                            goto L413;
                                                                                                         }
-                                                                                                        L611:;
-                                                                                                        const u64 t641 = load64(l26 + 112u);
-                                                                                                        store64(l26 + 136u, t641);
-                                                                                                        const u64 t642 = load64(l26 + 104u);
-                                                                                                        store64(l26 + 128u, t642);
-                                                                                                        const u32 t643 = load8(l26 + 140u);
-                                                                                                        l11 = t643;
-                                                                                                        functions_arguments_Arguments_next(e, l26 + 24ull, l26 + 128ull, l28);
-                                                                                                        const u32 t644 = load32(l26 + 28u);
-                                                                                                        l6 = t644;
-                                                                                                        const u32 t645 = load32(l26 + 24u);
-                                                                                                        l15 = t645;
-                                                                                                        u32 v646;
-                                                                                                        {
-                                                                                                            const u32 t647 = load32(l28 + 40ull);
-                                                                                                            l10 = t647;
-                                                                                                            if (l10 >= 8u) {
-                                                                                                                forms_work_Work_find_among_more(e, l26 + 8ull, l28, l15, l6);
-                                                                                                                const u32 t649 = load32(l26 + 12u);
-                                                                                                                l15 = t649;
-                                                                                                                const u32 t650 = load8(l26 + 8u);
-                                                                                                                v646 = t650; goto L646;
-                                                                                                            }
-                                                                                                            {
-                                                                                                                if (l10 == 0) goto L651;
-                                                                                                                const u64 t652 = load32(l4 + 4ull);
-                                                                                                                l30 = (u64)(l6 + l8);
-                                                                                                                l5 = (u64)(l8 + l15);
-                                                                                                                if (t652 != (l30 - l5)) goto L651;
-                                                                                                                l1 = 17ull - (l5 << 3);
-                                                                                                                l5 = (l30 ^ 18446744073709551615ull) + l5;
-                                                                                                                l4 = l4 + (l30 << 3);
-                                                                                                                L653:;
-                                                                                                                {
-                                                                                                                    l5 = l5 + 1ull;
-                                                                                                                    if (l5 == 0) goto L415;
-                                                                                                                    l30 = l4 - 7ull;
-                                                                                                                    l2 = l1 + l4;
-                                                                                                                    l4 = l4 - 8ull;
-                                                                                                                    const u32 t654 = load8(l2);
-                                                                                                                    const u32 t655 = load8(l30);
-                                                                                                                    if (t654 == t655) goto L653;
-                                                                                                                }
-                                                                                                            }
-                                                                                                            L651:;
-                                                                                                            forms_work_Work_find_among_few(e, l26 + 16ull, l28, l15, l6);
-                                                                                                            const u32 t656 = load32(l26 + 20u);
-                                                                                                            l15 = t656;
-                                                                                                            const u32 t657 = load8(l26 + 16u);
-                                                                                                            v646 = t657;
-                                                                                                        }
-                                                                                                        L646:;
-                                                                                                        if ((v646 & 255u) != 1u) goto L414;
+                                                                                                        L623:;
+                                                                                                        functions_form_calls_segment_string(e, l26 + 200ull, l29, l26 + 104ull);
                                                                                                         goto L413;
                                                                                                     }
-                                                                                                    L610:;
-                                                                                                    functions_form_calls_delete_definition(e, l26 + 200ull, l28, l26 + 104ull);
-                                                                                                    goto L412;
+                                                                                                    L622:;
+                                                                                                    const u64 t652 = load64(l26 + 112u);
+                                                                                                    store64(l26 + 136u, t652);
+                                                                                                    const u64 t653 = load64(l26 + 104u);
+                                                                                                    store64(l26 + 128u, t653);
+                                                                                                    const u32 t654 = load8(l26 + 140u);
+                                                                                                    l12 = t654;
+                                                                                                    functions_arguments_Arguments_next(e, l26 + 24ull, l26 + 128ull, l29);
+                                                                                                    const u32 t655 = load32(l26 + 28u);
+                                                                                                    l6 = t655;
+                                                                                                    const u32 t656 = load32(l26 + 24u);
+                                                                                                    l17 = t656;
+                                                                                                    u32 v657;
+                                                                                                    {
+                                                                                                        const u32 t658 = load32(l29 + 40ull);
+                                                                                                        l13 = t658;
+                                                                                                        if (l13 >= 8u) {
+                                                                                                            forms_work_Work_find_among_more(e, l26 + 8ull, l29, l17, l6);
+                                                                                                            const u32 t660 = load32(l26 + 12u);
+                                                                                                            l17 = t660;
+                                                                                                            const u32 t661 = load8(l26 + 8u);
+                                                                                                            v657 = t661; goto L657;
+                                                                                                        }
+                                                                                                        {
+                                                                                                            if (l13 == 0) goto L662;
+                                                                                                            const u64 t663 = load32(l4 + 4ull);
+                                                                                                            l30 = (u64)(l6 + l8);
+                                                                                                            l5 = (u64)(l8 + l17);
+                                                                                                            if (t663 != (l30 - l5)) goto L662;
+                                                                                                            l1 = 17ull - (l5 << 3);
+                                                                                                            l5 = (l30 ^ 18446744073709551615ull) + l5;
+                                                                                                            l4 = l4 + (l30 << 3);
+                                                                                                            L664:;
+                                                                                                            {
+                                                                                                                l5 = l5 + 1ull;
+                                                                                                                if (l5 == 0) goto L416;
+                                                                                                                l30 = l4 - 7ull;
+                                                                                                                l3 = l1 + l4;
+                                                                                                                l4 = l4 - 8ull;
+                                                                                                                const u32 t665 = load8(l3);
+                                                                                                                const u32 t666 = load8(l30);
+                                                                                                                if (t665 == t666) goto L664;
+                                                                                                            }
+                                                                                                        }
+                                                                                                        L662:;
+                                                                                                        forms_work_Work_find_among_few(e, l26 + 16ull, l29, l17, l6);
+                                                                                                        const u32 t667 = load32(l26 + 20u);
+                                                                                                        l17 = t667;
+                                                                                                        const u32 t668 = load8(l26 + 16u);
+                                                                                                        v657 = t668;
+                                                                                                    }
+                                                                                                    L657:;
+                                                                                                    if ((v657 & 255u) != 1u) goto L415;
+                                                                                                    goto L414;
                                                                                                 }
-                                                                                                L609:;
-                                                                                                functions_form_calls_delete_all(e, l26 + 200ull, l28);
-                                                                                                goto L412;
+                                                                                                L621:;
+                                                                                                functions_form_calls_delete_definition(e, l26 + 200ull, l29, l26 + 104ull);
+                                                                                                goto L413;
                                                                                             }
-                                                                                            L608:;
-                                                                                            functions_form_calls_list_names(e, l26 + 200ull, l28, l26 + 104ull);
-                                                                                            goto L412;
+                                                                                            L620:;
+                                                                                            functions_form_calls_delete_all(e, l26 + 200ull, l29);
+                                                                                            goto L413;
                                                                                         }
-                                                                                        L607:;
-                                                                                        store8(l26 + 200u, (u8)1u);
-                                                                                        goto L412;
+                                                                                        L619:;
+                                                                                        functions_form_calls_list_names(e, l26 + 200ull, l29, l26 + 104ull);
+                                                                                        goto L413;
                                                                                     }
-                                                                                    L470:;
-                                                                                    l5 = l26 + 184ull;
-                                                                                    l0 = l28;
-                                                                                    const u32 t658 = load8(l28 + 56ull);
-                                                                                    l10 = t658;
-                                                                                    l1 = l26 + 72ull;
-                                                                                    l4 = e->stack_pointer - 16ull;
-                                                                                    e->stack_pointer = l4;
-                                                                                    {
-                                                                                        if ((i64)(l4 - e->stack) >= (i64)16ull) {
-                                                                                            l33 = l0 + 20ull;
-                                                                                            const u32 t661 = load32(l33);
-                                                                                            l11 = t661;
-                                                                                            devices_slice_source_SliceSourceSource_take_held(e, l1, l10, l0);
-                                                                                            const u64 t662 = l5;
-                                                                                            u32 v663;
+                                                                                    L618:;
+                                                                                    store8(l26 + 200u, (u8)1u);
+                                                                                    goto L413;
+                                                                                }
+                                                                                L481:;
+                                                                                l5 = l26 + 184ull;
+                                                                                l0 = l29;
+                                                                                const u32 t669 = load8(l29 + 56ull);
+                                                                                l22 = t669;
+                                                                                l28 = l26 + 72ull;
+                                                                                l32 = e->stack_pointer - 16ull;
+                                                                                e->stack_pointer = l32;
+                                                                                {
+                                                                                    if ((i64)(l32 - e->stack) >= (i64)16ull) {
+                                                                                        l3 = l0 + 20ull;
+                                                                                        const u32 t672 = load32(l3);
+                                                                                        l11 = t672;
+                                                                                        devices_slice_source_SliceSourceSource_take_held(e, l28, l22, l0);
+                                                                                        const u64 t673 = l5;
+                                                                                        u32 v674;
+                                                                                        {
                                                                                             {
                                                                                                 {
+                                                                                                    const u32 t677 = load8(l28 + 17ull);
+                                                                                                    if (t677) goto L676;
+                                                                                                    L678:;
                                                                                                     {
-                                                                                                        const u32 t666 = load8(l1 + 17ull);
-                                                                                                        if (t666) goto L665;
-                                                                                                        L667:;
-                                                                                                        {
-                                                                                                            const u64 t668 = load64(l1 + 8u);
-                                                                                                            l2 = t668;
-                                                                                                            if (l2 == 0) {
-                                                                                                                const u32 t670 = load8(l1 + 16ull);
-                                                                                                                if (t670) goto L664;
-                                                                                                                store8(l1 + 17ull, (u8)1u);
-                                                                                                                goto L665;
-                                                                                                            }
-                                                                                                            store64(l1 + 8u, l2 - 1ull);
-                                                                                                            const u64 t671 = load64(l1);
-                                                                                                            l2 = t671;
-                                                                                                            store64(l1, l2 + 1ull);
-                                                                                                            const u32 t672 = load8(l2);
-                                                                                                            l6 = t672;
-                                                                                                            if (l6 == l10) {
-                                                                                                                l6 = 0u;
-                                                                                                                v663 = 1u; goto L663;
-                                                                                                            }
-                                                                                                            store64(l4 + 8u, 0ull);
-                                                                                                            store8(l4 + 9u, (u8)l6);
-                                                                                                            {
-                                                                                                                const u32 t675 = load32(l0 + 28ull);
-                                                                                                                l2 = l0 + 20ull;
-                                                                                                                const u32 t676 = load32(l2);
-                                                                                                                l12 = t676;
-                                                                                                                const u32 t677 = load32(l0 + 16ull);
-                                                                                                                l15 = l12 + t677;
-                                                                                                                const u32 t678 = load32(l0 + 24ull);
-                                                                                                                if (t675 == (l15 + t678)) {
-                                                                                                                    const u32 t680 = space_space_Space_push_in_way(e, l0, l4 + 8ull);
-                                                                                                                    if (t680) goto L674;
-                                                                                                                    l6 = 0u;
-                                                                                                                    v663 = 0u; goto L663;
-                                                                                                                }
-                                                                                                                l36 = l0 + 32ull;
-                                                                                                                const u32 t681 = load32(l36);
-                                                                                                                l13 = t681;
-                                                                                                                const u64 t682 = load64(l0);
-                                                                                                                l30 = t682 + ((u64)l15 << 3);
-                                                                                                                store8(l30, (u8)0u);
-                                                                                                                store32(l30 + 4ull, 0u);
-                                                                                                                store8(l30 + 1ull, (u8)l6);
-                                                                                                                store32(l2, l12 + 1u);
-                                                                                                                store32(l36, l13);
-                                                                                                            }
-                                                                                                            L674:;
-                                                                                                            devices_slice_source_SliceSourceSource_take_held(e, l1, l10, l0);
-                                                                                                            const u32 t683 = load8(l1 + 17ull);
-                                                                                                            if (t683 == 0) goto L667;
+                                                                                                        const u64 t679 = load64(l28 + 8u);
+                                                                                                        l30 = t679;
+                                                                                                        if (l30 == 0) {
+                                                                                                            const u32 t681 = load8(l28 + 16ull);
+                                                                                                            if (t681) goto L675;
+                                                                                                            store8(l28 + 17ull, (u8)1u);
+                                                                                                            goto L676;
                                                                                                         }
+                                                                                                        store64(l28 + 8u, l30 - 1ull);
+                                                                                                        const u64 t682 = load64(l28);
+                                                                                                        l30 = t682;
+                                                                                                        store64(l28, l30 + 1ull);
+                                                                                                        const u32 t683 = load8(l30);
+                                                                                                        l19 = t683;
+                                                                                                        if (l19 == l22) {
+                                                                                                            l19 = 0u;
+                                                                                                            v674 = 1u; goto L674;
+                                                                                                        }
+                                                                                                        store64(l32 + 8u, 0ull);
+                                                                                                        store8(l32 + 9u, (u8)l19);
+                                                                                                        {
+                                                                                                            const u32 t686 = load32(l0 + 28ull);
+                                                                                                            l30 = l0 + 20ull;
+                                                                                                            const u32 t687 = load32(l30);
+                                                                                                            l10 = t687;
+                                                                                                            const u32 t688 = load32(l0 + 16ull);
+                                                                                                            l13 = l10 + t688;
+                                                                                                            const u32 t689 = load32(l0 + 24ull);
+                                                                                                            if (t686 == (l13 + t689)) {
+                                                                                                                const u32 t691 = space_space_Space_push_in_way(e, l0, l32 + 8ull);
+                                                                                                                if (t691) goto L685;
+                                                                                                                l19 = 0u;
+                                                                                                                v674 = 0u; goto L674;
+                                                                                                            }
+                                                                                                            l1 = l0 + 32ull;
+                                                                                                            const u32 t692 = load32(l1);
+                                                                                                            l6 = t692;
+                                                                                                            const u64 t693 = load64(l0);
+                                                                                                            l4 = t693 + ((u64)l13 << 3);
+                                                                                                            store8(l4, (u8)0u);
+                                                                                                            store32(l4 + 4ull, 0u);
+                                                                                                            store8(l4 + 1ull, (u8)l19);
+                                                                                                            store32(l30, l10 + 1u);
+                                                                                                            store32(l1, l6);
+                                                                                                        }
+                                                                                                        L685:;
+                                                                                                        devices_slice_source_SliceSourceSource_take_held(e, l28, l22, l0);
+                                                                                                        const u32 t694 = load8(l28 + 17ull);
+                                                                                                        if (t694 == 0) goto L678;
                                                                                                     }
-                                                                                                    L665:;
-                                                                                                    const u32 t684 = load32(l33);
-                                                                                                    l6 = t684 == l11;
-                                                                                                    v663 = l6 ? 4u : 1u; goto L663;
                                                                                                 }
-                                                                                                L664:;
-                                                                                                l0 = l1 + 24ull;
-                                                                                                const u64 t685 = load64(l0);
-                                                                                                store64(l0, t685 + 1ull);
-                                                                                                l6 = 4u;
-                                                                                                v663 = 4u;
+                                                                                                L676:;
+                                                                                                const u32 t695 = load32(l3);
+                                                                                                l19 = t695 == l11;
+                                                                                                v674 = l19 ? 4u : 1u; goto L674;
                                                                                             }
-                                                                                            L663:;
-                                                                                            store8(t662, (u8)v663);
-                                                                                            store32(l5 + 4ull, 0u);
-                                                                                            store8(l5 + 1ull, (u8)l6);
-                                                                                            e->stack_pointer = l4 + 16ull;
-                                                                                            goto L659;
+                                                                                            L675:;
+                                                                                            l0 = l28 + 24ull;
+                                                                                            const u64 t696 = load64(l0);
+                                                                                            store64(l0, t696 + 1ull);
+                                                                                            l19 = 4u;
+                                                                                            v674 = 4u;
                                                                                         }
-                                                                                        trap();
+                                                                                        L674:;
+                                                                                        store8(t673, (u8)v674);
+                                                                                        store32(l5 + 4ull, 0u);
+                                                                                        store8(l5 + 1ull, (u8)l19);
+                                                                                        e->stack_pointer = l32 + 16ull;
+                                                                                        goto L670;
                                                                                     }
-                                                                                    L659:;
+                                                                                    trap();
                                                                                 }
-                                                                                L469:;
-                                                                                const u32 t686 = load32(l26 + 188u);
-                                                                                l15 = t686;
-                                                                                const u32 t687 = load8(l26 + 185u);
-                                                                                l10 = t687;
-                                                                                const u32 t688 = load8(l26 + 184u);
-                                                                                l11 = t688;
-                                                                                goto L411;
+                                                                                L670:;
                                                                             }
-                                                                            L465:;
-                                                                            l15 = 0u;
-                                                                            goto L410;
+                                                                            L480:;
+                                                                            const u32 t697 = load32(l26 + 188u);
+                                                                            l17 = t697;
+                                                                            const u32 t698 = load8(l26 + 185u);
+                                                                            l13 = t698;
+                                                                            const u32 t699 = load8(l26 + 184u);
+                                                                            l12 = t699;
+                                                                            goto L412;
                                                                         }
-                                                                        l4 = l28 + 72ull;
-                                                                        const u64 t689 = load64(l4);
-                                                                        store64(l4, t689 + 1ull);
-                                                                        l4 = l28 + 80ull;
-                                                                        l8 = (l9 + l14) + l8;
-                                                                        const u32 t690 = load32(l4);
-                                                                        l9 = t690;
-                                                                        store32(l4, (l8 > l9) ? l8 : l9);
-                                                                        v405 = 0u; goto L405;
+                                                                        L476:;
+                                                                        l17 = 0u;
+                                                                        goto L411;
                                                                     }
-                                                                    L418:;
-                                                                    l23 = 8u;
-                                                                    if ((l8 & 255u) == 1u) goto L3;
-                                                                    const u64 t691 = load64(l28 + 72ull);
-                                                                    const u64 t692 = load64(l28 + 64ull);
-                                                                    if (t691 == t692) goto L3;
-                                                                    const u32 t693 = load32(l28 + 24ull);
-                                                                    l8 = t693;
-                                                                    if (l8 == 0) goto L3;
-                                                                    const u64 t694 = load64(l28);
-                                                                    const u32 t695 = load32(l28 + 28ull);
-                                                                    const u32 t696 = load8((t694 + ((u64)(t695 - l8) << 3)) + 1ull);
-                                                                    if (t696 != 41u) goto L3;
-                                                                    const u32 t697 = load32(l28 + 32ull);
-                                                                    l8 = t697;
-                                                                    if (l8 == 0) goto L3;
-                                                                    const u32 t698 = core_machine_printing_call_len(e, l28, l8 - 1u);
-                                                                    l48 = (u64)t698;
-                                                                    goto L3;
+                                                                    l4 = l29 + 72ull;
+                                                                    const u64 t700 = load64(l4);
+                                                                    store64(l4, t700 + 1ull);
+                                                                    l4 = l29 + 80ull;
+                                                                    l8 = (l9 + l20) + l8;
+                                                                    const u32 t701 = load32(l4);
+                                                                    l9 = t701;
+                                                                    store32(l4, (l8 > l9) ? l8 : l9);
+                                                                    v406 = 0u; goto L406;
                                                                 }
-                                                                L416:;
-                                                                const u32 t699 = load8(l28 + 85ull);
-                                                                l6 = t699;
-                                                                v405 = 1u; goto L405;
+                                                                L417:;
+                                                                const u32 t702 = load8(l29 + 85ull);
+                                                                l6 = t702;
+                                                                v406 = 1u; goto L406;
                                                             }
-                                                            L415:;
-                                                            store64(l28 + 44ull, 0ull);
-                                                            l15 = 0u;
-                                                            goto L413;
+                                                            L416:;
+                                                            store64(l29 + 44ull, 0ull);
+                                                            l17 = 0u;
+                                                            goto L414;
                                                         }
-                                                        L414:;
+                                                        L415:;
                                                         store32(l26 + 204u, 0u);
                                                         store16(l26 + 200u, (u16)1u);
-                                                        goto L412;
+                                                        goto L413;
                                                     }
-                                                    L413:;
-                                                    const u32 t700 = load32(l26 + 132u);
-                                                    l6 = t700;
-                                                    const u32 t701 = load32(l26 + 128u);
-                                                    l10 = t701;
+                                                    L414:;
+                                                    const u32 t703 = load32(l26 + 132u);
+                                                    l6 = t703;
+                                                    const u32 t704 = load32(l26 + 128u);
+                                                    l13 = t704;
                                                     {
-                                                        if ((l11 & 1u) == 0) goto L702;
-                                                        if (l6 >= l10) goto L702;
-                                                        const u32 t703 = load32(l28 + 44ull);
-                                                        const u32 t704 = load32(l28 + 48ull);
-                                                        const u32 t705 = store_store_place_of(e, l28, t703, t704, l15);
-                                                        l11 = t705;
-                                                        l12 = 0u;
-                                                        const u64 t706 = load64(l28);
-                                                        l30 = t706;
-                                                        l4 = l30 + ((u64)l11 << 3);
-                                                        const u32 t707 = load32(l4 + 12ull);
-                                                        l16 = t707;
-                                                        const u32 t708 = load32(l4 + 20ull);
-                                                        l13 = t708;
-                                                        if (l16 != l13) {
-                                                            const u32 t710 = load32(l4 + 4ull);
-                                                            l22 = (l11 + t710) + 3u;
-                                                            l12 = l22 + l13;
-                                                            u32 v711;
+                                                        if ((l12 & 1u) == 0) goto L705;
+                                                        if (l6 >= l13) goto L705;
+                                                        const u32 t706 = load32(l29 + 44ull);
+                                                        const u32 t707 = load32(l29 + 48ull);
+                                                        const u32 t708 = store_store_place_of(e, l29, t706, t707, l17);
+                                                        l12 = t708;
+                                                        l16 = 0u;
+                                                        const u64 t709 = load64(l29);
+                                                        l30 = t709;
+                                                        l4 = l30 + ((u64)l12 << 3);
+                                                        const u32 t710 = load32(l4 + 12ull);
+                                                        l19 = t710;
+                                                        const u32 t711 = load32(l4 + 20ull);
+                                                        l18 = t711;
+                                                        if (l19 != l18) {
+                                                            const u32 t713 = load32(l4 + 4ull);
+                                                            l10 = (l12 + t713) + 3u;
+                                                            l16 = l10 + l18;
+                                                            u32 v714;
                                                             {
-                                                                l11 = l16 - l13;
-                                                                const u32 t712 = load32(l28 + 28ull);
-                                                                l17 = t712;
-                                                                const u32 t713 = load32(l28 + 20ull);
-                                                                const u32 t714 = load32(l28 + 24ull);
-                                                                l18 = t714;
-                                                                const u32 t715 = load32(l28 + 16ull);
-                                                                if (l11 > (l17 - (t713 + (l18 + t715)))) {
-                                                                    store_fill_load_items_in_way(e, l26, l28, l12, l16 + l22);
-                                                                    const u32 t717 = load8(l26);
-                                                                    l13 = t717;
-                                                                    const u32 t718 = load32(l26 + 4u);
-                                                                    v711 = t718; goto L711;
+                                                                l12 = l19 - l18;
+                                                                const u32 t715 = load32(l29 + 28ull);
+                                                                l22 = t715;
+                                                                const u32 t716 = load32(l29 + 20ull);
+                                                                const u32 t717 = load32(l29 + 24ull);
+                                                                l11 = t717;
+                                                                const u32 t718 = load32(l29 + 16ull);
+                                                                if (l12 > (l22 - (t716 + (l11 + t718)))) {
+                                                                    store_fill_load_items_in_way(e, l26, l29, l16, l10 + l19);
+                                                                    const u32 t720 = load8(l26);
+                                                                    l18 = t720;
+                                                                    const u32 t721 = load32(l26 + 4u);
+                                                                    v714 = t721; goto L714;
                                                                 }
-                                                                l0 = (u64)l11;
-                                                                l2 = (u64)l12;
+                                                                l0 = (u64)l12;
+                                                                l3 = (u64)l16;
                                                                 {
                                                                     {
                                                                         {
                                                                             {
                                                                                 {
                                                                                     {
-                                                                                        if (l11 >= 8u) {
-                                                                                            if (l11 == 8u) goto L723;
-                                                                                            l4 = l30 + (l2 << 3);
+                                                                                        if (l12 >= 8u) {
+                                                                                            if (l12 == 8u) goto L726;
+                                                                                            l4 = l30 + (l3 << 3);
                                                                                             l5 = l0;
-                                                                                            goto L724;
+                                                                                            goto L727;
                                                                                         }
-                                                                                        if (l11 >= 4u) {
-                                                                                            l13 = 0u;
-                                                                                            l4 = l30 + (l2 << 3);
-                                                                                            const u32 t727 = load8(l4 + 24ull);
-                                                                                            const u32 t728 = load8(l4 + 16ull);
-                                                                                            const u32 t729 = load8(l4 + 8ull);
-                                                                                            const u32 t730 = load8(l4);
-                                                                                            if (((t727 + t728) | (t729 + t730)) & 255u) { v711 = 0u; goto L711; }
-                                                                                            l1 = l0 + l2;
+                                                                                        if (l12 >= 4u) {
+                                                                                            l18 = 0u;
+                                                                                            l4 = l30 + (l3 << 3);
+                                                                                            const u32 t730 = load8(l4 + 24ull);
+                                                                                            const u32 t731 = load8(l4 + 16ull);
+                                                                                            const u32 t732 = load8(l4 + 8ull);
+                                                                                            const u32 t733 = load8(l4);
+                                                                                            if (((t730 + t731) | (t732 + t733)) & 255u) { v714 = 0u; goto L714; }
+                                                                                            l1 = l0 + l3;
                                                                                             l5 = l30 + (l1 << 3);
-                                                                                            const u32 t731 = load8(l5 - 8ull);
-                                                                                            const u32 t732 = load8(l5 - 16ull);
-                                                                                            const u32 t733 = load8(l5 - 24ull);
-                                                                                            const u32 t734 = load8(l5 - 32ull);
-                                                                                            if (((t731 + t732) | (t733 + t734)) & 255u) { v711 = 0u; goto L711; }
-                                                                                            l12 = l11 + l18;
-                                                                                            l5 = (u64)(l17 - l12);
+                                                                                            const u32 t734 = load8(l5 - 8ull);
+                                                                                            const u32 t735 = load8(l5 - 16ull);
+                                                                                            const u32 t736 = load8(l5 - 24ull);
+                                                                                            const u32 t737 = load8(l5 - 32ull);
+                                                                                            if (((t734 + t735) | (t736 + t737)) & 255u) { v714 = 0u; goto L714; }
+                                                                                            l16 = l11 + l12;
+                                                                                            l5 = (u64)(l22 - l16);
                                                                                             core_slice_edits_slice_T_copy_from_slice(e, l30 + (l5 << 3), l4, 4ull);
                                                                                             l4 = l1 - 4ull;
-                                                                                            core_slice_edits_slice_T_copy_from_slice(e, l30 + ((l4 + (l5 - l2)) << 3), l30 + (l4 << 3), 4ull);
-                                                                                            goto L720;
-                                                                                        }
-                                                                                        l4 = l30 + (l2 << 3);
-                                                                                        const u32 t735 = load8(l4);
-                                                                                        l16 = t735;
-                                                                                        if (l11 < 2u) goto L722;
-                                                                                        l13 = 0u;
-                                                                                        const u32 t736 = load8(l4 + 8ull);
-                                                                                        if (t736 | (l16 & 255u)) { v711 = 0u; goto L711; }
-                                                                                        l1 = l0 + l2;
-                                                                                        l5 = l30 + (l1 << 3);
-                                                                                        const u32 t737 = load8(l5 - 8ull);
-                                                                                        const u32 t738 = load8(l5 - 16ull);
-                                                                                        if (t737 | t738) { v711 = 0u; goto L711; }
-                                                                                        l12 = l11 + l18;
-                                                                                        l5 = (u64)(l17 - l12);
-                                                                                        core_slice_edits_slice_T_copy_from_slice(e, l30 + (l5 << 3), l4, 2ull);
-                                                                                        l4 = l1 - 2ull;
-                                                                                        core_slice_edits_slice_T_copy_from_slice(e, l30 + ((l4 + (l5 - l2)) << 3), l30 + (l4 << 3), 2ull);
-                                                                                        goto L720;
-                                                                                    }
-                                                                                    L724:;
-                                                                                    L739:;
-                                                                                    {
-                                                                                        const u32 t740 = load8(l4 + 56ull);
-                                                                                        const u32 t741 = load8(l4 + 48ull);
-                                                                                        const u32 t742 = load8(l4 + 40ull);
-                                                                                        const u32 t743 = load8(l4 + 32ull);
-                                                                                        const u32 t744 = load8(l4 + 24ull);
-                                                                                        const u32 t745 = load8(l4 + 16ull);
-                                                                                        const u32 t746 = load8(l4 + 8ull);
-                                                                                        const u32 t747 = load8(l4);
-                                                                                        if ((t740 | ((t741 + (t742 + (t743 + (t744 + (t745 + (t746 + t747)))))) & 255u)) == 0) {
-                                                                                            l4 = l4 + 64ull;
-                                                                                            l5 = l5 - 8ull;
-                                                                                            if (l5 >= 9ull) goto L739;
+                                                                                            core_slice_edits_slice_T_copy_from_slice(e, l30 + ((l4 + (l5 - l3)) << 3), l30 + (l4 << 3), 4ull);
                                                                                             goto L723;
                                                                                         }
+                                                                                        l4 = l30 + (l3 << 3);
+                                                                                        const u32 t738 = load8(l4);
+                                                                                        l19 = t738;
+                                                                                        if (l12 < 2u) goto L725;
+                                                                                        l18 = 0u;
+                                                                                        const u32 t739 = load8(l4 + 8ull);
+                                                                                        if (t739 | (l19 & 255u)) { v714 = 0u; goto L714; }
+                                                                                        l1 = l0 + l3;
+                                                                                        l5 = l30 + (l1 << 3);
+                                                                                        const u32 t740 = load8(l5 - 8ull);
+                                                                                        const u32 t741 = load8(l5 - 16ull);
+                                                                                        if (t740 | t741) { v714 = 0u; goto L714; }
+                                                                                        l16 = l11 + l12;
+                                                                                        l5 = (u64)(l22 - l16);
+                                                                                        core_slice_edits_slice_T_copy_from_slice(e, l30 + (l5 << 3), l4, 2ull);
+                                                                                        l4 = l1 - 2ull;
+                                                                                        core_slice_edits_slice_T_copy_from_slice(e, l30 + ((l4 + (l5 - l3)) << 3), l30 + (l4 << 3), 2ull);
+                                                                                        goto L723;
                                                                                     }
-                                                                                    l13 = 0u;
-                                                                                    v711 = 0u; goto L711;
+                                                                                    L727:;
+                                                                                    L742:;
+                                                                                    {
+                                                                                        const u32 t743 = load8(l4 + 56ull);
+                                                                                        const u32 t744 = load8(l4 + 48ull);
+                                                                                        const u32 t745 = load8(l4 + 40ull);
+                                                                                        const u32 t746 = load8(l4 + 32ull);
+                                                                                        const u32 t747 = load8(l4 + 24ull);
+                                                                                        const u32 t748 = load8(l4 + 16ull);
+                                                                                        const u32 t749 = load8(l4 + 8ull);
+                                                                                        const u32 t750 = load8(l4);
+                                                                                        if ((t743 | ((t744 + (t745 + (t746 + (t747 + (t748 + (t749 + t750)))))) & 255u)) == 0) {
+                                                                                            l4 = l4 + 64ull;
+                                                                                            l5 = l5 - 8ull;
+                                                                                            if (l5 >= 9ull) goto L742;
+                                                                                            goto L726;
+                                                                                        }
+                                                                                    }
+                                                                                    l18 = 0u;
+                                                                                    v714 = 0u; goto L714;
                                                                                 }
-                                                                                L723:;
-                                                                                l13 = 0u;
-                                                                                l5 = l0 + l2;
+                                                                                L726:;
+                                                                                l18 = 0u;
+                                                                                l5 = l0 + l3;
                                                                                 l4 = l30 + (l5 << 3);
-                                                                                const u32 t749 = load8(l4 - 56ull);
-                                                                                const u32 t750 = load8(l4 - 64ull);
-                                                                                const u32 t751 = load8(l4 - 48ull);
-                                                                                const u32 t752 = load8(l4 - 40ull);
-                                                                                const u32 t753 = load8(l4 - 32ull);
-                                                                                const u32 t754 = load8(l4 - 24ull);
-                                                                                const u32 t755 = load8(l4 - 16ull);
-                                                                                const u32 t756 = load8(l4 - 8ull);
-                                                                                if ((((((((t749 + t750) + t751) + t752) + t753) + t754) + t755) & 255u) | t756) { v711 = 0u; goto L711; }
-                                                                                l12 = l11 + l18;
-                                                                                l33 = (u64)(l17 - l12);
-                                                                                if (l11 > 24u) goto L721;
-                                                                                if (l11 != 8u) {
-                                                                                    l4 = l30 + (l2 << 3);
-                                                                                    l5 = l30 + (l33 << 3);
+                                                                                const u32 t752 = load8(l4 - 56ull);
+                                                                                const u32 t753 = load8(l4 - 64ull);
+                                                                                const u32 t754 = load8(l4 - 48ull);
+                                                                                const u32 t755 = load8(l4 - 40ull);
+                                                                                const u32 t756 = load8(l4 - 32ull);
+                                                                                const u32 t757 = load8(l4 - 24ull);
+                                                                                const u32 t758 = load8(l4 - 16ull);
+                                                                                const u32 t759 = load8(l4 - 8ull);
+                                                                                if ((((((((t752 + t753) + t754) + t755) + t756) + t757) + t758) & 255u) | t759) { v714 = 0u; goto L714; }
+                                                                                l16 = l11 + l12;
+                                                                                l32 = (u64)(l22 - l16);
+                                                                                if (l12 > 24u) goto L724;
+                                                                                if (l12 != 8u) {
+                                                                                    l4 = l30 + (l3 << 3);
+                                                                                    l5 = l30 + (l32 << 3);
                                                                                     l1 = l0;
-                                                                                    L758:;
+                                                                                    L761:;
                                                                                     {
                                                                                         core_slice_edits_slice_T_copy_from_slice(e, l5, l4, 8ull);
                                                                                         l4 = l4 + 64ull;
                                                                                         l5 = l5 + 64ull;
                                                                                         l1 = l1 - 8ull;
-                                                                                        if (l1 > 8ull) goto L758;
+                                                                                        if (l1 > 8ull) goto L761;
                                                                                     }
                                                                                 }
                                                                                 l4 = l0 - 8ull;
-                                                                                core_slice_edits_slice_T_copy_from_slice(e, l30 + ((l4 + l33) << 3), l30 + ((l2 + l4) << 3), 8ull);
-                                                                                store32(l28 + 24ull, l12);
-                                                                                goto L719;
+                                                                                core_slice_edits_slice_T_copy_from_slice(e, l30 + ((l4 + l32) << 3), l30 + ((l3 + l4) << 3), 8ull);
+                                                                                store32(l29 + 24ull, l16);
+                                                                                goto L722;
                                                                             }
-                                                                            L722:;
-                                                                            l13 = 0u;
-                                                                            if (l16 & 255u) { v711 = 0u; goto L711; }
-                                                                            l12 = l11 + l18;
-                                                                            if (l11 != 1u) goto L720;
-                                                                            l5 = l30 + ((u64)(l17 - l12) << 3);
+                                                                            L725:;
+                                                                            l18 = 0u;
+                                                                            if (l19 & 255u) { v714 = 0u; goto L714; }
+                                                                            l16 = l11 + l12;
+                                                                            if (l12 != 1u) goto L723;
+                                                                            l5 = l30 + ((u64)(l22 - l16) << 3);
                                                                             store8(l5, (u8)0u);
-                                                                            const u32 t759 = load32(l4 + 4ull);
-                                                                            store32(l5 + 4ull, t759);
-                                                                            const u32 t760 = load8(l4 + 1ull);
-                                                                            store8(l5 + 1ull, (u8)t760);
-                                                                            goto L720;
+                                                                            const u32 t762 = load32(l4 + 4ull);
+                                                                            store32(l5 + 4ull, t762);
+                                                                            const u32 t763 = load8(l4 + 1ull);
+                                                                            store8(l5 + 1ull, (u8)t763);
+                                                                            goto L723;
                                                                         }
-                                                                        L721:;
-                                                                        space_copies_copy_long(e, l30, l2, l5, l33);
+                                                                        L724:;
+                                                                        space_copies_copy_long(e, l30, l3, l5, l32);
                                                                     }
-                                                                    L720:;
-                                                                    store32(l28 + 24ull, l12);
+                                                                    L723:;
+                                                                    store32(l29 + 24ull, l16);
                                                                 }
-                                                                L719:;
-                                                                l13 = 1u;
-                                                                v711 = l11;
+                                                                L722:;
+                                                                l18 = 1u;
+                                                                v714 = l12;
                                                             }
-                                                            L711:;
-                                                            l12 = v711;
-                                                            if ((l13 & 255u) != 1u) goto L702;
+                                                            L714:;
+                                                            l16 = v714;
+                                                            if ((l18 & 255u) != 1u) goto L705;
                                                         }
-                                                        store32(l26 + 204u, l12);
+                                                        store32(l26 + 204u, l16);
                                                         store16(l26 + 200u, (u16)2u);
-                                                        goto L412;
+                                                        goto L413;
                                                     }
-                                                    L702:;
-                                                    const u32 t761 = forms_work_Work_fill_body(e, l28, l15, l10, l6);
-                                                    l6 = t761;
+                                                    L705:;
+                                                    const u32 t764 = forms_work_Work_fill_body(e, l29, l17, l13, l6);
+                                                    l6 = t764;
                                                     store32(l26 + 204u, 0u);
                                                     store8(l26 + 201u, (u8)0u);
                                                     store8(l26 + 200u, (u8)l6);
                                                 }
-                                                L412:;
-                                                const u32 t762 = load32(l26 + 204u);
-                                                l15 = t762;
-                                                const u32 t763 = load8(l26 + 201u);
-                                                l10 = t763;
-                                                const u32 t764 = load8(l26 + 200u);
-                                                l11 = t764;
+                                                L413:;
+                                                const u32 t765 = load32(l26 + 204u);
+                                                l17 = t765;
+                                                const u32 t766 = load8(l26 + 201u);
+                                                l13 = t766;
+                                                const u32 t767 = load8(l26 + 200u);
+                                                l12 = t767;
                                             }
-                                            L411:;
+                                            L412:;
                                             l6 = 2u;
                                             {
-                                                switch ((u32)(((u64)l11 & 255ull)) - 1u) {
-                                                case 0: goto L765;
-                                                case 1: goto L410;
-                                                case 2: goto L410;
-                                                case 3: goto L409;
-                                                default: goto L406;
+                                                switch ((u32)(((u64)l12 & 255ull)) - 1u) {
+                                                case 0: goto L768;
+                                                case 1: goto L411;
+                                                case 2: goto L411;
+                                                case 3: goto L410;
+                                                default: goto L407;
                                                 }
                                             }
-                                            L765:;
-                                            const u32 t766 = load32(l28 + 20ull);
-                                            l6 = t766;
-                                            core_delivery_deliver(e, l28, l9, l14);
-                                            l8 = l6 + (l8 + l19);
+                                            L768:;
+                                            const u32 t769 = load32(l29 + 20ull);
+                                            l6 = t769;
+                                            core_delivery_deliver(e, l29, l9, l20);
+                                            l8 = l6 + (l8 + l23);
                                             l9 = 0u;
-                                            goto L408;
+                                            goto L409;
                                         }
-                                        L410:;
-                                        l14 = l19 + l20;
-                                        const u64 t767 = load64(l28);
-                                        const u64 t768 = load32(l28 + 16ull);
-                                        l4 = t767 + (t768 << 3);
+                                        L411:;
+                                        l20 = l14 + l23;
+                                        const u64 t770 = load64(l29);
+                                        const u64 t771 = load32(l29 + 16ull);
+                                        l4 = t770 + (t771 << 3);
                                         {
                                             {
-                                                const u32 t771 = load32(l28 + 32ull);
-                                                l8 = t771;
+                                                const u32 t774 = load32(l29 + 32ull);
+                                                l8 = t774;
                                                 l6 = l8 <= l9;
-                                                if (l6) goto L770;
-                                                if ((l8 - l9) != 1u) goto L770;
-                                                const u32 t772 = load32((l4 + ((l32 << 3) & 34359738360ull)) + 4ull);
-                                                l8 = t772;
-                                                l6 = l8 ? (l21 - l8) : 0u;
-                                                goto L769;
+                                                if (l6) goto L773;
+                                                if ((l8 - l9) != 1u) goto L773;
+                                                const u32 t775 = load32((l4 + ((l2 << 3) & 34359738360ull)) + 4ull);
+                                                l8 = t775;
+                                                l6 = l8 ? (l15 - l8) : 0u;
+                                                goto L772;
                                             }
-                                            L770:;
+                                            L773:;
                                             if (l6) {
                                                 l6 = l8;
-                                                goto L769;
+                                                goto L772;
                                             }
-                                            L774:;
+                                            L777:;
                                             {
-                                                const u32 t775 = load32((l4 + ((u64)(l8 - 1u) << 3)) + 4ull);
-                                                l6 = t775;
+                                                const u32 t778 = load32((l4 + ((u64)(l8 - 1u) << 3)) + 4ull);
+                                                l6 = t778;
                                                 l8 = l8 - l6;
                                                 l6 = l6 ? l8 : 0u;
-                                                if (l6 > l9) goto L774;
+                                                if (l6 > l9) goto L777;
                                             }
                                         }
-                                        L769:;
-                                        store32(l28 + 20ull, l9);
-                                        store32(l28 + 32ull, l6);
-                                        l8 = l14 + l15;
+                                        L772:;
+                                        store32(l29 + 20ull, l9);
+                                        store32(l29 + 32ull, l6);
+                                        l8 = l17 + l20;
                                         l9 = 0u;
-                                        goto L408;
+                                        goto L409;
                                     }
-                                    L409:;
-                                    const u32 t776 = load32(l28 + 24ull);
-                                    const u32 t777 = load32(l28 + 20ull);
-                                    const u32 t778 = load32(l28 + 16ull);
-                                    l8 = t776 + (t777 + t778);
+                                    L410:;
+                                    const u32 t779 = load32(l29 + 24ull);
+                                    const u32 t780 = load32(l29 + 20ull);
+                                    const u32 t781 = load32(l29 + 16ull);
+                                    l8 = t779 + (t780 + t781);
                                     l9 = 1u;
-                                    l6 = 1u << (l10 & 31);
-                                    if (l6 & 3u) { v407 = l10; goto L407; }
+                                    l6 = 1u << (l13 & 31);
+                                    if (l6 & 3u) { v408 = l13; goto L408; }
                                     if ((l6 & 12u) == 0) {
-                                        l4 = l28 + 80ull;
-                                        const u32 t780 = load32(l4);
-                                        l6 = t780;
+                                        l4 = l29 + 80ull;
+                                        const u32 t783 = load32(l4);
+                                        l6 = t783;
                                         store32(l4, (l6 < l8) ? l8 : l6);
                                     }
-                                    l6 = l10;
-                                    goto L406;
+                                    l6 = l13;
+                                    goto L407;
                                 }
-                                L408:;
-                                v407 = 0u;
+                                L409:;
+                                v408 = 0u;
                             }
-                            L407:;
-                            l6 = v407;
-                            l4 = l28 + 72ull;
-                            const u64 t781 = load64(l4);
-                            store64(l4, t781 + 1ull);
-                            l4 = l28 + 80ull;
-                            const u32 t782 = load32(l4);
-                            l14 = t782;
-                            store32(l4, (l8 > l14) ? l8 : l14);
-                            if (l9 == 0) { v405 = 0u; goto L405; }
+                            L408:;
+                            l6 = v408;
+                            l4 = l29 + 72ull;
+                            const u64 t784 = load64(l4);
+                            store64(l4, t784 + 1ull);
+                            l4 = l29 + 80ull;
+                            const u32 t785 = load32(l4);
+                            l20 = t785;
+                            store32(l4, (l8 > l20) ? l8 : l20);
+                            if (l9 == 0) { v406 = 0u; goto L406; }
                         }
-                        L406:;
-                        store8(l28 + 85ull, (u8)l6);
-                        store8(l28 + 84ull, (u8)1u);
-                        v405 = 1u;
+                        L407:;
+                        store8(l29 + 85ull, (u8)l6);
+                        store8(l29 + 84ull, (u8)1u);
+                        v406 = 1u;
                     }
-                    L405:;
-                    if ((v405 & 255u) == 0) {
-                        l4 = l41 + 1ull;
+                    L406:;
+                    if ((v406 & 255u) == 0) {
+                        l4 = l42 + 1ull;
                         if (l4 < l7) goto L4;
                         goto L3;
                     }
                 }
-                l23 = (l6 & 255u) + 1u;
+                l24 = (l6 & 255u) + 1u;
             }
             L3:;
-            const u32 t784 = load32(l28 + 80ull);
-            l8 = t784;
-            const u64 t785 = load64(l28 + 72ull);
-            l4 = t785;
-            const u64 t786 = load64(l26 + 48u);
-            l32 = t786;
-            const u64 t787 = load64(l26 + 80u);
-            l28 = t787;
+            const u32 t787 = load32(l29 + 80ull);
+            l8 = t787;
+            const u64 t788 = load64(l29 + 72ull);
+            l4 = t788;
+            const u64 t789 = load64(l26 + 48u);
+            l29 = t789;
+            const u64 t790 = load64(l26 + 80u);
+            l2 = t790;
             store64(l37 + 32u, l48);
-            l28 = l3 - l28;
-            store64(l37 + 24u, (l3 < l28) ? 0ull : l28);
-            store64(l37 + 16u, l32);
+            l2 = l40 - l2;
+            store64(l37 + 24u, (l2 > l40) ? 0ull : l2);
+            store64(l37 + 16u, l29);
             store64(l37 + 8u, l4);
             store32(l37 + 4u, l8);
-            store32(l37, l23);
+            store32(l37, l24);
             e->stack_pointer = l26 + 208ull;
             goto L1;
         }
