@@ -21,14 +21,16 @@ def programs():
         return PROGRAM.findall(page.read())
 
 
-class Embedding(unittest.TestCase):
+class Embedding:
+    """What holds of a shared library that `made_of` makes."""
+
     @classmethod
     def setUpClass(cls):
         room = tempfile.TemporaryDirectory()
         cls.addClassCleanup(room.cleanup)
         cls.room = room.name
         cls.library = os.path.join(cls.room, 'libtrac.so')
-        subprocess.run(['gcc', '-std=c11', '-O1', '-fPIC', '-shared', '-o', cls.library, ENGINE], check=True)
+        subprocess.run(['gcc', '-shared', '-o', cls.library, *cls.made_of], check=True)
 
     def test_each_program_of_the_page(self):
         found = programs()
@@ -73,6 +75,12 @@ class Embedding(unittest.TestCase):
         self.assertEqual(library.trac_fate_name(9), b'refused')
         unopened = (ctypes.c_uint64 * 14)()
         self.assertEqual(library.trac_rule(unopened), 9)
+        library.trac_kind.restype = ctypes.c_char_p
+        self.assertEqual(library.trac_kind(), self.kind)
+
+
+class EngineInC(Embedding, unittest.TestCase):
+    made_of, kind = ['-std=c11', '-O1', '-fPIC', ENGINE], b'generated'
 
 
 if __name__ == '__main__':

@@ -57,7 +57,6 @@ static void over_three_scripts(void) {
     }
 }
 
-/* How much of a text of this length stands in a buffer. */
 static int shown(size_t length, size_t room) { return (int)(length < room ? length : room); }
 
 /* The functions tell the whole lengths; the buffers get what fits. */

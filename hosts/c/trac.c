@@ -16,8 +16,8 @@
 /* The exit statuses. What the engine calls halted and input ended are both 0. */
 enum { DONE, WORKSPACE, USAGE, STEPS, INPUT_FAILED, OUTPUT_FAILED, NO_MEMORY };
 
-/* The bytes of a read, as in the proved program, and of the longest print that needs no more memory. */
-enum { CHUNK = 8192 };
+/* The bytes of a read, and of a print that needs no more memory; the room beside a print, so that it's measured once. */
+enum { CHUNK = 8192, MORE = 16 };
 
 static const char HELP[] =
     "Runs a TRAC T-64 script from standard input\n\n"
@@ -262,7 +262,7 @@ static trac_report turn(trac_machine *machine, source *from, const sink *to, siz
 static trac_report run(trac_machine *machine, size_t cells, source *from, sink *to) {
     trac_report report = turn(machine, from, to, 0);
     while (report.fate == TRAC_GOING || report.fate == TRAC_WANTS_INPUT || report.fate == TRAC_WANTS_OUTPUT) {
-        if (report.fate == TRAC_WANTS_OUTPUT && !reserve(to, report.wanted)) {
+        if (report.fate == TRAC_WANTS_OUTPUT && !reserve(to, report.wanted + MORE)) {
             report.fate = TRAC_REFUSED;
         } else if (report.fate == TRAC_WANTS_INPUT && !feed(machine, from)) {
             /* the step's need, for what was read of its string so far */
@@ -271,7 +271,7 @@ static trac_report run(trac_machine *machine, size_t cells, source *from, sink *
             report.fate = TRAC_INPUT_FAILED;
             report.peak = need > report.peak ? need : report.peak;
         } else {
-            report = turn(machine, from, to, report.wanted);
+            report = turn(machine, from, to, report.wanted ? report.wanted + MORE : 0);
         }
     }
     return report;

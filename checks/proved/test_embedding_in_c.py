@@ -1,0 +1,20 @@
+"""The programs in C of the page on embedding, in C and in C++, and Python's ctypes, over the proved library: they print
+what they print over the engine in C."""
+import os
+import unittest
+
+from test_embedding_c import Embedding
+from trac import TOP, make
+
+
+class ProvedLibrary(Embedding, unittest.TestCase):
+    made_of, kind = ['-Wl,--whole-archive', os.path.join(TOP, 'dist', 'libtrac.a'), '-Wl,--no-whole-archive'], b'proved'
+
+    @classmethod
+    def setUpClass(cls):
+        make('dist/libtrac.a')
+        super().setUpClass()
+
+
+if __name__ == '__main__':
+    unittest.main()
