@@ -85,8 +85,8 @@ dist: programs build/trac build/libtrac.so.0 dist/libtrac.a dist/trac.h dist/tra
 	for program in trac_trace trac_terminal; do cp -p crates/$$program/out/$$program dist || exit; done
 	cp -p crates/trac_cli/out/trac_cli dist/trac
 	cp docs/*.[0-9] hosts/c/trac.c hosts/c/trac_engine.c dist
-	@hosts/system/stage build/dist /usr/local lib
-	rm -rf dist/doc && cp -R build/dist/share/doc/trac-t64 dist/doc
+	@stage=$$(mktemp -d) && trap 'rm -rf "$$stage"' EXIT && hosts/system/stage "$$stage/all" /usr/local lib && \
+	    rm -rf dist/doc && cp -R "$$stage/all/share/doc/trac-t64" dist/doc
 	sed 's/@VERSION@/$(VERSION)/' hosts/system/README.in >dist/README
 
 # The proved library: its exports are hidden behind the functions of trac.h.
@@ -137,16 +137,18 @@ build/libtrac.so.0: build/libtrac.a
 
 ## make install    puts what is built below PREFIX (~/.local); make uninstall takes it away again
 install: build/trac build/libtrac.so.0
-	@hosts/system/stage build/stage "$(PREFIX)" "$(LIBDIR)"
-	@hosts/system/install build/stage "$(DESTDIR)$(PREFIX)"
+	@stage=$$(mktemp -d) && trap 'rm -rf "$$stage"' EXIT && chmod 755 "$$stage" && \
+	    hosts/system/stage "$$stage/all" "$(PREFIX)" "$(LIBDIR)" && \
+	    hosts/system/install "$$stage/all" "$(DESTDIR)$(PREFIX)"
 
 uninstall:
 	@hosts/system/install --undo "$(DESTDIR)$(PREFIX)"
 
 ## make package    Debian packages of it, in dist/
 package: build/trac build/libtrac.so.0
-	@lib=lib/$$(dpkg-architecture -qDEB_HOST_MULTIARCH 2>/dev/null || $(CC) -print-multiarch) && \
-	    hosts/system/stage build/debian /usr "$$lib" && hosts/system/package build/debian "$$lib"
+	@stage=$$(mktemp -d) && trap 'rm -rf "$$stage"' EXIT && \
+	    lib=lib/$$(dpkg-architecture -qDEB_HOST_MULTIARCH 2>/dev/null || $(CC) -print-multiarch) && \
+	    hosts/system/stage "$$stage/all" /usr "$$lib" && hosts/system/package "$$stage/all" "$$lib"
 
 ## make clean      takes away what was built, but no proofs
 clean:

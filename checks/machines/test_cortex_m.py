@@ -28,7 +28,7 @@ class CortexM(unittest.TestCase):
         """The sizes of the program, and what it says where this is typed."""
         made = subprocess.run(['make', '-s', 'session.elf', f'RAM={ram}', f'CELLS={cells}',
                                f'ENGINE={TOP}/hosts/c'], cwd=self.place, capture_output=True, text=True, check=True)
-        text, data, bss = map(int, made.stdout.splitlines()[1].split()[:3])
+        text, data, bss = map(int, re.search(r'^ +text.*\n(.*)', made.stdout, re.MULTILINE)[1].split()[:3])
         with subprocess.Popen([*QEMU, 'session.elf'], cwd=self.place, stdin=subprocess.PIPE, stdout=subprocess.PIPE,
                               text=True) as running:
             try:
