@@ -7,11 +7,32 @@ import subprocess
 import tempfile
 import unittest
 
-from trac import TOP
+from trac import TOP, instructions
 
 HEADERS = os.path.join(TOP, 'hosts', 'c')
 ENGINE = os.path.join(HEADERS, 'trac_engine.c')
 PROGRAM = re.compile(r'^```c\n(#include .*?)^```\n(?:\n```sh\n.*?^```\n)?\n```output\n(.*?)^```', re.MULTILINE | re.DOTALL)
+# Defines so many forms, and lists them where a second word stands.
+LISTING = """#include "trac.h"
+#include <stdio.h>
+#include <stdlib.h>
+int main(int count, char **words) {
+    static trac_cell block[400000];
+    static trac_machine machine;
+    static char script[400000];
+    trac_form form = TRAC_NO_FORM;
+    size_t length = 0, seen = 0;
+    for (int i = 0; i < atoi(words[1]); i++)
+        length += (size_t)sprintf(script + length, "#(ds,form%d,body%d)", i, i);
+    script[length++] = '\\'';
+    trac_open(&machine, block, 400000, 100000000);
+    trac_turn(&machine, script, length, 1, NULL, 0, UINT64_MAX);
+    while (count > 2 && trac_next_form(&machine, &form))
+        seen += trac_form_name(&form, NULL, 0) && trac_form_text(&form, NULL, 0) && trac_form_codes(&form, NULL, 0);
+    printf("%d", (int)seen);
+    return 0;
+}
+"""
 STRICT = ['-Wall', '-Wextra', '-Wpedantic', '-Wconversion', '-Werror', '-O1']
 KINDS = (['gcc', '-std=c11'], ['clang', '-std=c11'], ['g++', '-std=c++17', '-x', 'c++'])
 
@@ -56,6 +77,20 @@ class Embedding:
                     file.write(text.format(call))
                 done = subprocess.run([*kind, '-Werror', '-fsyntax-only', '-I', HEADERS, source], capture_output=True)
                 self.assertEqual(done.returncode == 0, is_good, (call, kind, done.stderr))
+
+    def test_listing_forms_grows_as_their_number(self):
+        source, program = (os.path.join(self.room, f'listing.{end}') for end in ('c', 'out'))
+        with open(source, 'w', encoding='utf-8') as file:
+            file.write(LISTING)
+        subprocess.run(['gcc', '-O1', '-I', HEADERS, '-o', program, source, self.library, f'-Wl,-rpath,{self.room}'],
+                       check=True)
+
+        def cost(count):
+            with_it, without = (instructions([program, str(count), *more], b'') for more in (['list'], []))
+            return with_it - without
+
+        self.assertEqual(subprocess.run([program, '4000', 'list'], capture_output=True, check=True).stdout, b'4000')
+        self.assertLess(cost(4000), 4.5 * cost(1000))
 
     def test_by_ctypes(self):
         class Report(ctypes.Structure):
