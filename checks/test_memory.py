@@ -21,6 +21,10 @@ OTHER_WAYS = {'mmap', 'mmap64', 'mremap', 'brk', 'sbrk', 'valloc', 'pvalloc', 'r
 
 
 class Refused(unittest.TestCase):
+    # Of the program in C: the line of a refused request before the last; whether that ends it at once; how many requests
+    # there are at the least; and the bytes of the last for each cell, with room for a string beside the block.
+    LINE, ENDS_AT_ONCE, FEWEST, BYTES = BLOCK_LINE, False, 2, CELL + 1
+
     @classmethod
     def setUpClass(cls):
         cls.folder = tempfile.TemporaryDirectory()
@@ -63,9 +67,10 @@ class Refused(unittest.TestCase):
                     self.assertEqual(made[number], sizes[number - 1])
                     got_past.append(number)
                 else:
-                    self.assertIn(ends, ([b'', WORDS_LINE, 6, HELLO], [b'', BLOCK_LINE, 6, HELLO]))
-                    self.assertEqual(made[:number], sizes[:number])
+                    self.assertEqual(ends, [b'', self.LINE, 6, HELLO])
+                    self.assertEqual(made if self.ENDS_AT_ONCE else made[:number], sizes[:number])
         self.assertLessEqual(len(got_past), 1)
+        self.assertGreaterEqual(len(sizes), self.FEWEST)
 
     def test_a_run_makes_no_request(self):
         words = ['--cells', '65432', '--steps', '100000000']
@@ -75,8 +80,10 @@ class Refused(unittest.TestCase):
         self.assertEqual(long[1:], [b'', 0, b''])
         self.assertEqual(long[0], LONG_OUTPUT)
         self.assertEqual(long_sizes, sizes)
-        # the last request is that of the block, with room for a string beside it in the program in C
-        self.assertIn(sizes[-1] // 65432, (CELL, CELL + 1))
+        # the last request is that of the block
+        self.assertEqual(sizes[-1] // 65432, self.BYTES)
+        if self.BYTES == CELL:
+            self.assertEqual(sizes[-1], 65432 * CELL)
 
     def test_the_program_has_no_other_way_to_memory(self):
         lines = subprocess.run(['nm', '-D', '--undefined-only', PROGRAM], check=True,

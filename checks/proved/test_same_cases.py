@@ -13,4 +13,6 @@ __all__ = ['Closed', 'Conformance', 'Devices', 'Examples', 'Exercises', 'Interru
 
 
 class Refused(test_memory.Refused):
-    """The same, with a library of its own in front of the allocator."""
+    """The same, with a library of its own in front of the allocator: each refused request for the words ends the program
+    at once, and the last is for the block alone."""
+    LINE, ENDS_AT_ONCE, FEWEST, BYTES = test_memory.WORDS_LINE, True, 21, test_memory.CELL

@@ -16,7 +16,7 @@
 /* The exit statuses. What the engine calls halted and input ended are both 0. */
 enum { DONE, WORKSPACE, USAGE, STEPS, INPUT_FAILED, OUTPUT_FAILED, NO_MEMORY };
 
-/* The bytes of a read, and of a print that needs no more memory; the room beside a print, so that it's measured once. */
+/* The bytes of a read, and of a print that needs no memory more; the room beside a print, to measure it once. */
 enum { CHUNK = 8192, MORE = 16 };
 
 static const char HELP[] =

@@ -106,7 +106,9 @@ typedef struct {
 const char *trac_version(void);
 
 /* Whether its header says the same: 1 where these are its TRAC_VERSION_NUMBER but for the patch, and the sizes of
- * trac_machine and of trac_report. Call it as trac_abi(TRAC_VERSION_NUMBER, sizeof(trac_machine), sizeof(trac_report)). */
+ * trac_machine and of trac_report:
+ *
+ *     trac_abi(TRAC_VERSION_NUMBER, sizeof(trac_machine), sizeof(trac_report)) */
 int trac_abi(uint32_t version, size_t machine_size, size_t report_size);
 
 /* "proved" or "generated": which of the two libraries it is. */
@@ -169,7 +171,7 @@ int trac_next_form(const trac_machine *machine, trac_form *form);
 /* The name of a form. */
 size_t trac_form_name(const trac_form *form, void *to, size_t room);
 
-/* A form as `pf` displays it: its characters as they are, a gap as its ordinal in angle brackets, <^> at the pointer. */
+/* A form as `pf` displays it: characters as they are, a gap as its ordinal in angle brackets, <^> at the pointer. */
 size_t trac_form_text(const trac_form *form, void *to, size_t room);
 
 /* The body of a form, item by item: a byte as it is, the gap with ordinal N as 255 + N. */
