@@ -82,6 +82,17 @@ def into_nothing(program, *words, script=b''):
     return done.stderr, done.returncode
 
 
+def are_not_written(case, program):
+    """What a program ends with whose help or usage text can't be written."""
+    for word in ('--help', '-h'):
+        for ends in (into_full, into_closed_pipe, into_nothing):
+            with case.subTest(word=word, ends=ends.__name__):
+                case.assertEqual(ends(program, word), (b'', 5))
+    with open('/dev/full', 'wb') as full:
+        done = subprocess.run([program, '--unknown'], stdin=subprocess.DEVNULL, stdout=subprocess.PIPE, stderr=full)
+    case.assertEqual((done.stdout, done.returncode), (b'', 2))
+
+
 class Program(unittest.TestCase):
     def test_rows(self):
         for script, words, output, lines, status in ROWS:
@@ -125,17 +136,8 @@ class Program(unittest.TestCase):
         self.assertIn(usage, run('', '--help')[0].decode())
         self.assertIn(usage, run('', 'file.trac')[1])
 
-    def test_a_help_that_is_not_written(self):
-        for word in ('--help', '-h'):
-            for ends in (into_full, into_closed_pipe, into_nothing):
-                with self.subTest(word=word, ends=ends.__name__):
-                    self.assertEqual(ends(PROGRAM, word), (b'', 5))
-
-    def test_a_usage_text_that_is_not_written(self):
-        with open('/dev/full', 'wb') as full:
-            done = subprocess.run([PROGRAM, '--unknown'], stdin=subprocess.DEVNULL,
-                                  stdout=subprocess.PIPE, stderr=full)
-        self.assertEqual((done.stdout, done.returncode), (b'', 2))
+    def test_texts_that_are_not_written(self):
+        are_not_written(self, PROGRAM)
 
 
 class Devices(unittest.TestCase):

@@ -4,7 +4,7 @@ import subprocess
 import unittest
 
 from test_interruptions import HELLO, interrupt, shown_though_interrupted
-from test_program import into_closed_pipe, into_full, into_nothing
+from test_program import are_not_written
 from trac import TERMINAL, TRACER
 
 
@@ -18,17 +18,8 @@ class Words(unittest.TestCase):
         done = subprocess.run([TRACER, 'file.trac'], input=b'', capture_output=True)
         self.assertIn('\nUsage: trac_trace [OPTIONS] < SCRIPT\n', done.stderr.decode())
 
-    def test_a_help_that_is_not_written(self):
-        for word in ('--help', '-h'):
-            for ends in (into_full, into_closed_pipe, into_nothing):
-                with self.subTest(word=word, ends=ends.__name__):
-                    self.assertEqual(ends(TRACER, word), (b'', 5))
-
-    def test_a_usage_text_that_is_not_written(self):
-        with open('/dev/full', 'wb') as full:
-            done = subprocess.run([TRACER, '--unknown'], stdin=subprocess.DEVNULL,
-                                  stdout=subprocess.PIPE, stderr=full)
-        self.assertEqual((done.stdout, done.returncode), (b'', 2))
+    def test_texts_that_are_not_written(self):
+        are_not_written(self, TRACER)
 
 
 class Interruptions(unittest.TestCase):
