@@ -47,4 +47,4 @@ class FullBlocks(unittest.TestCase):
     def test_a_loop_over_a_search_ends_within_its_allowance(self):
         output, lines, status = run(LOOP, '--steps', '10000')
         self.assertEqual((output, status), (b'', 3))
-        self.assertEqual(lines, 'trac: allowance of 10,000 steps used up\n')
+        self.assertEqual(lines, 'trac: allowance of 10000 steps used up\n')
