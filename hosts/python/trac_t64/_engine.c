@@ -1,5 +1,6 @@
 /* The module trac_t64._engine: a machine of trac.h as an object of Python, with a block and buffers of its own. Written
- * by hand, and tested. It keeps to Python's stable ABI. The engine stands in the same unit: no other library sees it. */
+ * by hand, and tested. It keeps to Python's stable ABI. The engine stands in the same unit, and no other library sees
+ * it. */
 #define PY_SSIZE_T_CLEAN
 #include <Python.h>
 
@@ -8,8 +9,8 @@
 #include <stdlib.h>
 #include <time.h>
 
-/* The steps of a turn that keeps Python's lock; those between two looks at the clock; the looks at signals a second; the
- * least bytes of a buffer, and the most that it keeps when it is empty. */
+/* The steps of a turn that keeps Python's lock; those between two looks at the clock; the looks at signals a second;
+ * the least bytes of a buffer, and the most that it keeps when it is empty. */
 enum { SHORT = 256, PART = 4096, LOOKS = 20, LEAST = 4096, KEPT = 65536 };
 
 /* ---- Bytes that come in at the end and leave at the front. */
@@ -33,11 +34,8 @@ static int reserve(buffer *to, size_t more) {
         return 1;
     if (more > most - length)
         return 0;
-    const size_t needed = length + more > LEAST ? length + more : LEAST;
-    size_t room = 2 * needed;
-    char *bytes = (char *)malloc(room);
-    if (!bytes)
-        bytes = (char *)malloc(room = needed);
+    const size_t needed = length + more > LEAST ? length + more : LEAST, room = needed + needed / 2;
+    char *const bytes = (char *)malloc(room);
     if (!bytes)
         return 0;
     if (length)

@@ -39,6 +39,7 @@ COMMANDS = {
     '%trace [N]': 'a table of the first N steps of the script below',
     '%help': 'these commands, and the functions',
 }
+STYLE = '<style>.trac th, .trac td { text-align: left !important; white-space: pre }</style>'
 FUNCTION_BEFORE = re.compile(r'#\(([A-Za-z]*)$')
 FORM_BEFORE = re.compile(r'#\(([A-Za-z]+),([^#(),]*)$')
 COMMAND_BEFORE = re.compile(r'(?:^|\n)(%\w*)$')
@@ -71,10 +72,10 @@ def parted(code: str) -> tuple[list[str], int, str]:
 
 def as_html(head: Sequence[str], rows: Table) -> str:
     def row(kind: str, cells: Sequence[str]) -> str:
-        return '<tr>' + ''.join(
-            f'<{kind} style="text-align: left"><code>{html.escape(cell)}</code></{kind}>' for cell in cells) + '</tr>'
+        return '<tr>\n' + ''.join(f'<{kind}><code>{html.escape(cell)}</code></{kind}>\n' for cell in cells) + '</tr>\n'
 
-    return '<table>' + row('th', head) + ''.join(row('td', cells) for cells in rows) + '</table>'
+    body = ''.join(row('td', cells) for cells in rows)
+    return f'<table class="trac">\n{STYLE}\n{row("th", head)}{body}</table>'
 
 
 def as_text(head: Sequence[str], rows: Table) -> str:
@@ -241,6 +242,7 @@ class TracKernel(Kernel):
         allow_stdin: bool = False, **more: Any,
     ) -> dict[str, Any]:
         """Runs a cell."""
+        self._allow_stdin = allow_stdin
         try:
             self._run_cell(code)
         except Fault as fault:
