@@ -212,7 +212,7 @@ def give_line(session: Session, reading: Reading, line: bytes | None) -> None:
     if line is None:
         session.end(most=0)
     elif line.endswith(bytes([session.meta, 10])):
-        reading.give(session, line[:-1])
+        reading.give(session, line[:-1], line[-1:])
     else:
         reading.give(session, line)
 

@@ -27,12 +27,14 @@ class Reading:
 
     def __init__(self, line: int = 1) -> None:
         self._line, self._column = line, 1
-        self._ahead = b''
+        # what was given and not read, and what stands behind it in the text and wasn't given
+        self._ahead = self._dropped = b''
 
-    def give(self, session: Session, data: bytes) -> None:
-        """Gives the session more of the text, and makes no step."""
+    def give(self, session: Session, data: bytes, dropped: bytes = b'') -> None:
+        """Gives the session more of the text, and makes no step. What is dropped stands behind it."""
         self._pass(session.unread)
-        self._ahead += data
+        self._move_on(self._dropped)
+        self._ahead, self._dropped = self._ahead + data, dropped
         session.feed(data, most=0)
 
     def begin_again(self, session: Session) -> None:
@@ -47,8 +49,11 @@ class Reading:
 
     def _pass(self, unread: bytes) -> None:
         """Moves the place to the text that wasn't read."""
-        passed = self._ahead[:len(self._ahead) - len(unread)]
+        passed = len(self._ahead) - len(unread)
+        self._move_on(self._ahead[:passed])
         self._ahead = unread
+
+    def _move_on(self, passed: bytes) -> None:
         if breaks := passed.count(b'\n'):
             self._line, self._column = self._line + breaks, 1
         self._column += sum(byte & 0xC0 != 0x80 for byte in passed[passed.rfind(b'\n') + 1:])
