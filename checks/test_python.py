@@ -388,7 +388,9 @@ def use(count):
             try: call()
             except (TypeError, ValueError): pass
     run(b"#(ps,hello)'")
-use(3000)
+# twice, since the C library keeps memory when it gave back a great block first
+use(1500)
+use(1500)
 before = resident()
 use(10000)
 print(resident() - before)
@@ -421,7 +423,7 @@ print(refused(lambda: session.feed(b'', most=10**8)), session.fate.value)
 steps, taken = session.steps, 10**8 - session.steps
 resource.setrlimit(resource.RLIMIT_AS, (resource.RLIM_INFINITY, resource.RLIM_INFINITY))
 output = session.feed(b'', most=1000)
-print(session.steps == steps + 1000, output == b'0123456789' * (len(output) // 10), len(output) > 10000000)
+print(session.steps == steps + 1000, output == b'0123456789' * (len(output) // 10), len(output) > 5000000)
 whole = run(script, 20000, session.steps)
 print(output == whole.output, whole.steps == session.steps)
 """
