@@ -34,7 +34,7 @@ def install(sources, to):
 
 def environment(site, **more):
     """The environment of a program that finds the package."""
-    return {**os.environ, 'PYTHONPATH': str(site), 'PYDEVD_DISABLE_FILE_VALIDATION': '1', **more}
+    return {**os.environ, 'PYTHONPATH': str(site), **more}
 
 
 def python(site, script, *words, **more):

@@ -331,15 +331,16 @@ def test_one_session_in_two_threads(trac_t64):
 INTERRUPTED = """
 import os, signal, sys, threading, time
 from trac_t64 import Session, run
+# what runs in the background may have it ignored
+signal.signal(signal.SIGINT, signal.default_int_handler)
 def soon(): threading.Timer(0.2, os.kill, (os.getpid(), signal.SIGINT)).start()
-for call in (lambda: run(b"#(ds,L,(#(cl,L)))#(cl,L)'", 65536, 2**63),):
-    soon()
-    begin = time.monotonic()
-    try: call()
-    except KeyboardInterrupt: print('stopped', time.monotonic() - begin < 2)
+soon()
+begin = time.monotonic()
+try: run(b"#(ds,L,(#(cl,L)))#(cl,L)'", 65536, 2**63)
+except KeyboardInterrupt: print('stopped', time.monotonic() - begin < 2)
 session = Session(65536, 2**63)
 soon()
-try: session.feed(b"#(ds,N,0)#(ds,L,(#(ps,(#(cl,N);))#(ds,N,#(ad,#(cl,N),1))#(cl,L)))#(cl,L)'")
+try: session.feed(b"#(ds,N,0)#(ds,L,(#(ps,#(cl,N);)#(ds,N,#(ad,#(cl,N),1))#(cl,L)))#(cl,L)'")
 except KeyboardInterrupt: pass
 steps = session.steps
 output = session.feed(b'', most=100000)
@@ -349,8 +350,7 @@ print(numbers == list(range(len(numbers))), len(numbers) > 1000, session.steps =
 
 
 def test_an_interrupt_stops_between_two_steps(python_site):
-    script = INTERRUPTED.replace('(#(cl,N);)', '#(cl,N);')
-    assert python_package.python(python_site, script).split() == ['stopped', 'True', 'True', 'True', 'True']
+    assert python_package.python(python_site, INTERRUPTED).split() == ['stopped', 'True', 'True', 'True', 'True']
 
 
 IN_A_HANDLER = """
@@ -373,7 +373,9 @@ def test_a_handler_of_a_signal_can_not_use_the_session(python_site):
 
 
 LEAKING = """
+import sys
 from trac_t64 import Session, run
+from trac_t64._engine import Machine
 def resident():
     with open('/proc/self/statm') as file: return int(file.read().split()[1]) * 4096
 def use(count):
@@ -391,14 +393,15 @@ def use(count):
 # twice, since the C library keeps memory when it gave back a great block first
 use(1500)
 use(1500)
-before = resident()
+before, references = resident(), sys.getrefcount(Machine)
 use(10000)
-print(resident() - before)
+print(resident() - before, sys.getrefcount(Machine) - references)
 """
 
 
 def test_ten_thousand_sessions_leak_nothing(python_site):
-    assert int(python_package.python(python_site, LEAKING)) < 300000
+    grown, references = map(int, python_package.python(python_site, LEAKING).split())
+    assert grown < 300000 and references == 0
 
 
 REFUSED = """

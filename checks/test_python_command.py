@@ -63,6 +63,11 @@ def forked(trac_t64):
     return call
 
 
+def heed_interrupts():
+    """Has a program heed ^C, which what runs in the background may ignore."""
+    signal.signal(signal.SIGINT, signal.SIG_DFL)
+
+
 def hung_up(data):
     """A terminal that hangs up behind these bytes."""
     import tty
@@ -167,7 +172,8 @@ def test_devices_that_fail(python_site):
     environment = python_package.environment(python_site)
     line = b'<stdin>:1:13: output failed at step 19\n'
     with open('/dev/full', 'wb') as full:
-        for more, lines in (([], line), (['--report'], b'<stdin>: 18 steps, peak 19 cells\n' + line), (['--help'], b'')):
+        report = b'<stdin>: 18 steps, peak 19 cells\n'
+        for more, lines in (([], line), (['--report'], report + line), (['--help'], b'')):
             done = subprocess.run([*words, *more], input=HELLO, stdout=full, stderr=subprocess.PIPE, env=environment)
             assert (done.stderr, done.returncode) == (lines, 5)
         done = subprocess.run([*words, '-i'], input=HELLO, stdout=full, stderr=subprocess.PIPE, env=environment)
@@ -200,7 +206,7 @@ def test_what_is_printed_is_out_before_the_next_string_is_read(python_site):
 
 def test_an_interrupt_ends_the_program(python_site):
     running = subprocess.Popen([sys.executable, '-m', 'trac_t64', '--steps', '1000000000000'], stdin=subprocess.PIPE,
-                               stdout=subprocess.PIPE, stderr=subprocess.PIPE,
+                               stdout=subprocess.PIPE, stderr=subprocess.PIPE, preexec_fn=heed_interrupts,
                                env=python_package.environment(python_site))
     running.stdin.write(("#(ps,a)'" + LOOP).encode())
     running.stdin.flush()
@@ -235,6 +241,7 @@ class Terminal:
         import termios
         self.child, self.device = pty.fork()
         if self.child == 0:
+            heed_interrupts()
             os.execve(sys.executable, [sys.executable, '-m', 'trac_t64', '-i', *words],
                       python_package.environment(site, TERM='dumb', INPUTRC='/dev/null'))
         modes = termios.tcgetattr(self.device)

@@ -141,6 +141,12 @@ def test_what_can_stand_at_the_cursor(kernel, trac_t64):
         assert client.is_complete(code) and client.get_shell_msg(timeout=10)['content']['status'] == status
 
 
+def test_a_python_without_ipykernel(python_site):
+    script = "import sys\nsys.modules['ipykernel'] = None\n" \
+        'try: import trac_t64.kernel\nexcept ImportError as error: print(error)'
+    assert python_package.python(python_site, script).startswith('the kernel needs ipykernel')
+
+
 def outputs(path):
     """The sources and the outputs of the cells of a notebook."""
     with open(path, encoding='utf-8') as file:

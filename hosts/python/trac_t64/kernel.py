@@ -8,7 +8,6 @@ from __future__ import annotations
 
 import argparse
 import codecs
-import contextlib
 import html
 import json
 import os
@@ -18,15 +17,18 @@ import tempfile
 from collections.abc import Callable, Iterable, Sequence
 from typing import Any
 
-from IPython.core.error import StdinNotImplementedError
-from ipykernel.kernelapp import IPKernelApp
-from ipykernel.kernelbase import Kernel
-from jupyter_client.kernelspec import KernelSpecManager
-
 from ._engine import MOST_CELLS, VERSION
 from .functions import FUNCTIONS, names_a_form
 from .reading import Reading, fault_words, is_idle
 from .session import DEFAULT_CELLS, DEFAULT_STEPS, MOST_STEPS, Fate, Session, shown
+
+try:
+    from IPython.core.error import StdinNotImplementedError
+    from ipykernel.kernelapp import IPKernelApp
+    from ipykernel.kernelbase import Kernel
+    from jupyter_client.kernelspec import KernelSpecManager
+except ModuleNotFoundError as missing:
+    raise ImportError(f'the kernel needs ipykernel, and {missing.name} is missing') from None
 
 NAME = 'trac_t64'
 # The rows of a table of steps, where no other number is given.
@@ -280,7 +282,7 @@ class TracKernel(Kernel):
 def install(prefix: str | None, is_of_user: bool) -> str:
     """Puts the kernel where Jupyter finds it, and gives the folder."""
     spec = {
-        'argv': [sys.executable, '-m', 'trac_t64.kernel', '-f', '{connection_file}'],
+        'argv': [sys.executable, '-Xfrozen_modules=off', '-m', 'trac_t64.kernel', '-f', '{connection_file}'],
         'display_name': 'TRAC T-64', 'language': 'trac', 'interrupt_mode': 'signal',
     }
     with tempfile.TemporaryDirectory() as folder:
