@@ -187,6 +187,15 @@ def test_devices_that_fail(python_site):
     assert (done.stderr, done.returncode) == (line, 5)
 
 
+def test_an_input_that_is_closed_or_not_there_yet(command):
+    line = '<stdin>:1:1: input failed at step 9\n'
+    assert command(preexec_fn=lambda: os.close(0)) == (b'', line, 4)
+    reading, writing = os.pipe()
+    os.set_blocking(reading, False)
+    assert command(preexec_fn=lambda: os.dup2(reading, 0)) == (b'', line, 4)
+    os.close(reading), os.close(writing)
+
+
 def test_memory_that_is_refused(command):
     def limit():
         resource.setrlimit(resource.RLIMIT_AS, (100000000, 100000000))

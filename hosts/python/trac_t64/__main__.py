@@ -3,14 +3,13 @@ from __future__ import annotations
 
 import argparse
 import contextlib
-import errno
 import io
 import os
 import re
 import signal
 import sys
 from collections.abc import Callable, Iterator, Sequence
-from typing import Any, BinaryIO, NamedTuple, NoReturn
+from typing import Any, NamedTuple, NoReturn
 
 from ._engine import MOST_CELLS
 from .reading import Reading, fault_words, is_idle
@@ -88,18 +87,15 @@ def say(line: str) -> None:
 
 
 class Source:
-    """A script, and how far it was read."""
+    """A script, by what reads so many bytes of it at most, and how far it was read."""
 
-    def __init__(self, name: str, file: BinaryIO, line: int = 1) -> None:
-        self.name, self._file = name, file
+    def __init__(self, name: str, read: Callable[[int], bytes], line: int = 1) -> None:
+        self.name, self._read = name, read
         self._reading = Reading(line)
 
     def give_more(self, session: Session) -> None:
         """Reads once, and gives the session what there was, or the end of its input."""
-        data: bytes | None = self._file.read1(CHUNK)  # type: ignore[attr-defined]
-        if data is None:
-            raise BlockingIOError(errno.EAGAIN, os.strerror(errno.EAGAIN))
-        if data:
+        if data := self._read(CHUNK):
             self._reading.give(session, data)
         else:
             session.end(most=0)
@@ -115,9 +111,9 @@ def opened(name: str) -> Iterator[Source]:
     with open(name, 'rb') as file:
         if file.peek(2).startswith(b'#!'):
             file.readline()
-            yield Source(name, file, 2)
+            yield Source(name, file.read1, 2)
         else:
-            yield Source(name, file)
+            yield Source(name, file.read1)
 
 
 # ---- The run.
@@ -139,7 +135,7 @@ def need_of_read(session: Session) -> int:
 
 
 def play(session: Session, source: Source) -> Ending:
-    """Runs a script to its end. Each print is out before the next step."""
+    """Runs a script to its end. Each print is out before the next step, and so before the next read."""
     while True:
         try:
             for output in session.outputs():
@@ -167,6 +163,7 @@ def run_source(session: Session, source: Source, reports: bool) -> int:
 
 
 def run_file(session: Session, name: str, reports: bool) -> int:
+    """Runs the script in a file, and gives the status."""
     try:
         with opened(name) as source:
             return run_source(session, source, reports)
@@ -181,10 +178,9 @@ def run_all(session: Session, given: argparse.Namespace) -> int:
     for name in given.files:
         status = status or run_file(session, name, given.report)
     for script in given.scripts:
-        status = status or run_source(session, Source('-e', io.BytesIO(os.fsencode(script))), given.report)
+        status = status or run_source(session, Source('-e', io.BytesIO(os.fsencode(script)).read1), given.report)
     if not (given.files or given.scripts or given.stays):
-        with open(0, 'rb', closefd=False) as file:
-            status = run_source(session, Source('<stdin>', file), given.report)
+        status = run_source(session, Source('<stdin>', lambda most: os.read(0, most)), given.report)
     return status
 
 
@@ -279,6 +275,7 @@ def converse(session: Session) -> int:
 
 
 def perform(given: argparse.Namespace) -> int:
+    """Does what the words ask for, and gives the status."""
     cells = given.cells or DEFAULT_CELLS
     try:
         with Session(cells, given.steps or DEFAULT_STEPS) as session:

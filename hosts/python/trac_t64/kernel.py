@@ -205,7 +205,7 @@ class TracKernel(Kernel):
             session.end(most=0)
             return
         try:
-            line = self.raw_input().encode()
+            line = self.raw_input().encode(errors='replace')
         except StdinNotImplementedError:
             session.end(most=0)
         else:
@@ -215,7 +215,7 @@ class TracKernel(Kernel):
         """Runs a script that begins in this line of its cell."""
         session, reading = self._session, Reading(line)
         session.again(self._steps)
-        reading.give(session, script.encode())
+        reading.give(session, script.encode(errors='replace'))
         self._run_on(printer)
         while session.fate is Fate.WANTS_INPUT:
             self._give_more(reading)
