@@ -447,6 +447,18 @@ def test_types(python_site):
                         env={**os.environ, 'MYPYPATH': str(python_site)}, cwd='/')
 
 
+def test_the_types_of_the_machine_name_what_it_has(trac_t64):
+    machine = importlib.import_module('trac_t64._engine').Machine
+    with open(os.path.join(TOP, 'hosts', 'python', 'trac_t64', '_engine.pyi'), encoding='utf-8') as stub:
+        named = re.findall(r'^    def ([a-z]\w*)\(', stub.read(), re.MULTILINE)
+    assert sorted(named) == [name for name in dir(machine) if not name.startswith('_')]
+
+
+def test_the_examples_of_docstrings(python_site):
+    script = 'import doctest, trac_t64\nprint(doctest.testmod(trac_t64))'
+    assert python_package.python(python_site, script) == 'TestResults(failed=0, attempted=2)\n'
+
+
 def test_the_archive_and_the_wheel(python_site, tmp_path):
     sources = python_package.copy_sources(tmp_path / 'sources')
     python_package.call([sys.executable, '-m', 'build', '--no-isolation', '--outdir', tmp_path / 'dist', sources],
