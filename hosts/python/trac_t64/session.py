@@ -175,8 +175,8 @@ class Session:
     are independent of each other, but for copies: a session and its copies share one block, so only one
     of them can be in a turn.
 
-    ^C stops a turn between two steps, by KeyboardInterrupt, and so does want of memory by MemoryError. No
-    step is lost then or made twice: the next turn goes on, and gives what was printed before, too.
+    ^C stops a turn between two steps, by KeyboardInterrupt, and so does want of memory by MemoryError. The
+    next turn goes on from there, and gives what was printed before, too.
     """
 
     __slots__ = ('_machine', '_cells', '_steps')
