@@ -10,7 +10,6 @@ import signal
 import subprocess
 import sys
 import tempfile
-import time
 
 import pytest
 
@@ -257,22 +256,25 @@ class Terminal:
         modes[3] &= ~termios.ECHO
         termios.tcsetattr(self.device, termios.TCSANOW, modes)
 
-    def until(self, text):
-        """What is shown up to a text."""
-        seen, end = b'', time.monotonic() + 20
+    def until(self, text, again=b''):
+        """What is shown up to a text. Where nothing is shown for two seconds, something is typed again."""
+        seen, left = b'', 15
         while text not in seen:
-            assert select.select([self.device], [], [], max(0, end - time.monotonic()))[0], seen
-            seen += os.read(self.device, 4096)
+            if select.select([self.device], [], [], 2)[0]:
+                seen += os.read(self.device, 4096)
+            else:
+                self.type(again)
+                left -= 1
+                assert left, seen
         return seen
 
     def type(self, text):
         os.write(self.device, text)
 
     def interrupt(self):
-        """Types ^C, when what was typed before has begun."""
-        time.sleep(0.3)
+        """Types ^C; once more where it came just before the program waited for a line, which then goes on waiting."""
         self.type(b'\x03')
-        self.until(b'interrupted\r\n> ')
+        self.until(b'interrupted\r\n> ', b'\x03')
 
     def status(self):
         return os.waitstatus_to_exitcode(os.waitpid(self.child, 0)[1])
@@ -286,7 +288,8 @@ def test_a_session_at_a_terminal(python_site):
     terminal.type(b'#(ps,half\r')
     terminal.until(b'. ')
     terminal.interrupt()
-    terminal.type(LOOP.encode() + b'\r')
+    terminal.type(b"#(ps,begun)'" + LOOP.encode() + b'\r')
+    terminal.until(b'begun')
     terminal.interrupt()
     terminal.type(b"##(cl,A)#(rs)'\r")
     terminal.until(b'. ')

@@ -4,7 +4,6 @@ import json
 import os
 import subprocess
 import sys
-import time
 
 import pytest
 
@@ -110,13 +109,13 @@ def test_a_table_of_steps(kernel):
 def test_an_interrupt(kernel):
     manager, client = kernel
     run(kernel, "%reset\n%steps 1000000000000\n#(ds,A,kept)'")
-    asked = client.execute(FOREVER)
-    time.sleep(0.5)
+    asked = client.execute("#(ps,begun)'" + FOREVER, stop_on_error=False)
+    while client.get_iopub_msg(timeout=20)['msg_type'] != 'stream':
+        pass
     manager.interrupt_kernel()
-    while (reply := client.get_shell_msg(timeout=10))['parent_header']['msg_id'] != asked:
+    while (reply := client.get_shell_msg(timeout=20))['parent_header']['msg_id'] != asked:
         pass
     assert (reply['content']['status'], reply['content']['ename']) == ('error', 'interrupted')
-    time.sleep(0.3)
     assert run(kernel, "%steps 1000000\n#(cl,A)'") == ([('stream', 'kept')], 'ok')
 
 
