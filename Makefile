@@ -123,7 +123,8 @@ dist/npm/package.json: dist/trac.wasm dist/trac.mjs hosts/js/package.json hosts/
 # The package for Python, as an archive from which pip builds it.
 dist/trac_t64-$(VERSION).tar.gz: hosts/c/trac.h hosts/c/trac_engine.c hosts/python/*.* hosts/python/trac_t64/*.*
 	mkdir -p build dist
-	cd hosts/python && $(PYTHON) setup.py -q egg_info --egg-base ../../build sdist --dist-dir ../../build/python
+	top=$$(pwd) && cd hosts/python && \
+	    $(PYTHON) setup.py -q egg_info --egg-base "$$top/build" sdist --dist-dir "$$top/build/python"
 	mv build/python/trac?t64-$(VERSION).tar.gz $@
 
 ## make types      the types of the module for JavaScript, hosts/js/trac.d.mts, anew from its comments
