@@ -1,0 +1,242 @@
+/**
+ * Machines that walk through a run, and copies of them that are kept on the way. Nothing here touches
+ * the document.
+ * @module
+ */
+
+import { Session } from '../js/trac.mjs';
+import { stepsToCall } from './codes.js';
+
+/** For how many milliseconds work goes on before the page may do its other work. */
+export const SLICE = 24;
+
+/** Lets the page do its other work. */
+export function pause() {
+    return new Promise((resolve) => {
+        setTimeout(resolve);
+    });
+}
+
+const MOST_KEPT = 128;
+const KEPT_BYTES = 2 ** 27;
+const LEAST_APART = 4096;
+const MOST_AT_ONCE = 2 ** 22;
+// The front of an active string in which the next call is looked for.
+const LOOKED_AT = 64;
+// Numbers of 32 bits in a page of a block, of which those without a number but 0 aren't kept.
+const PAGE_WORDS = 16384;
+const NOTHING = new Uint8Array(0);
+// The neutral string where the idling procedure reads: #(ps,#(rs
+const READING = [256, 112, 115, 258, 256, 114, 115];
+
+/**
+ * The pages of a block that hold anything.
+ * @param {Uint8Array} block
+ */
+function pagesOf(block) {
+    const words = new Uint32Array(block.buffer, block.byteOffset, block.length / 4);
+    const pages = [];
+    for (let from = 0; from < words.length; from += PAGE_WORDS) {
+        const page = words.subarray(from, from + PAGE_WORDS);
+        if (page.some((word) => word !== 0)) pages.push({ from, page: page.slice() });
+    }
+    return pages;
+}
+
+/**
+ * The block of these pages.
+ * @param {{from: number, page: Uint32Array}[]} pages
+ * @param {number} length its bytes
+ */
+function blockOf(pages, length) {
+    const words = new Uint32Array(length / 4);
+    for (const { from, page } of pages) words.set(page, from);
+    return new Uint8Array(words.buffer);
+}
+
+/**
+ * How far a walker has come.
+ * @typedef {{step: number, consumed: number, printed: number, peak: number, fate: string}} Progress
+ */
+
+/**
+ * A machine that makes the steps of a run, over input of which it takes pieces as it wants them.
+ */
+export class Walker {
+    /**
+     * @param {Session} session
+     * @param {Uint8Array} input
+     */
+    constructor(session, input) {
+        this.session = session;
+        this.input = input;
+        /** @type {Progress} */
+        this.state = { step: 0, consumed: 0, printed: 0, peak: 0, fate: 'going' };
+        /**
+         * Called with each text that is printed.
+         * @type {(text: Uint8Array) => void}
+         */
+        this.onPrinted = () => {};
+        /**
+         * Called with the place of each string that the idling procedure has read.
+         * @type {(place: {step: number, from: number, to: number}) => void}
+         */
+        this.onString = () => {};
+    }
+
+    /** Whether the run is over here. */
+    get isOver() {
+        return this.state.fate !== 'going';
+    }
+
+    /**
+     * Makes so many steps, or those up to the end of the run.
+     * @param {number} most
+     */
+    advance(most) {
+        const goal = this.state.step + most;
+        while (this.state.step < goal) {
+            this.note(this.session.turn(NOTHING, { most: goal - this.state.step }));
+            if (this.state.fate !== 'wants input') return;
+            this.read();
+        }
+    }
+
+    /** How many steps there are up to a call, and whether there is one, as far as the front shows that. */
+    toCall() {
+        return stepsToCall(this.session.active(LOOKED_AT));
+    }
+
+    /** Makes the step that reads. */
+    read() {
+        const { consumed } = this.state;
+        const idles = this.isIdlingRead();
+        for (let size = 4096; ; size *= 8) {
+            const piece = this.input.subarray(consumed, consumed + size);
+            const ended = consumed + size >= this.input.length;
+            this.note(this.session.turn(piece, { ended, most: 1 }));
+            if (this.state.fate !== 'wants input') break;
+        }
+        if (idles && this.state.fate === 'going') {
+            this.onString({ step: this.state.step, from: consumed, to: this.state.consumed });
+        }
+    }
+
+    /** Whether the next step reads a string for the idling procedure. */
+    isIdlingRead() {
+        if (this.session.rule() !== 'end of call') return false;
+        const { neutral } = this.session.parts();
+        if (neutral !== READING.length) return false;
+        const codes = this.session.neutral();
+        return READING.every((code, place) => codes[place] === code);
+    }
+
+    /**
+     * Takes over what a turn came to.
+     * @param {import('../js/trac.mjs').TurnReport} told
+     */
+    note({ fate, steps, peak, output, consumed }) {
+        this.state.step = Number(steps);
+        this.state.peak = peak;
+        this.state.fate = fate;
+        this.state.consumed += consumed;
+        this.state.printed += output.length;
+        if (output.length) this.onPrinted(output);
+    }
+
+    /** All that it takes to come back here. */
+    save() {
+        const { block, ...machine } = this.session.save();
+        const pages = block && pagesOf(block);
+        const bytes = pages ? pages.reduce((sum, { page }) => sum + page.byteLength, 0) : 0;
+        return { state: { ...this.state }, machine, pages, length: block ? block.length : 0, bytes };
+    }
+
+    /** @param {ReturnType<Walker['save']>} saved */
+    restore({ state, machine, pages, length }) {
+        this.session.restore({ ...machine, block: pages && blockOf(pages, length) });
+        this.state = { ...state };
+    }
+}
+
+/** How many steps a machine makes at once, so that it looks at the clock often enough. */
+export class Pace {
+    constructor() {
+        this.steps = 1000;
+    }
+
+    /**
+     * Makes steps up to a goal, or to the end of the run, or until the time is up.
+     * @param {Walker} walker
+     * @param {number} goal
+     * @param {number} until a time of `performance.now`
+     */
+    advance(walker, goal, until) {
+        while (walker.state.step < goal && !walker.isOver && performance.now() < until) {
+            const start = performance.now();
+            const most = Math.min(this.steps, goal - walker.state.step);
+            walker.advance(most);
+            this.fit(performance.now() - start, most === this.steps);
+        }
+    }
+
+    /**
+     * @param {number} took milliseconds
+     * @param {boolean} isWhole whether as many steps were made as may be
+     */
+    fit(took, isWhole) {
+        if (took > 8) this.steps = Math.max(1, Math.floor(this.steps / 4));
+        else if (took < 2 && isWhole) this.steps = Math.min(MOST_AT_ONCE, this.steps * 2);
+    }
+}
+
+/**
+ * Machines that are kept while a run goes on: about as far from each other, and thinned where they
+ * become too many.
+ */
+export class Kept {
+    /**
+     * @param {ReturnType<Walker['save']>} first the machine at step 0
+     * @param {number} cells
+     */
+    constructor(first, cells) {
+        this.all = [first];
+        this.bytes = 0;
+        this.apart = Math.max(LEAST_APART, Math.ceil(cells / 8));
+    }
+
+    /** The step at which the next one is to be kept. */
+    get due() {
+        return this.all[this.all.length - 1].state.step + this.apart;
+    }
+
+    /** @param {ReturnType<Walker['save']>} saved */
+    add(saved) {
+        this.all.push(saved);
+        this.bytes += saved.bytes;
+        while ((this.all.length > MOST_KEPT || this.bytes > KEPT_BYTES) && this.all.length > 2) {
+            this.thin();
+        }
+    }
+
+    /** Lets go of each second one. */
+    thin() {
+        this.all = this.all.filter((_, index) => index % 2 === 0);
+        this.bytes = this.all.reduce((sum, { bytes }) => sum + bytes, 0);
+        this.apart *= 2;
+    }
+
+    /**
+     * The last one that isn't behind a step.
+     * @param {number} step
+     */
+    before(step) {
+        let [low, high] = [0, this.all.length];
+        while (high - low > 1) {
+            const middle = (low + high) >> 1;
+            if (this.all[middle].state.step <= step) low = middle;
+            else high = middle;
+        }
+        return this.all[low];
+    }
+}
