@@ -121,7 +121,8 @@ class Box {
         this.scrollUnder();
     }
 
-    draw() {
+    /** @param {boolean} [isWhole] whether the sheet shows a long text too, as it does on paper */
+    draw(isWhole = false) {
         const { text, part } = this;
         const isColoured = text.length <= MOST_COLOURED;
         this.parens.clear();
@@ -131,7 +132,7 @@ class Box {
         const pieces = isColoured ? null : [text.slice(0, from), text.slice(from, to), text.slice(to)];
         const [front, middle, back] = pieces?.map((each) => [each]) ?? cut(parts, from, to);
         const marked = part ? [element('mark', part.isFault ? 'fault' : '', ...middle)] : middle;
-        if (isColoured || part) this.sheet.replaceChildren(...front, ...marked, ...back, '\n');
+        if (isColoured || part || isWhole) this.sheet.replaceChildren(...front, ...marked, ...back, '\n');
         else this.sheet.replaceChildren();
         this.showPair();
         this.scrollUnder();
@@ -211,6 +212,11 @@ export class Boxes {
     /** @returns {Texts} */
     get texts() {
         return { script: this.boxes.script.text, input: this.boxes.input.text };
+    }
+
+    /** @param {boolean} isWhole */
+    drawWhole(isWhole) {
+        for (const box of Object.values(this.boxes)) box.draw(isWhole);
     }
 
     /** Takes note of another text. */

@@ -42,7 +42,8 @@ export const RULES = {
 };
 
 const LONGEST_RUN = 4096;
-const MOST_IN_LINE = 400;
+/** Of how many characters a line is made at most. */
+export const MOST_IN_LINE = 400;
 const NAMED = new Map([[9, '\\t'], [10, '\\n'], [13, '\\r']]);
 const HIDDEN = /[\p{Cc}\p{Cf}\p{Co}\p{Cn}\p{Cs}\p{Zl}\p{Zp}]/u;
 const decoder = new TextDecoder('utf-8', { fatal: true, ignoreBOM: true });

@@ -58,7 +58,9 @@ function isSame(one, other) {
  * @param {import('./codes.js').Codes} other
  */
 function isSameRow(one, other) {
-    return one.length === other.length && one.every((code, at) => code === other[at]);
+    let at = 0;
+    while (at < one.length && one[at] === other[at]) at += 1;
+    return at === one.length && at === other.length;
 }
 
 /**
@@ -85,6 +87,8 @@ export class FormsView {
         /** @type {Set<number>} */
         this.changed = new Set();
         this.from = 0;
+        /** Whether all of them are drawn, as on paper. */
+        this.isWhole = false;
         /** @type {Map<number, number>} of which place so many items are shown, where they were asked for */
         this.asked = new Map();
         find('forms-before').addEventListener('click', () => this.turn(-MOST_SHOWN));
@@ -136,8 +140,9 @@ export class FormsView {
     draw() {
         const { forms } = this;
         this.from = Math.max(0, Math.min(this.from, Math.floor((forms.length - 1) / MOST_SHOWN) * MOST_SHOWN));
-        const part = forms.slice(this.from, this.from + MOST_SHOWN);
-        const inside = part.flatMap((form, index) => this.entry(form, this.from + index));
+        const start = this.isWhole ? 0 : this.from;
+        const part = this.isWhole ? forms : forms.slice(start, start + MOST_SHOWN);
+        const inside = part.flatMap((form, index) => this.entry(form, start + index));
         if (!forms.length) inside.push(element('dt', 'nothing', 'none'));
         this.list.replaceChildren(...inside);
         find('forms-turn').hidden = forms.length <= MOST_SHOWN;
@@ -169,8 +174,8 @@ export class FormsView {
      * @param {number} place
      */
     body(items, pointer, place) {
-        const most = this.asked.get(place) ?? MOST_ITEMS;
-        const from = Math.max(0, Math.min(pointer - Math.floor(most / 2), items.length - most));
+        const most = this.isWhole ? Infinity : this.asked.get(place) ?? MOST_ITEMS;
+        const from = Math.max(0, Math.min(pointer - most / 2, items.length - most));
         const to = Math.min(items.length, from + most);
         const more = (/** @type {number} */ count) => button(`… ${several(count, 'item')} more`, () => {
             this.asked.set(place, most * 8);

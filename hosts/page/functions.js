@@ -3,7 +3,7 @@
  * @module
  */
 
-import { shortName } from './codes.js';
+import { MOST_IN_LINE, shortName } from './codes.js';
 
 /**
  * A text as it is quoted in a sentence.
@@ -31,7 +31,8 @@ const form = (name) => `the form ${quoted(name)}`;
  * @param {string} [second]
  */
 function chosen(value, first = '', second = '') {
-    if (value === null) return null;
+    const isCut = [value, first, second].some((text) => text && text.length > MOST_IN_LINE);
+    if (value === null || isCut) return null;
     if (first === second) return 'either';
     return { [first]: 'fourth', [second]: 'fifth' }[value] ?? null;
 }

@@ -127,13 +127,17 @@ class Printings {
 }
 
 /**
- * A call that a step performed.
- * @typedef {object} Performed
+ * A call that a step performs.
+ * @typedef {object} Call
  * @property {number} mark its mark in the neutral string
- * @property {number} place where that stood
+ * @property {number} place where that stands
  * @property {string[]} words its arguments, the name of the function first
- * @property {number} active how many characters the active string had
- * @property {import('../js/trac.mjs').StoredForm[] | null} forms the forms before, if it may change one
+ * @property {number} active how many characters the active string has
+ */
+
+/**
+ * A call that was performed, and the forms before, if it may have changed one.
+ * @typedef {Call & {forms: import('../js/trac.mjs').StoredForm[] | null}} Performed
  */
 
 /**
@@ -314,32 +318,36 @@ export class History {
         if (this.near.length > MOST_NEAR) this.near.shift();
     }
 
-    /** Notes what the next step performs, if it is a call. */
-    notePerformed() {
+    /** The call that the next step performs, or null. */
+    coming() {
         const { machine } = this;
+        if (machine.rule() !== 'end of call') return null;
+        const call = innermostCall(machine.neutral());
+        return call && { ...call, active: machine.parts().active };
+    }
+
+    /** Notes what the next step performs, if it is a call, and the forms that it may change. */
+    notePerformed() {
+        const call = this.coming();
         this.noted = this.step + 1;
-        this.performed = null;
-        if (machine.rule() !== 'end of call') return;
-        const codes = machine.neutral();
-        const call = innermostCall(codes);
-        if (!call) return;
-        const forms = changesForms(call.words[0]) ? machine.forms() : null;
-        this.performed = { ...call, forms, active: machine.parts().active };
+        this.performed = call && {
+            ...call, forms: changesForms(call.words[0]) ? this.machine.forms() : null,
+        };
     }
 
     /**
-     * What the call gave that the last step performed, or null where it performed none that is over.
+     * What a call gave that the last step performed, or null where it performed none that is over.
+     * @param {Call | null} [call]
      * @returns {Value | null}
      */
-    value() {
-        const { performed, machine } = this;
-        if (!performed || !GIVES_VALUES.has(this.shown.state.fate)) return null;
-        const grown = machine.parts().active - (performed.active - 1);
-        if (grown > 0 || performed.mark === ACTIVE_CALL) {
-            return { isActive: true, codes: machine.active(grown), words: performed.words };
+    value(call = this.performed) {
+        if (!call || !GIVES_VALUES.has(this.shown.state.fate)) return null;
+        const { machine } = this;
+        const grown = machine.parts().active - (call.active - 1);
+        if (grown > 0 || call.mark === ACTIVE_CALL) {
+            return { isActive: true, codes: machine.active(grown), words: call.words };
         }
-        const codes = machine.neutral().subarray(performed.place);
-        return { isActive: false, codes, words: performed.words };
+        return { isActive: false, codes: machine.neutral().subarray(call.place), words: call.words };
     }
 
     /**
@@ -349,13 +357,8 @@ export class History {
      */
     comingValue() {
         if (this.limits.cells > MOST_PEEKED || this.step >= this.end.step) return null;
-        const [before, noted, performed] = [this.shown.save(), this.noted, this.performed];
-        this.notePerformed();
-        this.shown.advance(1);
-        const value = this.value();
-        this.shown.restore(before);
-        [this.noted, this.performed] = [noted, performed];
-        return value;
+        const call = this.coming();
+        return this.shown.attempt(() => this.value(call));
     }
 
     /** The step that is looked at: so many steps are done. */

@@ -144,6 +144,21 @@ export class Walker {
         if (output.length) this.onPrinted(output);
     }
 
+    /**
+     * What there is to see after one more step, which is taken back.
+     * @template T
+     * @param {() => T} see
+     * @returns {T}
+     */
+    attempt(see) {
+        const [machine, state] = [this.session.save(), { ...this.state }];
+        this.advance(1);
+        const seen = see();
+        this.session.restore(machine);
+        this.state = state;
+        return seen;
+    }
+
     /** All that it takes to come back here. */
     save() {
         const { block, ...machine } = this.session.save();

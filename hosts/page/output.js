@@ -15,6 +15,8 @@ export class OutputView {
         this.box = find('output');
         this.bytes = new Uint8Array(0);
         this.from = 0;
+        /** Whether all of it is drawn, as on paper. */
+        this.isWhole = false;
         /** How many bytes are printed so far. */
         this.printed = 0;
         /** @type {string[]} */
@@ -72,8 +74,8 @@ export class OutputView {
     }
 
     draw() {
-        const start = this.from ? this.endOf(this.from - 1) : 0;
-        const end = this.endOf(this.from + MOST_PIECES - 1);
+        const start = this.from && !this.isWhole ? this.endOf(this.from - 1) : 0;
+        const end = this.isWhole ? this.bytes.length : this.endOf(this.from + MOST_PIECES - 1);
         const now = Math.max(start, Math.min(this.printed, end));
         const done = this.nodes(start, now);
         const later = element('span', 'later', ...this.nodes(now, end));

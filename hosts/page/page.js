@@ -147,7 +147,8 @@ class Page {
         find('main').setAttribute('aria-busy', String(isRunning));
         find('stop').hidden = !isRunning;
         for (const id of ['run', 'through']) find(id).setAttribute('aria-disabled', String(isRunning));
-        find('machine').hidden = !this.run;
+        find('machine').setAttribute('aria-busy', String(isRunning));
+        if (!isRunning) find('machine').hidden = !this.run;
         for (const id of ['machine', 'printed']) find(id).classList.toggle('stale', state.kind === 'stale');
         find('stale').hidden = state.kind !== 'stale';
         find('saves').hidden = !this.run;
@@ -225,8 +226,15 @@ class Page {
         this.tree.open(run.history, run.input);
         this.marked = '';
         this.stepper.open(run.history, step ?? run.history.end.step);
+        if (step !== null) this.bringMachine();
         this.showFate(run);
         this.lessons.check(plainText(run.output));
+    }
+
+    /** Scrolls to the steps where they are not in view, as below the script on a phone. */
+    bringMachine() {
+        const { top } = find('machine').getBoundingClientRect();
+        if (top < 0 || top > window.innerHeight / 2) find('machine').scrollIntoView();
     }
 
     /**
@@ -358,7 +366,22 @@ class Page {
             if (event.isTrusted && document.activeElement === find('script')) find('example').value = '';
         });
         document.addEventListener('keydown', (event) => this.onKey(event));
+        for (const [name, isWhole] of /** @type {const} */ ([['beforeprint', true], ['afterprint', false]])) {
+            window.addEventListener(name, () => this.drawWhole(isWhole));
+        }
         window.addEventListener('hashchange', () => this.fromLink());
+    }
+
+    /**
+     * Draws what is long in whole, for a hand-out, or again in part.
+     * @param {boolean} isWhole
+     */
+    drawWhole(isWhole) {
+        this.boxes.drawWhole(isWhole);
+        for (const part of [this.view.output, this.view.forms]) {
+            part.isWhole = isWhole;
+            part.draw();
+        }
     }
 
     /** Fills the boxes for the first time. */

@@ -68,8 +68,8 @@ function valueWords(value) {
     if (!value.codes.length) return `${name} gave the null text.`;
     const text = shortName(lineOf(value.codes));
     return value.isActive
-        ? `${name} gave “${text}” as an active value: it stands in front of the active string.`
-        : `${name} gave “${text}” as a neutral value: it stands at the end of the neutral string.`;
+        ? `${name} gave “${text}”: active, to be scanned again.`
+        : `${name} gave “${text}”: neutral, not scanned again.`;
 }
 
 /**
