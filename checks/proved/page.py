@@ -105,7 +105,7 @@ class Page(unittest.TestCase):
     def is_at_rest(self):
         """Whether the page runs nothing and goes to no step."""
         return self.script("return ['main', 'machine'].every("
-                           "(id) => document.getElementById(id).ariaBusy === 'false')")
+                           "(id) => document.getElementById(id).ariaBusy !== 'true')")
 
     def is_on(self, name):
         """Whether a control can be used now."""

@@ -21,11 +21,11 @@ function withCode(text) {
 }
 
 /**
- * An output without a line feed at its end, which has no meaning.
+ * An output without line feeds at its ends, which have no meaning.
  * @param {string} text
  */
 function trimmed(text) {
-    return text.replace(/\n$/, '');
+    return text.replace(/^\n+|\n+$/g, '');
 }
 
 /**
