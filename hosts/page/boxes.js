@@ -85,7 +85,7 @@ class Box {
     }
 
     /**
-     * Puts a text into the box, so that the browser's own undo brings the former one back.
+     * Puts a text into the box, so that the browser's own undo brings the former one back; it tells of each line.
      * @param {string} text
      */
     put(text) {
@@ -203,7 +203,10 @@ export class Boxes {
         this.aside = [];
         /** @type {Texts} */
         this.filled = { script: '', input: '' };
-        for (const box of Object.values(this.boxes)) box.box.addEventListener('input', () => this.changed());
+        this.isFilling = false;
+        for (const { box } of Object.values(this.boxes)) {
+            box.addEventListener('input', () => this.isFilling || this.changed());
+        }
         for (const name of ['cells', 'steps']) find(name).addEventListener('input', () => this.save());
         find('bring-back').addEventListener('click', () => this.bringBack());
         window.addEventListener('pagehide', () => this.save());
@@ -238,8 +241,10 @@ export class Boxes {
         if (isTyped && isOther && (script || input)) this.putAside({ script, input });
         this.filled = texts;
         find('more').open = texts.input !== '' || find('more').open;
+        this.isFilling = true;
         this.boxes.script.put(texts.script);
         this.boxes.input.put(texts.input);
+        this.isFilling = false;
         this.filled = this.texts;
         this.changed();
         find('more').open = texts.input !== '';
