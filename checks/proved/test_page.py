@@ -261,6 +261,9 @@ class Safety(Page):
         self.assertEqual([place for place in asked if place != 'about:blank'], [PLACE])
         self.assertEqual(self.script("return performance.getEntriesByType('resource').length"), 0)
 
+    def test_its_size(self):
+        self.assertLess(os.path.getsize(page.PAGE), 400000)
+
     def test_its_policy(self):
         broken = browser.execute_async_script("""
             const done = arguments[0];

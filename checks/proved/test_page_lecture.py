@@ -1,9 +1,9 @@
 """dist/trac.html in a lecture: what is shown belongs to the script, nothing typed is lost, long runs and long
 texts are as quick as short ones, and one can jump, play, link, save and exercise."""
 import base64
-import json
 import os
 import re
+import sys
 import tempfile
 import unittest
 
@@ -11,7 +11,10 @@ import page
 from page import LOOP, PLACE, By, Page, example
 from selenium.webdriver.common.keys import Keys
 from test_trace import rows as traced
-from trac import TOP, report, run, trace
+from trac import TOP, run, trace
+
+sys.path.insert(0, os.path.join(TOP, 'hosts', 'page'))
+import make  # noqa: E402
 
 FAULTY = ''.join(f"#(ds,row {k},(line {k}))'\n" for k in range(300)) + "#(ds,a,(#(cl,a)b))#(cl,a)'\n"
 ENDLESS = "#(ds,a,(#(cl,a)))#(cl,a)'"
@@ -344,7 +347,8 @@ class Steps(Lecture):
         self.assertLessEqual(printed - read, 10)
 
     def test_the_lesson(self):
-        lesson = json.load(open(os.path.join(TOP, 'hosts', 'page', 'lesson.json'), encoding='utf-8'))
+        lesson = list(make.lesson())
+        self.assertEqual(len(lesson), 7)
         options = self.find('example').find_elements(By.CSS_SELECTOR, 'optgroup:nth-child(2) option')
         self.assertEqual([option.text for option in options], [each['name'] for each in lesson])
         for each in lesson:
@@ -565,7 +569,8 @@ class Study(Lecture):
         self.put('script', "#(ps,Hello)'")
         self.run_it()
         self.assertEqual(self.text('verdict'), 'Not yet: line 1 of the output is another one.')
-        names = self.script("return [...document.getElementById('exercise').options].slice(1).map(({ text }) => text)")
+        names = self.script("return [...document.getElementById('exercise').options].slice(1)"
+                            '.map(({ text }) => text)')
         self.assertEqual(len(names), 20)
         for name in names:
             with self.subTest(exercise=name):
@@ -599,7 +604,8 @@ class Eyes(Lecture):
             {'name': name.replace('_', '-'), 'value': value} for name, value in features.items()]})
 
     def look(self, selector, name):
-        return self.script('return getComputedStyle(document.querySelector(arguments[0]))[arguments[1]]', selector, name)
+        return self.script(
+            'return getComputedStyle(document.querySelector(arguments[0]))[arguments[1]]', selector, name)
 
     def test_contrast_of_marks(self):
         for scheme in ('light', 'dark'):

@@ -38,7 +38,8 @@ export function readLink() {
     const words = new URLSearchParams(window.location.hash.slice(1));
     if (!words.has('script')) return null;
     const [script, input] = ['script', 'input'].map((name) => textOfBytes(unpacked(words.get(name) ?? '')));
-    const number = (/** @type {string} */ name) => (/^[0-9]{1,13}$/.test(words.get(name) ?? '') ? words.get(name) : null);
+    const number = (/** @type {string} */ name) => (
+        /^[0-9]{1,13}$/.test(words.get(name) ?? '') ? words.get(name) : null);
     /** @type {Record<string, string>} */
     const limits = {};
     for (const name of ['cells', 'steps']) if (number(name)) limits[name] = number(name);

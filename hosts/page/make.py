@@ -43,6 +43,14 @@ def examples():
             yield {'name': os.path.basename(path)[:-5], 'script': file.read()}
 
 
+def lesson():
+    """The scripts of lesson.md: each with its sentence and what it prints."""
+    for name, says, script, output in re.findall(
+            r'^### ([^\n]*)\n\n(.*?)\n\n```trac\n(.*?)\n```\n```output\n(.*?)\n```$',
+            read('hosts', 'page', 'lesson.md'), re.MULTILINE | re.DOTALL):
+        yield {'name': name, 'says': says.replace('\n', ' '), 'script': script, 'output': output}
+
+
 def exercises():
     """The exercises of docs/EXERCISES.md: each with its words, its input and what is to be printed."""
     for name, text in re.findall(r'^### (\d+\. [^\n]*)\n(.*?)(?=^##)', read('docs', 'EXERCISES.md') + '##',
@@ -66,8 +74,8 @@ def functions():
 
 def lessons():
     """All that there is to try, as JSON that can stand in an element."""
-    found = {'lesson': json.loads(read('hosts', 'page', 'lesson.json')), 'examples': list(examples()),
-             'exercises': list(exercises()), 'functions': list(functions())}
+    found = {'lesson': list(lesson()), 'examples': list(examples()), 'exercises': list(exercises()),
+             'functions': list(functions())}
     return json.dumps(found, ensure_ascii=False).replace('<', '\\u003c')
 
 
