@@ -94,7 +94,7 @@ class States(Lecture):
         self.put('steps', '1000000000000')
         self.put('script', ENDLESS)
         self.script("document.getElementById('run').click(); document.getElementById('stop').click()")
-        self.wait(self.is_at_rest)
+        self.wait(self.is_at_rest, 10)
         self.assertTrue(self.text('fate').startswith('Stopped by you.'))
 
     def test_no_webassembly(self):
