@@ -270,7 +270,7 @@ class Long(Lecture):
 
     def test_a_hundred_thousand_characters(self):
         text = 'x' * 100000
-        for script in (f"#(ps,({text}))'", f"#(ds,f,({text}))#(ps,##(cl,f))#(ps,done)'"):
+        for script in (f"#(ps,abcdefghijklmnop)#(ps,({text}))'", f"#(ds,f,({text}))#(ps,##(cl,f))#(ps,done)'"):
             self.run_script(script, '', 400000)
             last = self.steps()[1]
             for place in (12, last - 16):
@@ -422,6 +422,12 @@ class Steps(Lecture):
             self.assertEqual(self.steps()[0], here)
         self.jump('step', '17')
         self.assertEqual(self.steps()[0], 17)
+
+    def test_a_change_right_behind_a_call_that_changes_nothing(self):
+        self.through("#(ds,a,y)#(ds,b,#(ds,a,y))'")
+        for name in ('a', 'b'):
+            self.jump('change')
+            self.assertEqual(self.script("return document.querySelector('#forms .changed').textContent[0]"), name)
 
     def test_the_end_of_a_call(self):
         self.through("#(ps,#(ad,1,#(su,5,3)))'")

@@ -98,6 +98,7 @@ export class Lessons {
      * @param {string} name
      */
     choose(name) {
+        this.set('');
         this.leave();
         const chosen = [...this.lesson, ...this.examples].find((example) => example.name === name);
         if (chosen) this.fill({ script: chosen.script, input: '' });
@@ -117,6 +118,7 @@ export class Lessons {
      */
     set(name) {
         this.exercise = this.exercises.find((exercise) => exercise.name === name) ?? null;
+        find('exercise').value = name;
         find('task').hidden = !this.exercise;
         find('verdict').textContent = '';
         if (!this.exercise) return;

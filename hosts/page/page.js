@@ -147,11 +147,14 @@ class Page {
         find('main').setAttribute('aria-busy', String(isRunning));
         find('stop').hidden = !isRunning;
         for (const id of ['run', 'through']) find(id).setAttribute('aria-disabled', String(isRunning));
-        find('machine').setAttribute('aria-busy', String(isRunning));
-        if (!isRunning) find('machine').hidden = !this.run;
-        for (const id of ['machine', 'printed']) find(id).classList.toggle('stale', state.kind === 'stale');
+        // how far a run is gone is not said aloud, but how it ends
+        find('fate').setAttribute('aria-live', isRunning ? 'off' : 'polite');
+        for (const id of ['machine', 'printed']) {
+            find(id).setAttribute('aria-busy', String(isRunning));
+            find(id).classList.toggle('stale', state.kind === 'stale');
+        }
         find('stale').hidden = state.kind !== 'stale';
-        find('saves').hidden = !this.run;
+        if (!isRunning) for (const id of ['machine', 'saves']) find(id).hidden = !this.run;
         if (wasStopped) find('run').focus();
     }
 
@@ -179,18 +182,17 @@ class Page {
             await this.make(limits, stopping.signal, step);
         } catch (error) {
             this.become({ kind: 'idle' });
+            this.view.output.forget();
             find('fate').textContent = error instanceof RangeError
                 ? 'This browser can’t give the memory for so many cells.' : String(error);
         }
     }
 
-    /** Takes away what is shown of a run. */
+    /** Leaves the run that is shown. */
     leave() {
         this.stepper.close();
         this.tree.close();
         this.boxes.mark(null);
-        this.view.output.forget();
-        this.lessons.check('');
         find('verdict').textContent = '';
         find('place').hidden = true;
         find('fate').className = '';
@@ -357,14 +359,12 @@ class Page {
             place: () => this.selectPlace(),
             open: () => find('file').click(),
             save: () => saveFile('script.trac', bytesOfText(this.boxes.texts.script)),
-            'save-output': () => saveFile('output.txt', this.run.output),
+            'save-output': () => this.run && saveFile('output.txt', this.run.output),
             'save-trace': () => this.saveTrace(),
         };
         for (const [id, act] of Object.entries(acts)) find(id).addEventListener('click', act);
         find('file').addEventListener('change', () => this.open());
-        find('script').addEventListener('input', (/** @type {Event} */ event) => {
-            if (event.isTrusted && document.activeElement === find('script')) find('example').value = '';
-        });
+        find('script').addEventListener('input', () => this.boxes.isFilling || this.lessons.leave());
         document.addEventListener('keydown', (event) => this.onKey(event));
         for (const [name, isWhole] of /** @type {const} */ ([['beforeprint', true], ['afterprint', false]])) {
             window.addEventListener(name, () => this.drawWhole(isWhole));

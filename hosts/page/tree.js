@@ -12,7 +12,7 @@ const AROUND = 30;
 
 /**
  * @typedef {{step: number, depth: number, words: string[], isNeutral: boolean, value: string}} Row
- * @typedef {{row: Row, inner: Node_[]}} Node_
+ * @typedef {{row: Row, inner: Tree[]}} Tree
  */
 
 /**
@@ -21,7 +21,7 @@ const AROUND = 30;
  * @param {Row[]} rows
  */
 function nested(rows) {
-    /** @type {Node_[]} */
+    /** @type {Tree[]} */
     const trees = [];
     for (const row of rows) {
         let from = trees.length;
@@ -146,7 +146,7 @@ export class CallTree {
     }
 
     /**
-     * @param {Node_} tree
+     * @param {Tree} tree
      * @returns {HTMLElement}
      */
     item({ row, inner }) {
