@@ -33,15 +33,16 @@ CODES = """
 """
 
 
-def start():
-    """Opens a browser for the tests of a file."""
+def start(watches=False):
+    """Opens a browser for the tests of a file; one that is watched logs what it asks for."""
     global browser
     make('dist/trac.html')
     options = webdriver.ChromeOptions()
     options.binary_location = '/usr/bin/chromium'
     for word in ('--headless=new', '--no-sandbox', '--disable-gpu', '--disable-dev-shm-usage'):
         options.add_argument(word)
-    options.set_capability('goog:loggingPrefs', {'browser': 'ALL', 'performance': 'ALL'})
+    logs = {'browser': 'ALL', 'performance': 'ALL'} if watches else {'browser': 'ALL'}
+    options.set_capability('goog:loggingPrefs', logs)
     service = webdriver.chrome.service.Service('/usr/bin/chromedriver')
     browser = webdriver.Chrome(service=service, options=options)
     browser.set_script_timeout(300)

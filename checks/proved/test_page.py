@@ -40,7 +40,7 @@ CONTRAST = """
 
 def setUpModule():
     global browser
-    browser = page.start()
+    browser = page.start(watches=True)
 
 
 class Runs(Page):
@@ -349,9 +349,9 @@ class Hands(Page):
             met.append(at.get_attribute('id') or at.tag_name)
             at.send_keys(Keys.TAB)
         wanted = ['script', 'summary', 'through', 'run', 'summary', 'cells', 'steps', 'link', 'open', 'save',
-                  'output', 'save-output', 'save-trace', 'summary', 'summary', 'first', 'call-back', 'back', 'step',
-                  'call-step', 'last', 'neutral', 'active', 'slider', 'calls', 'jump', 'jump-go', 'play', 'speed',
-                  'pace', 'stop-at', 'forms', 'summary', 'summary']
+                  'output', 'save-output', 'save-trace', 'summary', 'summary', 'slider', 'first', 'call-back', 'back',
+                  'step', 'call-step', 'last', 'neutral', 'active', 'forms', 'calls', 'jump', 'jump-go', 'play',
+                  'speed', 'pace', 'stop-at', 'summary', 'summary']
         self.assertEqual(met[:len(wanted)], wanted)
 
     def test_names(self):

@@ -258,6 +258,31 @@ class Long(Lecture):
         self.press('call-back')
         self.assertEqual(self.steps()[0], there)
 
+    GAP = """
+        const done = arguments[0];
+        let [gap, last] = [0, performance.now()];
+        const tick = () => {
+            const now = performance.now();
+            [gap, last] = [Math.max(gap, now - last), now];
+            if (document.getElementById('main').ariaBusy === 'true') setTimeout(tick);
+            else done(gap);
+        };
+        document.getElementById('run').click();
+        tick();
+    """
+
+    def test_steps_that_take_long_behind_quick_ones(self):
+        heavy = "#(ds,f,({}))#(ds,m,(#(eq,##(cl,f),##(cl,f))#(gr,N,0,(#(cl,m,#(su,N,1))))))#(ss,m,N)#(cl,m,1000)'"
+        for name, value in (('script', LOOP.format(50000)[:-1] + heavy.format('x' * 200000)), ('cells', 1000000),
+                            ('steps', 100000000)):
+            self.put(name, value)
+        gaps = []
+        while len(gaps) < 4 and not (gaps and gaps[-1] < 100):
+            gaps.append(browser.execute_async_script(self.GAP))
+        self.assertLess(min(gaps), 100)
+        self.wait(self.is_at_rest)
+        self.assertEqual(self.steps()[1], 2066483)
+
     def test_the_same_at_a_step_from_either_side(self):
         self.run_script(LOOP.format(3000000), '', 65536, 20000000)
         for step in (12345678, 19000001):

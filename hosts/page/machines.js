@@ -20,7 +20,8 @@ export function pause() {
 const MOST_KEPT = 128;
 const KEPT_BYTES = 2 ** 27;
 const LEAST_APART = 4096;
-const MOST_AT_ONCE = 2 ** 22;
+// A step over long texts can take a thousand times as long as the one before.
+const MOST_AT_ONCE = 1024;
 // The front of an active string in which the next call is looked for.
 const LOOKED_AT = 64;
 // Numbers of 32 bits in a page of a block, of which those without a number but 0 aren't kept.
@@ -177,7 +178,7 @@ export class Walker {
 /** How many steps a machine makes at once, so that it looks at the clock often enough. */
 export class Pace {
     constructor() {
-        this.steps = 1000;
+        this.steps = MOST_AT_ONCE;
     }
 
     /**
