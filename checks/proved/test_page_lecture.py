@@ -157,6 +157,10 @@ class Kept(Lecture):
         self.assertEqual(self.value('script'), text)
 
     def test_reload(self):
+        self.choose('4 Gaps')
+        self.open(PLACE, keeps=True)
+        self.assertEqual(self.value('example'), '4 Gaps')
+        self.assertTrue(self.text('says').startswith('ss makes'))
         self.type('typed')
         self.put('input', "more'")
         texts = self.value('script'), self.value('input')
@@ -559,6 +563,15 @@ class Files(Lecture):
         link = browser.current_url
         self.open(link)
         self.wait(self.is_at_rest)
+        self.assertEqual(self.saved('save', 'script.trac'), script)
+
+    def test_many_odd_bytes(self):
+        script = b"#(ps,(" + bytes(byte for byte in range(256) if byte not in b"'()") * 40 + b"))'"
+        path = os.path.join(self.folder.name, 'odd.trac')
+        with open(path, 'wb') as file:
+            file.write(script)
+        self.find('file').send_keys(path)
+        self.wait(lambda: 'opened' in self.text('told'))
         self.assertEqual(self.saved('save', 'script.trac'), script)
 
     def test_the_trace(self):

@@ -9,6 +9,7 @@ import { depthClass, element, find } from './dom.js';
 
 const MOST_COLOURED = 20000;
 const MOST_ASIDE = 20;
+const PIECE_READ = 256;
 const STORE = 'trac-t64-page';
 const strict = new TextDecoder('utf-8', { fatal: true, ignoreBOM: true });
 
@@ -55,10 +56,26 @@ function wholeText(bytes) {
 }
 
 /**
- * The characters of bytes, and each byte that is part of none.
+ * Bytes in pieces that cut no character: those in UTF-8 at once, others by their characters.
  * @param {Uint8Array} bytes
  */
 function* partsOf(bytes) {
+    for (let from = 0; from < bytes.length;) {
+        let to = Math.min(bytes.length, from + PIECE_READ);
+        while (to < bytes.length && (bytes[to] & 0xc0) === 0x80) to += 1;
+        const piece = bytes.subarray(from, to);
+        const text = wholeText(piece);
+        if (text === null) yield* charactersOf(piece);
+        else yield text;
+        from = to;
+    }
+}
+
+/**
+ * The characters of bytes, and each byte that is part of none.
+ * @param {Uint8Array} bytes
+ */
+function* charactersOf(bytes) {
     for (let at = 0; at < bytes.length;) {
         const width = [1, 2, 3, 4].find((count) => wholeText(bytes.subarray(at, at + count)) !== null);
         yield width ? wholeText(bytes.subarray(at, at + width)) : String.fromCharCode(0xdc00 + bytes[at]);

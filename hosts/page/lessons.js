@@ -106,6 +106,16 @@ export class Lessons {
         find('says').textContent = chosen?.says ?? '';
     }
 
+    /**
+     * Takes note of the example that stands in the boxes, if one does.
+     * @param {{script: string, input: string}} texts
+     */
+    recognise({ script, input }) {
+        const known = [...this.lesson, ...this.examples].find((example) => example.script === script && !input);
+        find('example').value = known?.name ?? '';
+        find('says').textContent = known?.says ?? '';
+    }
+
     /** Takes note that the script is none of the examples any more. */
     leave() {
         find('example').value = '';

@@ -395,7 +395,8 @@ class Page {
         }
         const isEmbedded = new URLSearchParams(window.location.search).has('embed');
         document.documentElement.classList.toggle('embed', isEmbedded);
-        if (!this.boxes.load() && !this.fromLink()) this.lessons.choose(this.lessons.first);
+        if (this.boxes.load()) this.lessons.recognise(this.boxes.texts);
+        else if (!this.fromLink()) this.lessons.choose(this.lessons.first);
         if (isEmbedded) this.start(readLink()?.step ?? 0);
     }
 }
