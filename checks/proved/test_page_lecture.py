@@ -654,7 +654,7 @@ class Eyes(Lecture):
 
     def test_contrast_of_marks(self):
         for scheme in ('light', 'dark'):
-            self.emulate(prefers_color_scheme=scheme)
+            self.emulate(prefers_color_scheme=scheme, prefers_reduced_motion='reduce')
             self.through("#(ds,f,a)#(ps,#(cl,f))'")
             self.jump('name', 'cl')
             self.press('step')
