@@ -81,7 +81,8 @@ generate:
 	hosts/c/generate
 
 ## make dist       what is handed out, in dist/: programs, libraries, the page, the manual
-dist: programs build/trac build/libtrac.so.0 dist/libtrac.a dist/trac.h dist/trac.html dist/npm/package.json
+dist: programs build/trac build/libtrac.so.0 dist/libtrac.a dist/trac.h dist/trac.html dist/npm/package.json \
+    dist/trac_t64-$(VERSION).tar.gz
 	for program in trac_trace trac_terminal; do cp -p crates/$$program/out/$$program dist || exit; done
 	cp -p crates/trac_cli/out/trac_cli dist/trac
 	cp docs/*.[0-9] hosts/c/trac.c hosts/c/trac_engine.c dist
@@ -118,6 +119,13 @@ dist/npm/package.json: dist/trac.wasm dist/trac.mjs hosts/js/package.json hosts/
 	mkdir -p dist/npm
 	cp dist/trac.wasm dist/trac.mjs hosts/js/README.md hosts/js/trac.d.mts dist/npm
 	sed 's/"version": "[^"]*"/"version": "$(VERSION)"/' hosts/js/package.json >$@
+
+# The package for Python, as an archive from which pip builds it.
+dist/trac_t64-$(VERSION).tar.gz: hosts/c/trac.h hosts/c/trac_engine.c hosts/python/*.* hosts/python/trac_t64/*.*
+	mkdir -p build dist
+	top=$$(pwd) && cd hosts/python && \
+	    $(PYTHON) setup.py -q egg_info --egg-base "$$top/build" sdist --dist-dir "$$top/build/python"
+	mv build/python/trac?t64-$(VERSION).tar.gz $@
 
 ## make types      the types of the module for JavaScript, hosts/js/trac.d.mts, anew from its comments
 types:

@@ -33,9 +33,6 @@ def linear(n):
     return n
 
 
-def square(n):
-    return n * n
-
 
 # What grows, a length, the script of a length and the bound of its cost.
 GROWING = [
@@ -57,7 +54,7 @@ GROWING = [
     ('ss of a body by three texts', 2000,
      lambda n: f"#(ds,F,{'abc' * n})#(ss,F,a,b,c)", linear),
     ('ss of a text that nearly stands there', 200,
-     lambda n: form(2 * n) + f'#(ss,F,{text(n)}b)', square),
+     lambda n: form(2 * n) + f'#(ss,F,{text(n)}b)', linear),
     ('cl', 2000, lambda n: filled(n) + '##(cl,F,x)', linear),
     ('cl with many arguments', 1000,
      lambda n: form(10) + '##(cl,F' + ',x' * n + ')', linear),

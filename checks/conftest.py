@@ -1,4 +1,12 @@
-"""Ends pytest's output with the line that the gate counts by."""
+"""Ends pytest's output with the line that the gate counts by; the package for Python, built once for a run."""
+import fcntl
+import importlib
+import os
+import sys
+
+import pytest
+
+import python_package
 
 
 def pytest_terminal_summary(terminalreporter):
@@ -12,3 +20,26 @@ def pytest_unconfigure(config):
     if reporter and hasattr(reporter, 'passed_and_failed'):
         passed, failed = reporter.passed_and_failed
         print(f'{passed} passed, {failed} failed', flush=True)
+
+
+@pytest.fixture(scope='session')
+def python_site(tmp_path_factory):
+    """A folder with the package for Python, which pip built offline from a copy; one for all workers of a run."""
+    shared = tmp_path_factory.getbasetemp()
+    if 'PYTEST_XDIST_WORKER' in os.environ:
+        shared = shared.parent
+    with open(shared / 'python.lock', 'w', encoding='utf-8') as lock:
+        fcntl.flock(lock, fcntl.LOCK_EX)
+        if not (shared / 'python').exists():
+            python_package.install(shared / 'python-hosts', shared / 'python')
+    return shared / 'python'
+
+
+@pytest.fixture(scope='session')
+def trac_t64(python_site):
+    """The module."""
+    sys.path.insert(0, str(python_site))
+    try:
+        return importlib.import_module('trac_t64')
+    finally:
+        sys.path.remove(str(python_site))

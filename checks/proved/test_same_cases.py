@@ -2,13 +2,14 @@
 import test_memory
 from test_conformance import Conformance
 from test_examples import Examples, Exercises
+from test_growth import FullBlocks
 from test_interruptions import Interruptions
 from test_manual import Manual
 from test_pipes import Closed, Streams
 from test_program import Devices, Memory, Program, Stack
 from test_rooms import Rooms
 
-__all__ = ['Closed', 'Conformance', 'Devices', 'Examples', 'Exercises', 'Interruptions', 'Manual', 'Memory', 'Program',
+__all__ = ['Closed', 'Conformance', 'Devices', 'Examples', 'Exercises', 'FullBlocks', 'Interruptions', 'Manual', 'Memory', 'Program',
            'Refused', 'Rooms', 'Stack', 'Streams']
 
 

@@ -4,8 +4,8 @@ use Rattle.trac_language.specs.Text.{Text}
 use Rattle.trac_language.specs.Form.{fill}
 use Rattle.trac_forms.specs.Contents.{Contents, body_at, pointer_at}
 -- what stands between comma marks
-pub use Rattle.trac_store.specs.Arguments.{before_comma, parts_at, parts_between, texts_between}
-pub use Rattle.trac_store.specs.Arguments.{numbered_part, AreParted, IsHeadAt, IsListed, filled_cells}
+pub use Rattle.trac_store.specs.Arguments.{before_comma, parts_between, texts_between}
+pub use Rattle.trac_store.specs.Arguments.{AreParted, IsHeadAt, filled_cells}
 
 -- the text of a form's body from its pointer on, its gaps filled by the texts between comma marks
 -- of neutral

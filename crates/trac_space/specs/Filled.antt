@@ -1,17 +1,11 @@
--- Cells whose gaps are filled by the parts of neutral that a list names.
-use Rattle.std.specs.Prelude.{◌≡◌, ℕ, zero, suc, ◌+◌, ◌-◌, ◌<◌, ◌≤◌, List, [], ◌∷◌, ◌++◌, length, take}
-use Rattle.std.specs.Prelude.{slice_range, slice_index_or, nat_lt, if◌then◌else◌, Option, MatchOption}
+-- Cells whose gaps are filled by what stands between the comma marks of others.
+use Rattle.std.specs.Prelude.{◌≡◌, ℕ, suc, ◌+◌, ◌<◌, ◌≤◌, List, [], ◌∷◌, ◌++◌, length, take, drop, map}
+use Rattle.std.specs.Prelude.{slice_range, slice_index_or, if◌then◌else◌, Option, MatchOption}
 use Rattle.trac_space.specs.declared.cell.Cell.{Cell}
 use Rattle.trac_space.specs.declared.cell.Cell.TheVariants.{Byte, Call, Comma, Gap, Head}
+use Rattle.trac_space.specs.Cells.{is_comma}
+use Rattle.trac_space.specs.Overlay.{under, over}
 use Rattle.trac_space.specs.Texts.{is_byte_cell}
-
--- the number in a head cell, 0 of any other
-abbrev pub number_of : Cell → ℕ
-number_of (Byte _) = 0
-number_of (Call _ _) = 0
-number_of Comma = 0
-number_of (Gap _) = 0
-number_of (Head n) = n
 
 -- the ordinal of a gap, 0 of any other cell
 abbrev pub ordinal_of : Cell → ℕ
@@ -21,39 +15,39 @@ ordinal_of Comma = 0
 ordinal_of (Gap ordinal) = ordinal
 ordinal_of (Head _) = 0
 
--- the cell is a head
-abbrev pub IsHead : Cell → Type 0
-IsHead cell = cell ≡ Head (number_of cell)
+-- the parts between the comma marks of cells that stand from place `at` on; the first began at
+-- `from`
+abbrev pub parts_at : ℕ → ℕ → List Cell → List (ℕ × ℕ)
+parts_at from at [] = (from, at) ∷ []
+parts_at from at (cell ∷ cells) =
+    if is_comma cell
+    then (from, at) ∷ parts_at (at + 1) (at + 1) cells
+    else parts_at from (at + 1) cells
 
--- the number at a place of a list
-abbrev pub number_at : List Cell → ℕ → ℕ
-number_at list i = number_of (slice_index_or list i Comma)
+-- the part of a number, from 1; a null one where there is none
+abbrev pub numbered_part : List (ℕ × ℕ) → ℕ → ℕ × ℕ
+numbered_part parts number = slice_index_or ((0, 0) ∷ parts) number (0, 0)
 
--- the cells of a list begin with numbers that say where each of so many parts of neutral begins, the
--- last one first, and before them where a further one would
-pub record ListsParts (neutral list : List Cell) (count : ℕ) : Type 0 where
-  pub within : count + 1 ≤ length list
-  pub heads : (i : ℕ) → i ≤ count → IsHead (slice_index_or list i Comma)
-  pub order : (k : ℕ) → k < count → number_at list (count - k) < number_at list (count - suc k)
-  pub inside : (k : ℕ) → k < count → number_at list (count - suc k) ≤ length neutral + 1
-
--- the part of a number, from 1; none where none has it
-abbrev pub listed_part : List Cell → List Cell → ℕ → ℕ → List Cell
-listed_part neutral list count zero = []
-listed_part neutral list count (suc k) =
-    if nat_lt k count
-    then slice_range neutral (number_at list (count - k)) (number_at list (count - suc k) - 1)
-    else []
+-- its cells
+abbrev pub part_between : List Cell → ℕ → List Cell
+part_between given number =
+    slice_range given (numbered_part (parts_at 0 0 given) number).0 (numbered_part (parts_at 0 0 given) number).1
 
 -- what fills a cell: a character itself, any other the part of its ordinal
-abbrev pub filling : List Cell → List Cell → ℕ → Cell → List Cell
-filling neutral list count cell =
-    if is_byte_cell cell then cell ∷ [] else listed_part neutral list count (ordinal_of cell)
+abbrev pub filling : List Cell → Cell → List Cell
+filling given cell = if is_byte_cell cell then cell ∷ [] else part_between given (ordinal_of cell)
 
-abbrev pub filled : List Cell → List Cell → ℕ → List Cell → List Cell
-filled neutral list count [] = []
-filled neutral list count (cell ∷ cells) =
-    filling neutral list count cell ++ filled neutral list count cells
+abbrev pub filled : List Cell → List Cell → List Cell
+filled given [] = []
+filled given (cell ∷ cells) = filling given cell ++ filled given cells
+
+-- over the first cells lies where the comma marks of all of them stand, which are so many
+pub record HaveCommas (cells : List Cell) (count : ℕ) : Type 0 where
+  pub within : count ≤ length cells
+  pub others : map under (drop count cells) ≡ drop count cells
+  pub all : length (parts_at 0 0 (map under cells)) ≡ suc count
+  pub ends : (k : ℕ) → k < count →
+      over (slice_index_or cells k Comma) ≡ (numbered_part (parts_at 0 0 (map under cells)) (suc k)).1
 
 -- more cells stand from a place on, up to an end that is given, if that isn't past another place
 abbrev pub IsPut : List Cell → List Cell → ℕ → ℕ → List Cell → Option ℕ → Type 0

@@ -235,41 +235,6 @@ pub(crate) fn copy_run(
     (count, last)
 }
 
-// Puts the characters that stand from a place on once more at a place behind, at most so many, up
-// to the first cell that is none. Gives how many they are. Behind them other cells may be written
-// over, at most as far as so many would reach. Told how far the places are from one another, the
-// compiler needs no subtraction for each block to test that they are apart.
-#[inline(always)]
-pub(crate) fn copy_characters(
-    cells: &mut [Cell],
-    start: usize,
-    to: usize,
-    distance: usize,
-    most: usize,
-) -> usize
-    requires far { to ≡ start + distance }
-    requires behind { start + most ≤ to }
-    requires room { to + most ≤ length cells.old }
-    ensures few { result ≤ most }
-    ensures bytes { All IsByte (take result (drop start cells.old)) }
-    ensures stop { result < most → byte_cell_at cells.old (start + result) ≡ false }
-    ensures len { length cells.new ≡ length cells.old }
-    ensures front { take (to + result) cells.new ≡
-        take to cells.old ++ take result (drop start cells.old) }
-    ensures behind { drop (to + most) cells.new ≡ drop (to + most) cells.old }
-{
-    let mut count = 0;
-    while most - count >= BLOCK {
-        copy_block(cells, start + count, distance);
-        let more = characters_in_block(cells, start + count);
-        count += more;
-        if more < BLOCK {
-            return count;
-        }
-    }
-    count + copy_characters_each(cells, start + count, to + count, most - count)
-}
-
 // Whether so many cells from a place on are all characters: by eights, of which the last may begin in
 // the one before it.
 #[inline(always)]
@@ -590,26 +555,4 @@ fn copy_blocks_before(cells: &mut [Cell], start: usize, n: usize, to: usize)
         done += BLOCK;
     }
     copy_some_before(cells, start + (n - BLOCK), to + (n - BLOCK), BLOCK);
-}
-
-// The same as `copy_characters`, one by one, and no other cell is written over.
-#[inline]
-fn copy_characters_each(cells: &mut [Cell], start: usize, to: usize, most: usize) -> usize
-    requires behind { start + most ≤ to }
-    requires room { to + most ≤ length cells.old }
-    ensures few { result ≤ most }
-    ensures bytes { All IsByte (take result (drop start cells.old)) }
-    ensures stop { result < most → byte_cell_at cells.old (start + result) ≡ false }
-    ensures len { length cells.new ≡ length cells.old }
-    ensures after { cells.new ≡ copy_within cells.old start (start + result) to }
-{
-    let mut count = 0;
-    while count < most {
-        match cells[start + count] {
-            Cell::Byte(byte) => cells[to + count] = Cell::Byte(byte),
-            _ => return count,
-        }
-        count += 1;
-    }
-    count
 }

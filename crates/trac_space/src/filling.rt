@@ -1,58 +1,73 @@
-//! Cells of the store, put at the end of neutral with their gaps filled.
-ghost use Rattle.std.specs.Prelude.{◌≡◌, ◌+◌, ◌≤◌, ◌<◌, length, take, drop, slice_range};
-ghost use Rattle.std.specs.Prelude.{slice_index_or};
-ghost use Rattle.std.specs.List.{copy_within};
+//! Cells of the store, put at the end of neutral with their gaps filled by what stands between comma
+//! marks. Where these stand lies meanwhile over the cells themselves.
+ghost use Rattle.std.specs.Prelude.{◌≡◌, ◌+◌, ◌-◌, ◌≤◌, ◌<◌, ◌++◌, IsTrue, All, length, take, drop};
+ghost use Rattle.std.specs.Prelude.{map, slice_range, slice_index_or, suc};
 ghost use Rattle.trac_space.specs.declared.cell.Cell.TheVariants.{Comma};
-ghost use Rattle.trac_space.specs.Filled.{IsHead, number_of, ordinal_of};
-ghost use Rattle.trac_space.specs.Filled.{ListsParts, listed_part, filling, filled, IsPut};
+ghost use Rattle.trac_space.specs.Filled.{ordinal_of, part_between, filling, filled, HaveCommas};
+ghost use Rattle.trac_space.specs.Filled.{IsPut, parts_at, numbered_part};
+ghost use Rattle.trac_space.specs.Overlay.{takes_number, under};
 
-use crate::cell::{Cell, is_character};
+use crate::cell::{Cell, is_character, is_comma};
 use crate::copies::{BLOCK, characters_in_block, copy_behind, copy_block};
+use crate::overlay::{cell_under, laid, lift, number_over};
 
-// What an arm reads that is never reached: nothing, so that the compiler makes no test for it.
-const NO_NUMBER: [u32; 0] = [];
-
-// Where parts of neutral are listed: neutral begins at a place and is as long as its parts reach,
-// and the list begins at another and has so many parts.
+// The cells between whose comma marks the parts stand: where they begin, how many they are, and how
+// many comma marks there are, whose places lie over the first of them.
 #[derive(Clone, Copy)]
-pub(crate) struct Listed {
-    pub(crate) base: usize,
-    pub(crate) bound: usize,
-    pub(crate) list: usize,
-    pub(crate) count: usize,
+pub(crate) struct Given {
+    pub(crate) start: usize,
+    pub(crate) len: usize,
+    pub(crate) commas: usize,
+}
+
+/// Lays where the comma marks stand over the first of the cells, and gives how many they are.
+pub(crate) fn lay_commas(cells: &mut [Cell]) -> usize
+    requires takes { All (λ cell. IsTrue (takes_number cell)) cells.old }
+    requires bounded { length cells.old ≤ 16777216 }
+    ensures commas { HaveCommas cells.new result }
+    ensures same { map under cells.new ≡ cells.old }
+{
+    let mut count = 0;
+    for at in 0..cells.len() {
+        if is_comma(&cells[at]) {
+            cells[count] = laid(cells[count], at as u32);
+            count += 1;
+        }
+    }
+    count
 }
 
 // Puts the cells from place `from` up to `stop` once more at a place behind, each character as it
 // is, any other replaced by the part of its ordinal. Gives where they end, None where they would
-// reach into the list; then cells before it may be written over.
+// reach past `last`; then cells before it may be written over.
 #[inline(always)]
 pub(crate) fn fill_cells(
     cells: &mut [Cell],
     from: usize,
     stop: usize,
     to: usize,
-    parts: Listed,
+    last: usize,
+    given: Given,
 ) -> Option<usize>
     requires order { from ≤ stop }
-    requires before { stop ≤ parts.base }
-    requires base { parts.base ≤ parts.bound }
-    requires bound { parts.bound ≤ to }
-    requires room { to ≤ parts.list }
-    requires inside { parts.list ≤ length cells.old }
+    requires before { stop ≤ given.start }
+    requires behind { given.start + given.len ≤ to }
+    requires room { to ≤ last }
+    requires inside { last ≤ length cells.old }
     requires bounded { length cells.old ≤ 16777216 }
-    requires listed { let neutral = slice_range cells.old parts.base parts.bound in
-        ListsParts neutral (drop parts.list cells.old) parts.count }
-    ensures put { let neutral = slice_range cells.old parts.base parts.bound in
-        let list = drop parts.list cells.old in
-        let more = filled neutral list parts.count (slice_range cells.old from stop) in
-        IsPut cells.old cells.new to parts.list more result }
+    requires commas { let parts = slice_range cells.old given.start (given.start + given.len) in
+        HaveCommas parts given.commas }
+    ensures put {
+        let parts = map under (slice_range cells.old given.start (given.start + given.len)) in
+        let more = filled parts (slice_range cells.old from stop) in
+        IsPut cells.old cells.new to last more result }
     ensures len { length cells.new ≡ length cells.old }
     ensures front { take to cells.new ≡ take to cells.old }
-    ensures behind { drop parts.list cells.new ≡ drop parts.list cells.old }
+    ensures behind { drop last cells.new ≡ drop last cells.old }
 {
     let mut at = from;
     let mut to = to;
-    while to + BLOCK <= parts.list && distance(at, to) >= BLOCK {
+    while to + BLOCK <= last && distance(at, to) >= BLOCK {
         copy_block(cells, at, distance(at, to));
         let run = characters_in_block(cells, at);
         let gap = at + run;
@@ -64,15 +79,15 @@ pub(crate) fn fill_cells(
         if run == BLOCK {
             continue;
         }
-        let (start, n) = part_of(cells, ordinal_in(cells[at]), parts);
-        if n > parts.list - to {
+        let (start, n) = part_of(cells, ordinal_in(cells[at]), given);
+        if n > last - to {
             return None;
         }
-        copy_part(cells, start, to, n);
+        put_part(cells, start, to, n, given);
         at += 1;
         to += n;
     }
-    fill_each(cells, at, stop, to, parts)
+    fill_each(cells, at, stop, to, last, given)
 }
 
 // The same, one by one.
@@ -82,51 +97,60 @@ fn fill_each(
     from: usize,
     stop: usize,
     to: usize,
-    parts: Listed,
+    last: usize,
+    given: Given,
 ) -> Option<usize>
     requires order { from ≤ stop }
-    requires before { stop ≤ parts.base }
-    requires base { parts.base ≤ parts.bound }
-    requires bound { parts.bound ≤ to }
-    requires room { to ≤ parts.list }
-    requires inside { parts.list ≤ length cells.old }
+    requires before { stop ≤ given.start }
+    requires behind { given.start + given.len ≤ to }
+    requires room { to ≤ last }
+    requires inside { last ≤ length cells.old }
     requires bounded { length cells.old ≤ 16777216 }
-    requires listed { let neutral = slice_range cells.old parts.base parts.bound in
-        ListsParts neutral (drop parts.list cells.old) parts.count }
-    ensures put { let neutral = slice_range cells.old parts.base parts.bound in
-        let list = drop parts.list cells.old in
-        let more = filled neutral list parts.count (slice_range cells.old from stop) in
-        IsPut cells.old cells.new to parts.list more result }
+    requires commas { let parts = slice_range cells.old given.start (given.start + given.len) in
+        HaveCommas parts given.commas }
+    ensures put {
+        let parts = map under (slice_range cells.old given.start (given.start + given.len)) in
+        let more = filled parts (slice_range cells.old from stop) in
+        IsPut cells.old cells.new to last more result }
     ensures len { length cells.new ≡ length cells.old }
     ensures front { take to cells.new ≡ take to cells.old }
-    ensures behind { drop parts.list cells.new ≡ drop parts.list cells.old }
+    ensures behind { drop last cells.new ≡ drop last cells.old }
 {
     let mut to = to;
     for at in from..stop {
-        let (start, n) = cells_for(cells, at, parts);
-        if n > parts.list - to {
+        let (start, n) = cells_for(cells, at, given);
+        if n > last - to {
             return None;
         }
-        copy_part(cells, start, to, n);
+        put_part(cells, start, to, n, given);
         to += n;
     }
     Some(to)
 }
 
-// Puts cells once more at a place behind them; often it is one.
+// Puts cells once more at a place behind them, without the numbers over them; often it is one.
 #[inline(always)]
-#[tactic(auto, using(crate::proofs::Moves::move_one))]
-fn copy_part(cells: &mut [Cell], start: usize, to: usize, n: usize)
+fn put_part(cells: &mut [Cell], start: usize, to: usize, n: usize, given: Given)
     requires apart { start + n ≤ to }
     requires room { to + n ≤ length cells.old }
     requires bounded { length cells.old ≤ 16777216 }
+    requires within { given.start + given.commas ≤ length cells.old }
+    requires others {
+        let rest = drop (given.start + given.commas - start) (slice_range cells.old start (start + n)) in
+        map under rest ≡ rest }
     ensures len { length cells.new ≡ length cells.old }
-    ensures after { cells.new ≡ copy_within cells.old start (start + n) to }
+    ensures front {
+        take (to + n) cells.new ≡ take to cells.old ++ map under (slice_range cells.old start (start + n)) }
+    ensures behind { drop (to + n) cells.new ≡ drop (to + n) cells.old }
 {
     if n == 1 {
-        cells[to] = cells[start];
-    } else {
-        copy_behind(cells, start, distance(start, to), n);
+        cells[to] = cell_under(cells[start]);
+        return;
+    }
+    copy_behind(cells, start, distance(start, to), n);
+    let laid = given.start + given.commas;
+    if start < laid {
+        lift(&mut cells[to..to + n.min(laid - start)]);
     }
 }
 
@@ -142,49 +166,86 @@ fn distance(start: usize, to: usize) -> usize
 
 // Where the cells begin that fill one at a place, and how many they are.
 #[inline]
-fn cells_for(cells: &[Cell], at: usize, parts: Listed) -> (usize, usize)
-    requires before { at < parts.base }
-    requires base { parts.base ≤ parts.bound }
-    requires bound { parts.bound ≤ parts.list }
-    requires inside { parts.list ≤ length cells.now }
+fn cells_for(cells: &[Cell], at: usize, given: Given) -> (usize, usize)
+    requires before { at < given.start }
+    requires inside { given.start + given.len ≤ length cells.now }
     requires bounded { length cells.now ≤ 16777216 }
-    requires listed { let neutral = slice_range cells.now parts.base parts.bound in
-        ListsParts neutral (drop parts.list cells.now) parts.count }
-    ensures within { result.0 + result.1 ≤ parts.bound }
-    ensures cells { let neutral = slice_range cells.now parts.base parts.bound in
-        let list = drop parts.list cells.now in
-        slice_range cells.now result.0 (result.0 + result.1) ≡
-        filling neutral list parts.count (slice_index_or cells.now at Comma) }
+    requires commas { let parts = slice_range cells.now given.start (given.start + given.len) in
+        HaveCommas parts given.commas }
+    ensures within { result.0 + result.1 ≤ given.start + given.len }
+    ensures cells {
+        let parts = map under (slice_range cells.now given.start (given.start + given.len)) in
+        map under (slice_range cells.now result.0 (result.0 + result.1)) ≡
+        filling parts (slice_index_or cells.now at Comma) }
+    ensures others {
+        let laid = given.start + given.commas in
+        let rest = drop (laid - result.0) (slice_range cells.now result.0 (result.0 + result.1)) in
+        map under rest ≡ rest }
 {
     if is_character(&cells[at]) {
         return (at, 1);
     }
-    part_of(cells, ordinal_in(cells[at]), parts)
+    part_of(cells, ordinal_in(cells[at]), given)
 }
 
 // Where the part of a number begins, and how many cells it has.
 #[inline(always)]
-fn part_of(cells: &[Cell], number: u32, parts: Listed) -> (usize, usize)
-    requires base { parts.base ≤ parts.bound }
-    requires bound { parts.bound ≤ parts.list }
-    requires inside { parts.list ≤ length cells.now }
+fn part_of(cells: &[Cell], number: u32, given: Given) -> (usize, usize)
+    requires inside { given.start + given.len ≤ length cells.now }
     requires bounded { length cells.now ≤ 16777216 }
-    requires listed { let neutral = slice_range cells.now parts.base parts.bound in
-        ListsParts neutral (drop parts.list cells.now) parts.count }
-    ensures within { result.0 + result.1 ≤ parts.bound }
-    ensures cells { let neutral = slice_range cells.now parts.base parts.bound in
-        let list = drop parts.list cells.now in
-        slice_range cells.now result.0 (result.0 + result.1) ≡
-        listed_part neutral list parts.count number }
+    requires commas { let parts = slice_range cells.now given.start (given.start + given.len) in
+        HaveCommas parts given.commas }
+    ensures within { result.0 + result.1 ≤ given.start + given.len }
+    ensures cells {
+        let parts = map under (slice_range cells.now given.start (given.start + given.len)) in
+        map under (slice_range cells.now result.0 (result.0 + result.1)) ≡
+        part_between parts number }
+    ensures others {
+        let laid = given.start + given.commas in
+        let rest = drop (laid - result.0) (slice_range cells.now result.0 (result.0 + result.1)) in
+        map under rest ≡ rest }
 {
     let place = number.wrapping_sub(1) as usize;
-    if place >= parts.count {
-        return (parts.base, 0);
+    if place > given.commas {
+        return (given.start, 0);
     }
-    let at = parts.list + (parts.count - place);
-    let from = number_in_head(cells[at]) as usize;
-    let next = number_in_head(cells[at - 1]) as usize;
-    (parts.base + from, next - 1 - from)
+    let from = begin_of(cells, place, given);
+    let end = end_of(cells, place, given);
+    (given.start + from, end - from)
+}
+
+// Where the part behind so many comma marks begins, counted from the first of the cells.
+#[inline(always)]
+fn begin_of(cells: &[Cell], place: usize, given: Given) -> usize
+    requires place { place ≤ given.commas }
+    requires inside { given.start + given.len ≤ length cells.now }
+    requires bounded { length cells.now ≤ 16777216 }
+    requires commas { let parts = slice_range cells.now given.start (given.start + given.len) in
+        HaveCommas parts given.commas }
+    ensures { let parts = map under (slice_range cells.now given.start (given.start + given.len)) in
+        result ≡ (numbered_part (parts_at 0 0 parts) (suc place)).0 }
+{
+    if place == 0 {
+        return 0;
+    }
+    number_over(cells[given.start + place - 1]) as usize + 1
+}
+
+// Where it ends.
+#[inline(always)]
+fn end_of(cells: &[Cell], place: usize, given: Given) -> usize
+    requires place { place ≤ given.commas }
+    requires inside { given.start + given.len ≤ length cells.now }
+    requires bounded { length cells.now ≤ 16777216 }
+    requires commas { let parts = slice_range cells.now given.start (given.start + given.len) in
+        HaveCommas parts given.commas }
+    ensures { let parts = map under (slice_range cells.now given.start (given.start + given.len)) in
+        result ≡ (numbered_part (parts_at 0 0 parts) (suc place)).1 }
+{
+    if place == given.commas {
+        return given.len;
+    }
+    number_over(cells[given.start + place]) as usize
 }
 
 // The ordinal of a gap, 0 of any other cell.
@@ -195,17 +256,5 @@ fn ordinal_in(cell: Cell) -> u32
     match cell {
         Cell::Gap(ordinal) => ordinal,
         _ => 0,
-    }
-}
-
-// The number in a head cell.
-#[inline]
-fn number_in_head(cell: Cell) -> u32
-    requires { IsHead cell }
-    ensures { result ≡ number_of cell }
-{
-    match cell {
-        Cell::Head(number) => number,
-        _ => NO_NUMBER[0],
     }
 }

@@ -1,8 +1,7 @@
 -- What stands between comma marks, part by part, and a list of where the parts begin.
-use Rattle.trac_store.proofs.Words.{◌≡◌, ℕ, zero, suc, ◌+◌, ◌-◌, ◌<◌, ◌≤◌, Bool, true, false, List, [], ◌∷◌, ◌++◌, All, length, take, drop, map, slice_range, get_or, refl, sym, ap, ◌∙◌, arith, cond, nat_le, ⊎_elim, append_assoc, cases_lt, drop_more, length-append, length-drop, length-take-le}
-use Rattle.trac_store.proofs.Words.{drop-drop, take-append-drop, get_or_append_left, All-head, All-tail, get_or-append_seam, length-between, Cell, Byte, Comma, Head, seen, is_comma, IsByte, Lists, used, HasWay, before_comma, parts_at, parts_between, numbered_part, IsHeadAt}
-use Rattle.trac_store.proofs.Words.{IsListed, head_at}
-use Rattle.trac_store.proofs.FlatLemmas.{drop-part, part_of_longer}
+use Rattle.trac_store.proofs.Words.{◌≡◌, ℕ, suc, ◌+◌, ◌<◌, ◌≤◌, Bool, true, false, List, [], ◌∷◌, ◌++◌, All, length, take, drop, map, slice_range, get_or, refl, sym, ap, ◌∙◌, arith, cond, nat_le, ⊎_elim, cases_lt, drop_more, length-drop, length-take-le}
+use Rattle.trac_store.proofs.Words.{drop-drop, take-append-drop, All-head, All-tail, length-between, Cell, Byte, Comma, seen, is_comma, IsByte, before_comma, parts_at, parts_between}
+use Rattle.trac_store.proofs.FlatLemmas.{drop-part}
 
 pub before_comma-within : (cells : List Cell) → before_comma cells ≤ length cells
 before_comma-within [] = omega arith
@@ -118,82 +117,3 @@ module _ (neutral : List Cell) (from end n : ℕ) (le : from ≤ end) (within : 
 -- the first part ends where the slice of neutral shows that it does
 pub shown-fits : (neutral cells : List Cell) (from end n : ℕ) → from ≤ end → end ≤ length neutral → map seen cells ≡ slice_range neutral from end → n ≡ before_comma cells → from + n ≤ end
 shown-fits neutral cells from end n le within shown found = part-fits neutral from end n le within (found-comma cells (slice_range neutral from end) n shown found)
-
--- cells behind them change nothing
-pub parts-longer : (neutral more : List Cell) (from end : ℕ) → end ≤ length neutral → parts_between (neutral ++ more) from end ≡ parts_between neutral from end
-parts-longer neutral more from end within =
-    ⊎_elim
-    (λ lt. parts-none (neutral ++ more) from end lt ∙ sym (parts-none neutral from end lt))
-    (λ le. parts-some (neutral ++ more) from end le ∙ ap (parts_at from from) (part_of_longer neutral more from end le within) ∙ sym (parts-some neutral from end le))
-    (cases_lt end from)
-
-heads-more : (n : ℕ) (cells : List Cell) (count : ℕ) → ((i : ℕ) → i ≤ count → IsHeadAt cells i) → (i : ℕ) → i ≤ count + 1 → IsHeadAt (Head n ∷ cells) i
-heads-more n cells count heads zero within = refl
-heads-more n cells count heads (suc i) within = heads i (omega (arith, within))
-
--- one part more is listed
-pub listed-more : (cells : List Cell) (parts : List (ℕ × ℕ)) (count from to : ℕ) → IsListed cells parts count → count ≤ 16777216 → head_at cells 0 ≡ from → IsListed (Head (to + 1) ∷ cells) (parts ++ (from, to) ∷ []) (count + 1)
-listed-more cells parts count from to listed few first =
-    let new = parts ++ (from, to) ∷ [] in
-    let all = listed.all in
-    let older : (number : ℕ) → number ≤ count → numbered_part new number ≡ numbered_part parts number =
-    λ number within. get_or_append_left ((0, 0) ∷ parts) ((from, to) ∷ []) (0, 0) number (omega (arith, within, all)) in
-    let last : numbered_part new (count + 1) ≡ (from, to) =
-    let e : count + 1 ≡ suc (length parts) = omega (arith, all) in
-    ap (λ k. get_or ((0, 0) ∷ new) k (0, 0)) e ∙ get_or-append_seam parts (from, to) [] (0, 0) in
-    record {
-      all = omega (arith, all, length-append parts ((from, to) ∷ []));
-      within = omega (arith, listed.within);
-      bounded = omega (arith, few);
-      heads = heads-more (to + 1) cells count listed.heads;
-      begins = λ number some within.
-          let behind : count + 1 + 1 - number ≡ suc (count + 1 - number) = omega (arith, within) in
-          ap (head_at (Head (to + 1) ∷ cells)) behind
-          ∙ ⊎_elim
-          (λ less. listed.begins number some (omega (arith, less)) ∙ ap (λ (p : ℕ × ℕ). p.0) (sym (older number (omega (arith, less)))))
-          (λ past.
-          let it : number ≡ count + 1 = omega (arith, past, within) in
-          let none : count + 1 - number ≡ 0 = omega (arith, it) in
-          ap (head_at cells) none ∙ first ∙ ap (λ (p : ℕ × ℕ). p.0) (sym last) ∙ ap (λ k. (numbered_part new k).0) (sym it))
-          (cases_lt number (count + 1));
-      ends = λ number some within.
-          ⊎_elim
-          (λ less.
-          let behind : count + 1 - number ≡ suc (count - number) = omega (arith, less) in
-          ap (head_at (Head (to + 1) ∷ cells)) behind ∙ listed.ends number some (omega (arith, less)) ∙ ap (λ (p : ℕ × ℕ). p.1 + 1) (sym (older number (omega (arith, less)))))
-          (λ past.
-          let it : number ≡ count + 1 = omega (arith, past, within) in
-          let none : count + 1 - number ≡ 0 = omega (arith, it) in
-          ap (head_at (Head (to + 1) ∷ cells)) none ∙ ap (λ (p : ℕ × ℕ). p.1 + 1) (sym last) ∙ ap (λ k. (numbered_part new k).1 + 1) (sym it))
-          (cases_lt number (count + 1));
-    }
-
--- the parts up to a place are listed before active, and there is room for the others
-pub record ListsUpTo (old now : Lists) (from at end count : ℕ) : Type 0 where
-  pub parts : List (ℕ × ℕ)
-  pub same : now ≡ record old { active = now.active }
-  pub order : at ≤ end + 1
-  pub split : parts_between old.neutral from end ≡ parts ++ parts_between old.neutral at end
-  pub listed : IsListed now.active parts count
-  pub next : head_at now.active 0 ≡ at
-  pub few : count + from ≤ at
-  pub behind : drop (count + 1) now.active ≡ old.active
-  pub way : HasWay (end + 1 - at) now
-
-pub lists-more : (old now new : Lists) (from at end count n : ℕ) → ListsUpTo old now from at end count → at ≤ end → end ≤ length old.neutral → end ≤ 16777216 → n ≡ before_comma (slice_range now.neutral at end) → new ≡ record now { active = Head (at + n + 1) ∷ now.active } → ListsUpTo old new from (at + n + 1) end (count + 1)
-lists-more old now new from at end count n h le within bounded is pushed =
-    let neutral : now.neutral ≡ old.neutral = ap (λ (s : Lists). s.neutral) h.same in
-    let found : n ≡ before_comma (slice_range old.neutral at end) = is ∙ ap (λ cells. before_comma (slice_range cells at end)) neutral in
-    let fits = part-fits old.neutral at end n le within found in
-    let active : new.active ≡ Head (at + n + 1) ∷ now.active = ap (λ (s : Lists). s.active) pushed in
-    record {
-      parts = h.parts ++ (at, at + n) ∷ [];
-      same = pushed ∙ ap (λ (s : Lists). record s { active = Head (at + n + 1) ∷ now.active }) h.same ∙ ap (λ cells. record old { active = cells }) (sym active);
-      order = omega (arith, fits);
-      split = h.split ∙ ap (λ parts. h.parts ++ parts) (parts-first old.neutral at end n le within found) ∙ sym (append_assoc h.parts ((at, at + n) ∷ []) (parts_between old.neutral (at + n + 1) end));
-      listed = rw active (listed-more now.active h.parts count at (at + n) h.listed (omega (arith, h.few, le, bounded)) h.next);
-      next = ap (λ cells. head_at cells 0) active;
-      few = omega (arith, h.few);
-      behind = let e : count + 1 + 1 ≡ suc (count + 1) = omega arith in ap (λ k. drop k new.active) e ∙ ap (drop (suc (count + 1))) active ∙ h.behind;
-      way = omega (arith, h.way, fits, le, ap used pushed, ap (λ (s : Lists). length s.spare) pushed, ap (λ (s : Lists). s.room) pushed);
-    }

@@ -1,77 +1,209 @@
--- What fills the gaps of a body, where the arguments are listed before active.
-use Rattle.trac_store.proofs.Words.{Bool, ◌≡◌, ℕ, zero, suc, ◌+◌, ◌-◌, ◌<◌, ◌≤◌, true, false, List, [], ◌∷◌, ◌++◌, length, drop, get_or, nat_lt, refl, sym, ap, ◌∙◌, arith, subst, slice_range, ⊎_elim, cases_lt, length-map, map-append, get_or_past, get_or_from_slice_get, Text, Cell, Byte}
-use Rattle.trac_store.proofs.Words.{Comma, Gap, Head, NoCall, number_at, ListsParts, listed_part, filled, OnTrue, Lists, flat_text, numbered_part, IsHeadAt, IsListed, AreTextParts, part_text, part_texts, head_at}
-use Rattle.trac_space.specs.Filled.{number_of}
+-- What fills the gaps of a body: the texts between the comma marks of neutral.
+use Rattle.trac_store.proofs.Words.{Bool, ◌≡◌, ℕ, zero, suc, ◌+◌, ◌-◌, ◌<◌, ◌≤◌, true, false, cond, All, List, [], ◌∷◌, ◌++◌, length, take, drop, map, get_or, nat_le, refl, sym, ap, ◌∙◌, arith, rules, subst, slice_range, ⊎_elim, cases_lt, length-map, map-append, get_or_past, get_or-map, length-between, drop_more, All-tail, All-cons, All-nil, All-get_or, places, same_lists, Cell, Byte}
+use Rattle.trac_store.proofs.Words.{Comma, Gap, Call, NoCall, IsByte, is_comma, filled, numbered_part, part_between, parts_at, flat_text, HaveNumbers, under, AreTextParts, IsTextPart, part_text, part_texts, parts_between, append_assoc, length-append, length-take-le, split_between}
+use Rattle.std.proofs.lemmas.List.{take-append-le, drop-append-le}
+use Rattle.trac_space.proofs.Filled.{parts-within}
+use Rattle.trac_space.proofs.LaidCommas.{Takes}
 use Rattle.trac_store.proofs.Filling.{filled as filled_text, part-there, part-text, text-no_call}
-use Rattle.trac_store.proofs.FlatLemmas.{Byte-character_of}
+use Rattle.trac_store.proofs.FlatLemmas.{Byte-character_of, part_of_longer}
 use Rattle.trac_store.proofs.Finding.{bytes-flat}
 
-head-there : (cells : List Cell) (i : ℕ) → IsHeadAt cells i → get_or cells i Comma ≡ Head (head_at cells i)
-head-there cells i head = get_or_from_slice_get cells i (Head (head_at cells i)) Comma head
+-- parts are counted from another place
+abbrev moved : ℕ → ℕ × ℕ → ℕ × ℕ
+moved d p = (p.0 + d, p.1 + d)
 
-number-there : (cells : List Cell) (i : ℕ) → IsHeadAt cells i → number_at cells i ≡ head_at cells i
-number-there cells i head = ap number_of (head-there cells i head)
+parts-moved : (d from at : ℕ) (cells : List Cell) → parts_at (from + d) (at + d) cells ≡ map (moved d) (parts_at from at cells)
+parts-moved d from at [] = refl
+parts-moved d from at (cell ∷ cells) = go (is_comma cell) (parts-moved d (at + 1) (at + 1) cells) (parts-moved d from (at + 1) cells)
+  where
+    next : at + 1 + d ≡ at + d + 1
+    next = omega arith
 
-module _ (neutral active : List Cell) (parts : List (ℕ × ℕ)) (count : ℕ) (are : AreTextParts neutral parts) (listed : IsListed active parts count) where
-  begins : (k : ℕ) → k < count → number_at active (count - k) ≡ (numbered_part parts (suc k)).0
-  begins k less =
-      let place : count + 1 - suc k ≡ count - k = omega (arith, less) in
-      number-there active (count - k) (listed.heads (count - k) (omega arith))
-      ∙ ap (head_at active) (sym place) ∙ listed.begins (suc k) (omega arith) (omega (arith, less))
+    go : (b : Bool) → parts_at (at + 1 + d) (at + 1 + d) cells ≡ map (moved d) (parts_at (at + 1) (at + 1) cells) → parts_at (from + d) (at + 1 + d) cells ≡ map (moved d) (parts_at from (at + 1) cells) → cond b ((from + d, at + d) ∷ parts_at (at + d + 1) (at + d + 1) cells) (parts_at (from + d) (at + d + 1) cells) ≡ map (moved d) (cond b ((from, at) ∷ parts_at (at + 1) (at + 1) cells) (parts_at from (at + 1) cells))
+    go true other one = ap (λ k. (from + d, at + d) ∷ parts_at k k cells) (sym next) ∙ ap (λ l. (from + d, at + d) ∷ l) other
+    go false other one = ap (λ k. parts_at (from + d) k cells) (sym next) ∙ one
 
-  ends : (k : ℕ) → k < count → number_at active (count - suc k) ≡ (numbered_part parts (suc k)).1 + 1
-  ends k less =
-      number-there active (count - suc k) (listed.heads (count - suc k) (omega arith))
-      ∙ listed.ends (suc k) (omega arith) (omega (arith, less))
+slice-nil : {X : Type 0} (a b : ℕ) → slice_range {X = X} [] a b ≡ []
+slice-nil a b = same_lists _ _ (search (rules, places)) (λ k d less. grind (arith, places))
 
-  pub parts-listed : ListsParts neutral active count
-  parts-listed = record {
-    within = listed.within;
-    heads = λ i within. head-there active i (listed.heads i within) ∙ ap Head (sym (number-there active i (listed.heads i within)));
-    order = λ k less. (let part = part-there neutral parts are (suc k) in omega (arith, begins k less, ends k less, part.order));
-    inside = λ k less. (let part = part-there neutral parts are (suc k) in omega (arith, ends k less, part.within));
-  }
+-- the first part ends at the first of the cells or behind it
+first-end : (from at : ℕ) (cells : List Cell) → at ≤ (get_or (parts_at from at cells) 0 (0, 0)).1
+first-end from at [] = omega arith
+first-end from at (cell ∷ cells) = go (is_comma cell) (first-end from (at + 1) cells)
+  where
+    go : (b : Bool) → at + 1 ≤ (get_or (parts_at from (at + 1) cells) 0 (0, 0)).1 → at ≤ (get_or (cond b ((from, at) ∷ parts_at (at + 1) (at + 1) cells) (parts_at from (at + 1) cells)) 0 (0, 0)).1
+    go true h = omega arith
+    go false h = omega (arith, h)
+
+first-begin : (from at : ℕ) (cells : List Cell) → (get_or (parts_at from at cells) 0 (0, 0)).0 ≡ from
+first-begin from at [] = refl
+first-begin from at (cell ∷ cells) = go (is_comma cell) (first-begin from (at + 1) cells)
+  where
+    go : (b : Bool) → (get_or (parts_at from (at + 1) cells) 0 (0, 0)).0 ≡ from → (get_or (cond b ((from, at) ∷ parts_at (at + 1) (at + 1) cells) (parts_at from (at + 1) cells)) 0 (0, 0)).0 ≡ from
+    go true h = refl
+    go false h = h
+
+some-parts : (from at : ℕ) (cells : List Cell) → 0 < length (parts_at from at cells)
+some-parts from at [] = omega arith
+some-parts from at (cell ∷ cells) = go (is_comma cell) (some-parts from (at + 1) cells)
+  where
+    go : (b : Bool) → 0 < length (parts_at from (at + 1) cells) → 0 < length (cond b ((from, at) ∷ parts_at (at + 1) (at + 1) cells) (parts_at from (at + 1) cells))
+    go true h = omega arith
+    go false h = h
+
+comma-takes : (cell : Cell) → is_comma cell ≡ true → Takes cell
+comma-takes Comma is = refl
+comma-takes (Byte b) is = refl
+comma-takes (Call mode k) is = cc
+comma-takes (Gap k) is = cc
+comma-takes cell is = cc
+
+byte-takes : (cell : Cell) → IsByte cell → Takes cell
+byte-takes (Byte b) is = refl
+byte-takes cell is = absurd is
+
+-- cells that comma marks part into texts can take numbers
+parted-take : (neutral cells : List Cell) (from at end : ℕ) → from ≤ at → at ≤ end → end ≤ length neutral → cells ≡ slice_range neutral at end → AreTextParts neutral (parts_at from at cells) → All Takes cells
+parted-take neutral [] from at end order up within is are = All-nil Takes
+parted-take neutral (cell ∷ cells) from at end order up within is are =
+    ⊎_elim
+    (λ less.
+    let split : end - at ≡ suc (end - (at + 1)) = omega (arith, less) in
+    let whole : cell ∷ cells ≡ get_or neutral at Comma ∷ slice_range neutral (at + 1) end = is ∙ ap (λ n. take n (drop at neutral)) split ∙ ap (take (suc (end - (at + 1)))) (drop_more neutral at Comma (omega (arith, less, within))) in
+    let here : cell ≡ get_or neutral at Comma = ap (λ l. get_or l 0 Comma) whole in
+    let rest : cells ≡ slice_range neutral (at + 1) end = ap (drop 1) whole in
+    go (is_comma cell) (parted-take neutral cells (at + 1) (at + 1) end) (parted-take neutral cells from (at + 1) end) refl here rest less are)
+    (λ past.
+    let none : end - at ≡ 0 = omega (arith, past) in
+    let long : length (cell ∷ cells) ≡ 0 = ap length is ∙ ap (λ n. length (take n (drop at neutral))) none in
+    absurd (omega (arith, long)))
+    (cases_lt at end)
+  where
+    go : (b : Bool) → (at + 1 ≤ at + 1 → at + 1 ≤ end → end ≤ length neutral → cells ≡ slice_range neutral (at + 1) end → AreTextParts neutral (parts_at (at + 1) (at + 1) cells) → All Takes cells) → (from ≤ at + 1 → at + 1 ≤ end → end ≤ length neutral → cells ≡ slice_range neutral (at + 1) end → AreTextParts neutral (parts_at from (at + 1) cells) → All Takes cells) → is_comma cell ≡ b → cell ≡ get_or neutral at Comma → cells ≡ slice_range neutral (at + 1) end → at < end → AreTextParts neutral (cond b ((from, at) ∷ parts_at (at + 1) (at + 1) cells) (parts_at from (at + 1) cells)) → All Takes (cell ∷ cells)
+    go true other one comma here rest less are =
+        All-cons Takes cell cells (comma-takes cell comma) (other (omega arith) (omega (arith, less)) within rest (All-tail (λ (p : ℕ × ℕ). IsTextPart neutral p.0 p.1) (from, at) (parts_at (at + 1) (at + 1) cells) are))
+    go false other one is_other here rest less are =
+        let parts = parts_at from (at + 1) cells in
+        let first : IsTextPart neutral (get_or parts 0 (0, 0)).0 (get_or parts 0 (0, 0)).1 = All-get_or (λ (p : ℕ × ℕ). IsTextPart neutral p.0 p.1) parts 0 (0, 0) (some-parts from (at + 1) cells) are in
+        let begin : (get_or parts 0 (0, 0)).0 ≡ from = first-begin from (at + 1) cells in
+        let stop = first-end from (at + 1) cells in
+        let last = (get_or parts 0 (0, 0)).1 in
+        let part : IsTextPart neutral from last = subst (λ a. IsTextPart neutral a last) begin first in
+        let ordered = part.order in
+        let inside = part.within in
+        let text = slice_range neutral from last in
+        let place : at - from < length text = omega (arith, stop, order, length-between neutral from last inside) in
+        let byte : IsByte (get_or text (at - from) Comma) = All-get_or IsByte text (at - from) Comma place part.bytes in
+        let read : get_or text (at - from) Comma ≡ get_or neutral at Comma = grind (arith, places) in
+        All-cons Takes cell cells (byte-takes cell (subst IsByte (read ∙ sym here) byte)) (one (omega (arith, order)) (omega (arith, less)) within rest are)
+
+-- where the first of them begins: at the end where there is none
+pub record IsBegin (first end from : ℕ) : Type 0 where
+  pub some : first ≤ end → from ≡ first
+  pub none : end < first → from ≡ end
+
+module _ (neutral : List Cell) (first end from : ℕ) (begin : IsBegin first end from) (within : end ≤ length neutral) (are : AreTextParts neutral (parts_between neutral first end)) where
+  -- the cells between which the comma marks stand
+  abbrev given : List Cell
+  given = slice_range neutral from end
+
+  some-between : first ≤ end → parts_between neutral first end ≡ map (moved first) (parts_at 0 0 (slice_range neutral first end))
+  some-between le =
+      let yes : nat_le first end ≡ true = grind (arith, le) in
+      let e : 0 + first ≡ first = omega arith in
+      rw yes (ap (λ n. parts_at n n (slice_range neutral first end)) (sym e) ∙ parts-moved first 0 0 (slice_range neutral first end))
+
+  none-between : end < first → parts_between neutral first end ≡ []
+  none-between lt = let no : nat_le first end ≡ false = grind (arith, lt) in rw no refl
+
+  none-given : end < first → given ≡ []
+  none-given lt =
+      let e : end - from ≡ 0 = omega (arith, begin.none lt) in
+      ap (λ n. take n (drop from neutral)) e
+
+  pub given-takes : All Takes given
+  given-takes =
+      ⊎_elim
+      (λ lt. subst (All Takes) (sym (none-given lt)) (All-nil Takes))
+      (λ le.
+      let yes : nat_le first end ≡ true = grind (arith, le) in
+      let parts : AreTextParts neutral (parts_at first first (slice_range neutral first end)) = rw yes at are in
+      subst (λ n. All Takes (slice_range neutral n end)) (sym (begin.some le)) (parted-take neutral (slice_range neutral first end) first first end (omega arith) le within refl parts))
+      (cases_lt end first)
 
   -- the part of a number is its text
-  part-flat : (number : ℕ) → listed_part neutral active count number ≡ flat_text (get_or ([] ∷ part_texts neutral parts) number [])
-  part-flat zero = refl
-  part-flat (suc k) =
-      ⊎_elim
-      (λ less.
-      let p = numbered_part parts (suc k) in
-      let inside : nat_lt k count ≡ true = grind (arith, less) in
-      let end : (numbered_part parts (suc k)).1 + 1 - 1 ≡ (numbered_part parts (suc k)).1 = omega arith in
-      rw inside (
-      ap (λ a. slice_range neutral a (number_at active (count - suc k) - 1)) (begins k less)
-      ∙ ap (λ b. slice_range neutral p.0 (b - 1)) (ends k less)
-      ∙ ap (λ b. slice_range neutral p.0 b) end
-      ∙ sym (Byte-character_of (slice_range neutral p.0 p.1) (part-there neutral parts are (suc k)).bytes)
-      ∙ ap flat_text (part-text neutral parts are (suc k))))
-      (λ past.
-      let outside : nat_lt k count ≡ false = grind (arith, past) in
-      let long : length (part_texts neutral parts) ≤ k = omega (arith, past, listed.all, length-map parts (λ (part : ℕ × ℕ). part_text neutral part.0 part.1)) in
-      rw outside (ap flat_text (sym (get_or_past (part_texts neutral parts) k [] long))))
-      (cases_lt k count)
+  part-flat : (number : ℕ) → part_between given number ≡ flat_text (get_or ([] ∷ part_texts neutral (parts_between neutral first end)) number [])
+  part-flat number = ⊎_elim (λ lt. without lt number) (λ le. with le number) (cases_lt end first)
+    where
+      without : end < first → (number : ℕ) → part_between given number ≡ flat_text (get_or ([] ∷ part_texts neutral (parts_between neutral first end)) number [])
+      without lt zero = refl
+      without lt (suc k) =
+          let p = numbered_part (parts_at 0 0 given) (suc k) in
+          ap (λ l. slice_range l p.0 p.1) (none-given lt) ∙ slice-nil p.0 p.1 ∙ ap (λ parts. flat_text (get_or ([] ∷ part_texts neutral parts) (suc k) [])) (sym (none-between lt)) 
+
+      with : first ≤ end → (number : ℕ) → part_between given number ≡ flat_text (get_or ([] ∷ part_texts neutral (parts_between neutral first end)) number [])
+      with le zero = refl
+      with le (suc k) =
+          let cells = slice_range neutral first end in
+          let parts = parts_at 0 0 cells in
+          let all = parts_between neutral first end in
+          let same : given ≡ cells = ap (λ n. slice_range neutral n end) (begin.some le) in
+          ap (λ l. part_between l (suc k)) same
+          ∙ ⊎_elim
+          (λ less.
+          let p = get_or parts k (0, 0) in
+          let q = numbered_part all (suc k) in
+          let q_is : q ≡ (p.0 + first, p.1 + first) = ap (λ l. get_or l k (0, 0)) (some-between le) ∙ get_or-map (moved first) parts k (0, 0) (0, 0) less in
+          let text = part-there neutral all are (suc k) in
+          let h = parts-within 0 0 cells (omega arith) k less in
+          let order : p.0 ≤ p.1 = h.0 in
+          let few : p.1 ≤ end - first = omega (arith, h.1, length-between neutral first end within) in
+          let here : slice_range cells p.0 p.1 ≡ slice_range neutral (p.0 + first) (p.1 + first) = same_lists _ _ (search (rules, places)) (λ i d below. grind (arith, places)) in
+          here
+          ∙ ap (λ (r : ℕ × ℕ). slice_range neutral r.0 r.1) (sym q_is)
+          ∙ sym (Byte-character_of (slice_range neutral q.0 q.1) text.bytes)
+          ∙ ap flat_text (part-text neutral all are (suc k)))
+          (λ past.
+          let long : length (part_texts neutral all) ≤ k = omega (arith, past, length-map all (λ (part : ℕ × ℕ). part_text neutral part.0 part.1), ap length (some-between le), length-map parts (moved first)) in
+          ap (λ (r : ℕ × ℕ). slice_range cells r.0 r.1) (get_or_past parts k (0, 0) past) ∙ ap flat_text (sym (get_or_past (part_texts neutral all) k [] long)))
+          (cases_lt k (length parts))
 
   -- a body filled by them
-  pub filled-flat : (cells : List Cell) → filled neutral active count cells ≡ flat_text (filled_text (part_texts neutral parts) cells)
+  pub filled-flat : (cells : List Cell) → filled given cells ≡ flat_text (filled_text (part_texts neutral (parts_between neutral first end)) cells)
   filled-flat [] = refl
   filled-flat (Byte b ∷ cells) = ap (λ more. Byte b ∷ more) (filled-flat cells)
   filled-flat (Gap k ∷ cells) =
-      ap (λ more. listed_part neutral active count k ++ more) (filled-flat cells)
-      ∙ ap (λ more. more ++ flat_text (filled_text (part_texts neutral parts) cells)) (part-flat k)
-      ∙ sym (map-append Byte (get_or ([] ∷ part_texts neutral parts) k []) (filled_text (part_texts neutral parts) cells))
+      let texts = part_texts neutral (parts_between neutral first end) in
+      ap (λ more. part_between given k ++ more) (filled-flat cells)
+      ∙ ap (λ more. more ++ flat_text (filled_text texts cells)) (part-flat k)
+      ∙ sym (map-append Byte (get_or ([] ∷ texts) k []) (filled_text texts cells))
   filled-flat (cell ∷ cells) = filled-flat cells
 
-  pub filled-no_call : (cells : List Cell) → NoCall (filled neutral active count cells)
-  filled-no_call cells = subst NoCall (sym (filled-flat cells)) (text-no_call (flat_text (filled_text (part_texts neutral parts) cells)) (bytes-flat (filled_text (part_texts neutral parts) cells)))
+  pub filled-no_call : (cells : List Cell) → NoCall (filled given cells)
+  filled-no_call cells = subst NoCall (sym (filled-flat cells)) (text-no_call (flat_text (filled_text (part_texts neutral (parts_between neutral first end)) cells)) (bytes-flat (filled_text (part_texts neutral (parts_between neutral first end)) cells)))
 
--- the list that stood before active is let go
-pub list-gone : (done : Bool) (old mid put last : Lists) (more : List Cell) (text : Text) (count : ℕ) → mid ≡ record old { active = mid.active } → drop (count + 1) mid.active ≡ old.active → more ≡ flat_text text → OnTrue done (put ≡ record mid { neutral = mid.neutral ++ more }) → last ≡ record put { active = drop (count + 1) put.active } → OnTrue done (last ≡ record old { neutral = old.neutral ++ flat_text text })
-list-gone false old mid put last more text count same behind is put_is gone = tt
-list-gone true old mid put last more text count same behind is put_is gone =
-    gone
-    ∙ ap (λ (l : Lists). record l { active = drop (count + 1) l.active }) put_is
-    ∙ ap (λ cells. record mid { neutral = mid.neutral ++ more; active = cells }) behind
-    ∙ ap (λ (l : Lists). record l { neutral = l.neutral ++ more; active = old.active }) same
-    ∙ ap (λ cells. record old { neutral = old.neutral ++ cells }) is
+-- what is under numbers that lie over the cells
+module _ (was now : List Cell) (a b : ℕ) (order : a ≤ b) (within : b ≤ length was) (numbers : HaveNumbers was now a b) where
+  pub numbers-long : length now ≡ length was
+  numbers-long =
+      let mid = slice_range now a b in
+      let whole = ap length (split_between now a b order) ∙ length-append (take a now) (mid ++ drop b now) ∙ ap (λ n. length (take a now) + n) (length-append mid (drop b now)) in
+      omega (arith, whole, ap length numbers, length-append (take a now ++ map under mid) (drop b now), length-append (take a now) (map under mid), length-map mid under)
+
+  pub under-numbers : map under (slice_range now a b) ≡ slice_range was a b
+  under-numbers =
+      let size = numbers-long in
+      let mid = map under (slice_range now a b) in
+      let long : length mid ≡ b - a = length-map (slice_range now a b) under ∙ length-between now a b (omega (arith, within, size)) in
+      let front : length (take a now) ≡ a = length-take-le a now (omega (arith, order, within, size)) in
+      let middle : slice_range (take a now ++ mid ++ drop b now) a b ≡ mid = same_lists _ _ (search (rules, places)) (λ i d less. grind (arith, places)) in
+      sym middle ∙ ap (λ l. slice_range l a b) numbers
+
+  -- cells that come behind them stay
+  pub lifted-longer : (more : List Cell) → take a (now ++ more) ++ map under (slice_range (now ++ more) a b) ++ drop b (now ++ more) ≡ was ++ more
+  lifted-longer more =
+      let size = numbers-long in
+      let front : take a (now ++ more) ≡ take a now = take-append-le a now more (omega (arith, order, within, size)) in
+      let part : slice_range (now ++ more) a b ≡ slice_range now a b = part_of_longer now more a b order (omega (arith, within, size)) in
+      let rest : drop b (now ++ more) ≡ drop b now ++ more = drop-append-le b now more (omega (arith, within, size)) in
+      rw (front, part, rest) (sym (append_assoc (take a now ++ map under (slice_range now a b)) (drop b now) more) ∙ ap (λ l. l ++ more) numbers)

@@ -1,6 +1,6 @@
 -- How a walk over a body makes gaps of a text.
-use Rattle.trac_store.proofs.Words.{◌≡◌, ℕ, zero, suc, ◌+◌, ◌-◌, ◌<◌, ◌≤◌, ◌&&◌, Bool, true, false, List, [], ◌∷◌, ◌++◌, length, take, drop, map, slice_range, set, get_or, refl, sym, ap, ◌∙◌, arith, append_assoc, drop_more, take_more_set, and-false, false≢true, Cell, Byte}
-use Rattle.trac_store.proofs.Words.{Gap, seen, character_of, is_byte, begins_cells, segment_cells, character-seen}
+use Rattle.trac_store.proofs.Words.{◌≡◌, ℕ, zero, suc, ◌+◌, ◌-◌, ◌<◌, ◌≤◌, ◌&&◌, Bool, true, false, List, [], ◌∷◌, ◌++◌, length, take, drop, map, slice_range, set, refl, sym, ap, ◌∙◌, arith, rules, places, same_lists, append_assoc, append-nil, drop-drop, drop_all, take_all, take_at, take-take, take_more_set, and-false, false≢true}
+use Rattle.trac_store.proofs.Words.{Cell, Byte, Gap, seen, character_of, is_byte, begins_cells, text_cells_at, segment_cells, character-seen, NonePasses}
 use Rattle.trac_store.proofs.FlatLemmas.{drop-part}
 
 is_byte-seen : (b : ℕ) (cell : Cell) → is_byte b (seen cell) ≡ is_byte b cell
@@ -20,10 +20,6 @@ begins-map_seen [] cells = refl
 begins-map_seen (b ∷ text) [] = refl
 begins-map_seen (b ∷ text) (cell ∷ cells) = let e = is_byte-seen b cell in let f = begins-map_seen text cells in rw (e, f)
 
--- the cells as contracts see them begin as the cells do
-pub begins-seen : (text cells : List Cell) → begins_cells (map character_of text) cells ≡ begins_cells (map character_of (map seen text)) (map seen cells)
-begins-seen text cells = sym (ap (λ bs. begins_cells bs (map seen cells)) (bytes-seen text) ∙ begins-map_seen (map character_of text) cells)
-
 -- cells that begin with a text are as many
 pub begins-length : (text : List ℕ) (cells : List Cell) → begins_cells text cells ≡ true → length text ≤ length cells
 begins-length [] cells h = omega arith
@@ -39,16 +35,6 @@ pub begins-few : (text : List ℕ) (cells : List Cell) → length cells < length
 begins-few [] cells h = absurd (omega arith)
 begins-few (b ∷ text) [] h = refl
 begins-few (b ∷ text) (cell ∷ cells) h = let e = begins-few text cells (omega arith) in rw (e, and-false)
-
--- nor do cells whose first is another one
-pub begins-other : (neutral part cells : List Cell) (a b : ℕ) (first : Cell) → a < b → b ≤ length neutral → 0 < length cells → map seen cells ≡ part → seen first ≡ get_or neutral a (Byte 0) → is_byte (character_of first) (get_or cells 0 (Byte 0)) ≡ false → begins_cells (map character_of (slice_range neutral a b)) part ≡ false
-begins-other neutral part [] a b first order within some part_is first_is differ = absurd (omega arith)
-begins-other neutral part (cell ∷ cells) a b first order within some part_is first_is differ =
-    let size : b - a ≡ suc (b - (a + 1)) = omega arith in
-    let next = drop_more neutral a (Byte 0) (omega arith) in
-    let text : slice_range neutral a b ≡ get_or neutral a (Byte 0) ∷ slice_range neutral (a + 1) b = rw (size, next) in
-    let other : is_byte (character_of (get_or neutral a (Byte 0))) (seen cell) ≡ false = ap (λ x. is_byte (character_of x) (seen cell)) (sym first_is) ∙ ap (λ n. is_byte n (seen cell)) (character-seen first) ∙ is_byte-seen (character_of first) cell ∙ differ in
-    rw (text, ← part_is, other)
 
 segment-skip : (text : List ℕ) (k n : ℕ) (cells : List Cell) → segment_cells text k n cells ≡ segment_cells text k 0 (drop n cells)
 segment-skip text k zero cells = refl
@@ -67,24 +53,62 @@ segment-found (b ∷ text) k (cell ∷ cells) some h =
 pub segment-other : (text : List ℕ) (k : ℕ) (cell : Cell) (cells : List Cell) → begins_cells text (cell ∷ cells) ≡ false → segment_cells text k 0 (cell ∷ cells) ≡ cell ∷ segment_cells text k 0 cells
 segment-other text k cell cells h = rw h
 
-module _ (text : List ℕ) (k : ℕ) (was now : List Cell) (read to write : ℕ) (all : List Cell) (order : write ≤ read) (inside : read < to) (within : to ≤ length was) (len : length now ≡ length was) (written : take write now ++ segment_cells text k 0 (slice_range was read to) ≡ all) where
-  put : (cell : Cell) → take (write + 1) (set now write cell) ≡ take write now ++ cell ∷ []
-  put cell = take_more_set now write cell (omega arith)
+-- cells stay up to the first occurrence
+pub segment-first : (text : List ℕ) (k : ℕ) (cells : List Cell) (n : ℕ) → NonePasses (text_cells_at text cells) 0 n → segment_cells text k 0 cells ≡ take n cells ++ segment_cells text k 0 (drop n cells)
+segment-first text k cells zero none = refl
+segment-first text k [] (suc n) none = refl
+segment-first text k (cell ∷ cells) (suc n) none =
+    segment-other text k cell cells (none 0 (omega arith) (omega arith))
+    ∙ ap (λ l. cell ∷ l) (segment-first text k cells n (λ i above below. none (suc i) (omega arith) (omega (arith, below))))
 
-  pub written-gap : 0 < length text → read + length text ≤ to → begins_cells text (slice_range was read to) ≡ true → take (write + 1) (set now write (Gap k)) ++ segment_cells text k 0 (slice_range was (read + length text) to) ≡ all
-  written-gap some short found =
-      let s = segment-found text k (slice_range was read to) some found in
-      let p = sym (drop-part was read (length text) to short) in
-      let joined = append_assoc (take write now) (Gap k ∷ []) (segment_cells text k 0 (drop (length text) (slice_range was read to))) in
-      rw (put (Gap k), p, joined) (ap (λ cs. take write now ++ cs) (sym s) ∙ written)
+-- and all of them where there is none
+pub segment-none : (text : List ℕ) (k : ℕ) (cells : List Cell) → NonePasses (text_cells_at text cells) 0 (length cells) → segment_cells text k 0 cells ≡ cells
+segment-none text k cells none =
+    segment-first text k cells (length cells) none
+    ∙ ap (λ l. take (length cells) cells ++ segment_cells text k 0 l) (drop_all (length cells) cells (omega arith))
+    ∙ append-nil (take (length cells) cells)
+    ∙ take_all (length cells) cells (omega arith)
 
-  pub written-other : begins_cells text (slice_range was read to) ≡ false → take (write + 1) (set now write (get_or was read (Byte 0))) ++ segment_cells text k 0 (slice_range was (read + 1) to) ≡ all
-  written-other other =
-      let cell = get_or was read (Byte 0) in
-      let rest = slice_range was (read + 1) to in
-      let size : to - read ≡ suc (to - (read + 1)) = omega arith in
-      let next = drop_more was read (Byte 0) (omega arith) in
-      let more : slice_range was read to ≡ cell ∷ rest = rw (size, next) in
-      let s = segment-other text k cell rest (ap (begins_cells text) (sym more) ∙ other) in
-      let joined = append_assoc (take write now) (cell ∷ []) (segment_cells text k 0 rest) in
-      rw (put cell, joined) (ap (λ cs. take write now ++ cs) (sym s ∙ ap (segment_cells text k 0) (sym more)) ∙ written)
+-- cells that are read move to where others were
+module _ (was now moved : List Cell) (read write place : ℕ) (order : write ≤ read) (up : read ≤ place) (within : place ≤ length was) (len : length now ≡ length was) (rest : drop read now ≡ drop read was) (is : moved ≡ take write now ++ slice_range now read place ++ drop (write + (place - read)) now) where
+  read-kept : slice_range now read place ≡ slice_range was read place
+  read-kept = ap (take (place - read)) rest
+
+  pub moved-len : length moved ≡ length was
+  moved-len = rw is (search (rules, places)) ∙ len
+
+  pub moved-front : take (write + (place - read)) moved ≡ take write now ++ slice_range was read place
+  moved-front =
+      let front = take write now ++ slice_range now read place in
+      let size : length front ≡ write + (place - read) = search (rules, places) in
+      ap (take (write + (place - read))) is ∙ take_at front (drop (write + (place - read)) now) (write + (place - read)) size ∙ ap (λ l. take write now ++ l) read-kept
+
+  pub moved-rest : (m : ℕ) → write + (place - read) ≤ m → read ≤ m → drop m moved ≡ drop m was
+  moved-rest m above behind =
+      let same : drop m moved ≡ drop m now = rw is (same_lists _ _ (search (rules, places)) (λ k d less. grind (arith, places))) in
+      let e : read + (m - read) ≡ m = omega (arith, behind) in
+      same ∙ ap (λ i. drop i now) (sym e) ∙ sym (drop-drop (m - read) read now) ∙ ap (drop (m - read)) rest ∙ drop-drop (m - read) read was ∙ ap (λ i. drop i was) e
+
+  module _ (text : List ℕ) (k to : ℕ) (all : List Cell) (end : to ≤ length was) (written : take write now ++ segment_cells text k 0 (slice_range was read to) ≡ all) where
+    -- up to an occurrence, which becomes a gap
+    pub written-gap : 0 < length text → place + length text ≤ to → NonePasses (text_cells_at text (slice_range was read to)) 0 (place - read) → text_cells_at text (slice_range was read to) (place - read) ≡ true → take (write + (place - read) + 1) (set moved (write + (place - read)) (Gap k)) ++ segment_cells text k 0 (slice_range was (place + length text) to) ≡ all
+    written-gap some short none found =
+        let n = place - read in
+        let cells = slice_range was read to in
+        let e : read + n ≡ place = omega (arith, up) in
+        let here : drop n cells ≡ slice_range was place to = drop-part was read n to (omega (arith, e, short)) ∙ ap (λ i. slice_range was i to) e in
+        let front : take n cells ≡ slice_range was read place = take-take n (to - read) (drop read was) (omega (arith, short)) in
+        let split = segment-first text k cells n none ∙ ap (λ l. l ++ segment_cells text k 0 (drop n cells)) front ∙ ap (λ l. slice_range was read place ++ l) (segment-found text k (drop n cells) some found ∙ ap (λ l. Gap k ∷ segment_cells text k 0 (drop (length text) l)) here ∙ ap (λ l. Gap k ∷ segment_cells text k 0 l) (drop-part was place (length text) to short)) in
+        let put = take_more_set moved (write + n) (Gap k) (omega (arith, moved-len, order, up, within, some, short, end)) in
+        let rest_is = segment_cells text k 0 (slice_range was (place + length text) to) in
+        ap (λ l. l ++ rest_is) put
+        ∙ append_assoc (take (write + n) moved) (Gap k ∷ []) rest_is
+        ∙ ap (λ l. l ++ (Gap k ∷ rest_is)) moved-front
+        ∙ append_assoc (take write now) (slice_range was read place) (Gap k ∷ rest_is)
+        ∙ ap (λ l. take write now ++ l) (sym split)
+        ∙ written
+
+    -- up to the end, behind the last one
+    pub written-end : place ≡ to → NonePasses (text_cells_at text (slice_range was read to)) 0 (length (slice_range was read to)) → take (write + (place - read)) moved ≡ all
+    written-end last none =
+        moved-front ∙ ap (λ i. take write now ++ slice_range was read i) last ∙ ap (λ l. take write now ++ l) (sym (segment-none text k (slice_range was read to) none)) ∙ written

@@ -1,4 +1,5 @@
-pub mod BorderLists
+pub mod ArgumentParts
+pub mod DistinctForms
 pub mod FilledParts
 pub mod Filling
 pub mod Finding
@@ -8,12 +9,11 @@ pub mod Gaps
 pub mod HeadCells
 pub mod IndexSearch
 pub mod Items
-pub mod ArgumentParts
+pub mod LaidBorders
 pub mod Places
 pub mod Removals
 pub mod Searches
 pub mod Segments
-pub mod DistinctForms
 pub mod Sweeping
 pub mod TableChanges
 pub mod TextBorders

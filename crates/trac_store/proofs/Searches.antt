@@ -1,8 +1,8 @@
 -- What a search over the cells of a body says of its items.
 use Rattle.trac_store.proofs.Words.{◌≡◌, ℕ, ◌<◌, ◌≤◌, ◌&&◌, ◌==◌, Bool, true, List, [], ◌∷◌, length, drop, map, get_or, Option, Some, None, MatchOption, refl, sym, ap, ◌∙◌, arith, get_or-map, length-map, drop-map, and_parts, Item, Text, is_character, begins, Cell}
-use Rattle.trac_store.proofs.Words.{Byte, Comma, seen, character_of, is_byte_cell, byte_cell_at, flat_item, is_gap, gap_at, character_at, text_at, NonePasses, IsFirst, IsLast, is_gap_cell, gap_cell_at, text_cells_at, begins_cells, tested-seen}
+use Rattle.trac_store.proofs.Words.{Byte, Comma, seen, is_byte_cell, byte_cell_at, flat_item, is_gap, gap_at, character_at, text_at, NonePasses, IsFirst, IsLast, is_gap_cell, gap_cell_at, text_cells_at, begins_cells, tested-seen}
 use Rattle.trac_language.specs.declared.item.Item.TheVariants as item
-use Rattle.trac_store.proofs.Gaps.{begins-map_seen, text-shown}
+use Rattle.trac_store.proofs.Gaps.{begins-map_seen}
 
 -- another test that agrees gives the same places
 pub first-agrees : (r : Option ℕ) (p q : ℕ → Bool) (from n to : ℕ) → n ≡ to → ((k : ℕ) → k < to → p k ≡ q k) → MatchOption r (NonePasses p from n) (λ i. IsFirst p from n i) → MatchOption r (NonePasses q from to) (λ i. IsFirst q from to i)
@@ -56,11 +56,6 @@ module _ (cells : List Cell) (items : List Item) (same : map seen cells ≡ map 
   pub characters-agree : (k : ℕ) → k < length items → byte_cell_at cells k ≡ character_at items k
   characters-agree k below = sym (tested-seen (get_or cells k Comma)) ∙ ap is_byte_cell (cell_at k below) ∙ byte-flat (get_or items k (item.Byte 0))
 
--- cells as contracts see them hold a text where the cells do
-pub texts-seen : (cells seen_cells text part : List Cell) → map seen cells ≡ seen_cells → map seen text ≡ part → (k : ℕ) → text_cells_at (map character_of text) cells k ≡ text_cells_at (map character_of part) seen_cells k
-texts-seen cells seen_cells text part same is k =
-    ap (λ bs. begins_cells bs (drop k cells)) (text-shown text part is) ∙ sym (begins-map_seen (map character_of part) (drop k cells)) ∙ ap (begins_cells (map character_of part)) (sym (drop-map seen k cells) ∙ ap (drop k) same)
-
 -- and those of items where the items do
 pub texts-agree : (cells : List Cell) (items : List Item) (text : Text) → cells ≡ map flat_item items → (k : ℕ) → text_cells_at text cells k ≡ text_at text items k
 texts-agree cells items text same k =
@@ -72,3 +67,8 @@ begins-within items [] e = omega arith
 begins-within [] (c ∷ text) e = cc
 begins-within (item.Byte b ∷ items) (c ∷ text) e = let rest = begins-within items text (and_parts (b == c) (begins items text) e).1 in omega arith
 begins-within (item.Gap k ∷ items) (c ∷ text) e = cc
+
+-- what a search of raw cells says of the cells that are seen
+pub first-seen : (r : Option ℕ) (raw cells : List Cell) (text bytes : List ℕ) (from : ℕ) → map seen raw ≡ cells → text ≡ bytes → MatchOption r (NonePasses (text_cells_at text raw) from (length raw)) (λ i. IsFirst (text_cells_at text raw) from (length raw) i) → MatchOption r (NonePasses (text_cells_at bytes cells) from (length cells)) (λ i. IsFirst (text_cells_at bytes cells) from (length cells) i)
+first-seen r raw cells text bytes from shown same found =
+    first-agrees r (text_cells_at text raw) (text_cells_at bytes cells) from (length raw) (length cells) (sym (length-map raw seen) ∙ ap length shown) (λ k below. ap (λ t. begins_cells t (drop k raw)) same ∙ sym (begins-map_seen bytes (drop k raw)) ∙ ap (begins_cells bytes) (sym (drop-map seen k raw) ∙ ap (drop k) shown)) found

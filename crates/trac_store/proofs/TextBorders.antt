@@ -1,8 +1,7 @@
 -- Borders of a text, and what a search by them keeps.
-use Rattle.trac_store.proofs.Words.{◌≡◌, ℕ, zero, suc, ◌+◌, ◌-◌, ◌<◌, ◌≤◌, Bool, true, false, List, [], ◌∷◌, length, drop, map, get_or, Some, ⊎_elim, refl, sym, ap, subst, ◌∙◌, arith, length-map, length-drop, get_or-map, get_or-drop, cases_eq, cases_lt, false≢true, and_parts, and_from, eq-eqb}
-use Rattle.trac_store.proofs.Words.{eqb-true, Cell, Byte, Comma, Head, seen, character_of, IsHeadAt, byte_at, IsBorder, IsLongestBorder, AreBorders, GoesOn, IsNextBorder, is_byte, begins_cells, text_cells_at, NonePasses, IsFirst, head_number, head_at}
+use Rattle.trac_store.proofs.Words.{◌≡◌, ℕ, zero, suc, ◌+◌, ◌-◌, ◌<◌, ◌≤◌, Bool, true, false, List, [], ◌∷◌, length, drop, get_or, ⊎_elim, refl, sym, ap, subst, ◌∙◌, arith, length-drop, get_or-drop, cases_eq, cases_lt, false≢true, and_parts, and_from, eq-eqb}
+use Rattle.trac_store.proofs.Words.{eqb-true, Cell, Byte, Comma, byte_at, IsBorder, IsLongestBorder, GoesOn, IsNextBorder, is_byte, begins_cells, text_cells_at, NonePasses, IsFirst}
 use Rattle.trac_store.proofs.Gaps.{begins-few}
-use Rattle.trac_store.proofs.HeadCells.{number-at}
 
 -- a border of a border is one
 border-of-border : (text : List ℕ) (n m b : ℕ) → IsBorder text n m → IsBorder text m b → IsBorder text n b
@@ -49,18 +48,6 @@ module _ (text : List ℕ) (n border : ℕ) (cell : Cell) (upto : GoesUpTo text 
     some = λ some. absurd (omega (arith, some));
     most = λ b goes. absurd (omega (arith, other differ b goes, zero_is));
   }
-
--- what the table has at a place
-pub table-border : (text : List ℕ) (table : List Cell) (n number : ℕ) → AreBorders text (map seen table) → 0 < n → n ≤ length table → number ≡ head_number (Some (get_or table (length table - n) (Byte 0))) → IsLongestBorder text n number
-table-border text table n number borders some within is =
-    let size = length-map table seen in
-    let e : length (map seen table) - n ≡ length table - n = ap (λ k. k - n) size in
-    let read = number-at table (map seen table) (length table - n) refl (omega (arith, some, within)) in
-    subst (IsLongestBorder text n) (ap (head_at (map seen table)) e ∙ sym read ∙ sym is) (borders.longest n some (omega (arith, within, size)))
-
--- the character at a place of cells
-pub byte-in : (cells : List Cell) (k : ℕ) → k < length cells → byte_at (map character_of cells) k ≡ character_of (get_or cells k (Byte 0))
-byte-in cells k within = get_or-map character_of cells k (Byte 0) 0 within
 
 -- one cell is one byte
 one-byte : (b c : ℕ) (cell : Cell) → is_byte b cell ≡ true → is_byte c cell ≡ true → b ≡ c
@@ -215,27 +202,6 @@ module _ (text : List ℕ) (n border next : ℕ) (cell : Cell) (cell_is : cell �
     border = record { within = omega (arith, next-few, long.shorter); same = same-next };
     longest = longest-next;
   }
-
--- a table with one number more
-head-more : (table : List Cell) (number : ℕ) → ((i : ℕ) → i < length table → IsHeadAt table i) → (i : ℕ) → i < suc (length table) → IsHeadAt (Head number ∷ table) i
-head-more table number heads zero within = refl
-head-more table number heads (suc i) within = heads i (omega (arith, within))
-
-pub borders-more : (text : List ℕ) (table : List Cell) (number : ℕ) → AreBorders text table → IsLongestBorder text (length table + 1) number → AreBorders text (Head number ∷ table)
-borders-more text table number borders long = record {
-  heads = head-more table number borders.heads;
-  longest = λ n some within.
-      ⊎_elim
-      (λ all.
-      let e : suc (length table) - n ≡ 0 = omega (arith, all) in
-      let read : head_at (Head number ∷ table) (suc (length table) - n) ≡ number = ap (head_at (Head number ∷ table)) e in
-      subst (IsLongestBorder text n) (sym read) (subst (λ m. IsLongestBorder text m number) (sym all) long))
-      (λ less.
-      let e : suc (length table) - n ≡ suc (length table - n) = omega (arith, less, within) in
-      let read : head_at (Head number ∷ table) (suc (length table) - n) ≡ head_at table (length table - n) = ap (head_at (Head number ∷ table)) e in
-      subst (IsLongestBorder text n) (sym read) (borders.longest n some (omega (arith, less, within))))
-      (cases_eq n (length table + 1));
-}
 
 -- a border that goes on has one character more
 pub next-within : (text : List ℕ) (n : ℕ) (cell : Cell) (next : ℕ) → IsNextBorder text n cell next → next ≤ n + 1

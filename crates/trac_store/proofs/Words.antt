@@ -4,7 +4,7 @@ pub use Rattle.std.proofs.Math.Bool.{and-false}
 pub use Rattle.std.proofs.Math.Seq.{drop-append-add, get_or-append_seam}
 pub use Rattle.std.proofs.lemmas.Bool.{and_from, and_parts, both_ways, cases_eq, cases_lt, eq-eqb, eqb-true, false_from_ne_true, false≢true, le-ltb, leb-false, leb-true, lt-leb, lt-ltb, ltb-false, ltb-true}
 pub use Rattle.std.proofs.lemmas.Grind.{common_steps}
-pub use Rattle.std.proofs.lemmas.List.{append-nil, append_assoc, drop-drop, drop-map, drop-set-lt, drop_all, drop_at, drop_more, flat_map_more, get_or-drop, get_or-map, get_or-set_other, get_or-set_same, get_or-take, get_or_append_left, get_or_past, length-append, length-drop, length-map, length-set, length-take-le, length_push, map-append, nil_from_length, places, same_lists, set-append_right, set_split, take-append-drop, take-map, take-set, take-set-le, take-take, take_all, take_at, take_more, take_more_same, take_more_set}
+pub use Rattle.std.proofs.lemmas.List.{append-nil, append_assoc, drop-drop, drop-map, drop-set-lt, drop_all, drop_at, drop_more, flat_map_more, get_or-drop, get_or-map, get_or-set_other, get_or-set_same, get_or-take, get_or_append_left, get_or_default, get_or_past, length-append, length-drop, length-map, length-set, length-take-le, length_push, map-append, nil_from_length, places, same_lists, set-append_right, set_split, take-append-drop, take-map, take-set, take-set-le, take-take, take_all, take_at, take_more, take_more_same, take_more_set}
 pub use Rattle.std.proofs.lemmas.List.Concat.{flat_map-append}
 pub use Rattle.std.proofs.lemmas.List.Edits.{between_none, get_or-between, get_or-remove_above, get_or-remove_below, length-between, length-remove, split_between}
 pub use Rattle.std.proofs.lemmas.List.Elements.{All-append, All-cons, All-get_or, All-head, All-map, All-nil, All-set, All-tail, filter-append}
@@ -27,13 +27,14 @@ pub use Rattle.trac_space.proofs.BlockChanges.{reads}
 pub use Rattle.trac_space.proofs.Characters.{part-on, tested-seen}
 pub use Rattle.trac_space.proofs.Runs.{character-seen}
 pub use Rattle.trac_space.specs.Cells.{IsNoCall, NoCall, is_call, is_comma, seen}
-pub use Rattle.trac_space.specs.Filled.{ListsParts, filled, listed_part, number_at}
+pub use Rattle.trac_space.specs.Filled.{HaveCommas, filled, filling, numbered_part, part_between, parts_at}
 pub use Rattle.trac_space.specs.Lists.{HasWay, Lists, used, with_way}
+pub use Rattle.trac_space.specs.Overlay.{HaveNumbers, over, takes_number, under}
 pub use Rattle.trac_space.specs.Texts.{IsByte, byte_cell_at, character_of, flat_text, is_byte_cell, text_of_cells}
 pub use Rattle.trac_space.specs.declared.cell.Cell.{Cell}
 pub use Rattle.trac_space.specs.declared.cell.Cell.TheVariants.{Byte, Call, Comma, Gap, Head}
-pub use Rattle.trac_store.specs.Arguments.{AreParted, IsHeadAt, IsListed, before_comma, filled_cells, numbered_part, parts_at, parts_between, texts_between}
-pub use Rattle.trac_store.specs.Borders.{AreBorders, GoesOn, IsBorder, IsLongestBorder, IsNextBorder, byte_at}
+pub use Rattle.trac_store.specs.Arguments.{AreParted, IsHeadAt, before_comma, filled_cells, parts_between, texts_between}
+pub use Rattle.trac_store.specs.Borders.{AreLaid, GoesOn, HaveBorders, IsBorder, IsLongestBorder, IsNextBorder, byte_at, laid_text}
 pub use Rattle.trac_store.specs.FlatForms.{flat_form, flat_forms, flat_item}
 pub use Rattle.trac_store.specs.Forms.{IsNamedAt, body_at, form_at, name_at, pointer_at}
 pub use Rattle.trac_store.specs.Gaps.{begins_cells, gap_cell_at, gap_number, gap_ordinal, is_byte, is_gap_cell, segment_cells, segmented_cells, text_cells_at}

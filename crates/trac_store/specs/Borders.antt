@@ -1,9 +1,13 @@
 -- Borders of a text: beginnings of it that also end it.
-use Rattle.std.specs.Prelude.{◌≡◌, ℕ, ◌+◌, ◌-◌, ◌<◌, ◌≤◌, true, List, length, slice_index_or}
+use Rattle.std.specs.Prelude.{◌≡◌, ℕ, ◌+◌, ◌-◌, ◌<◌, ◌≤◌, true, List, length, map}
+use Rattle.std.specs.Prelude.{slice_range, slice_index_or}
+use Rattle.trac_language.specs.Text.{Text}
 use Rattle.trac_space.specs.declared.cell.Cell.{Cell}
-use Rattle.trac_store.specs.Arguments.{IsHeadAt}
+use Rattle.trac_space.specs.declared.cell.Cell.TheVariants.{Byte}
+use Rattle.trac_space.specs.Overlay.{under, over, HaveNumbers}
+use Rattle.trac_space.specs.Texts.{character_of}
 use Rattle.trac_store.specs.Gaps.{is_byte}
-use Rattle.trac_store.specs.Stored.{head_at}
+use Rattle.trac_store.specs.Parts.{part_text}
 
 -- the character at the place
 abbrev pub byte_at : List ℕ → ℕ → ℕ
@@ -20,12 +24,23 @@ pub record IsLongestBorder (text : List ℕ) (n b : ℕ) : Type 0 where
   pub border : IsBorder text n b
   pub longest : (c : ℕ) → c < n → IsBorder text n c → c ≤ b
 
--- the cells are numbers: from the end on, the longest border of the first character, of the first
--- two, and so on
-pub record AreBorders (text : List ℕ) (table : List Cell) : Type 0 where
-  pub heads : (i : ℕ) → i < length table → IsHeadAt table i
-  pub longest : (n : ℕ) → 0 < n → n ≤ length table →
-      IsLongestBorder text n (head_at table (length table - n))
+-- the text under numbers
+abbrev pub laid_text : List Cell → Text
+laid_text cells = map (λ cell. character_of (under cell)) cells
+
+-- over the cell at which a beginning of the text ends lies its longest border, over the first `count`
+-- of the cells
+abbrev pub HaveBorders : List Cell → ℕ → Type 0
+HaveBorders cells count =
+    (n : ℕ) → 0 < n → n ≤ count
+    → IsLongestBorder (laid_text cells) n (over (slice_index_or cells (n - 1) (Byte 0)))
+
+-- the longest borders of the text from a up to b lie over its cells, and nothing else has changed
+pub record AreLaid (was now : List Cell) (a b : ℕ) : Type 0 where
+  pub numbers : HaveNumbers was now a b
+  pub text : laid_text (slice_range now a b) ≡ part_text was a b
+  pub borders : HaveBorders (slice_range now a b) (b - a)
+  pub long : length now ≡ length was
 
 -- such a beginning, of b characters, goes on with the cell behind the first n
 pub record GoesOn (text : List ℕ) (n : ℕ) (cell : Cell) (b : ℕ) : Type 0 where

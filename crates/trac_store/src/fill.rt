@@ -1,23 +1,23 @@
 //! Bodies of forms, their gaps filled, put at the end of neutral, and such without gaps, put before
 //! active.
-ghost use Rattle.std.specs.Prelude.{◌≡◌, ◌+◌, ◌≤◌, ◌<◌, ◌↔◌, ◌++◌, [], true, false};
-ghost use Rattle.std.specs.Prelude.{length, slice_range, All, IsTrue, MatchOption, Some};
+ghost use Rattle.std.specs.Prelude.{◌≡◌, ◌+◌, ◌≤◌, ◌<◌, ◌↔◌, ◌++◌};
+ghost use Rattle.std.specs.Prelude.{length, map, slice_range, All, IsTrue, MatchOption};
 ghost use Rattle.std.specs.Bool.{OnTrue, OnFalse};
-ghost use Rattle.trac_language.specs.Text.{Text};
 ghost use Rattle.trac_language.specs.Store.{IsStore};
 ghost use Rattle.trac_language.specs.Form.{text_of};
-ghost use Rattle.trac_space.specs.Lists.{used as cells_used, HasWay, with_way};
-ghost use Rattle.trac_space.specs.Texts.{flat_text, byte_cell_at, IsByte};
+ghost use Rattle.trac_space.specs.Cells.{NoCall};
+ghost use Rattle.trac_space.specs.Filled.{HaveCommas, filled};
+ghost use Rattle.trac_space.specs.Lists.{used as cells_used, with_way};
+ghost use Rattle.trac_space.specs.Overlay.{under};
+ghost use Rattle.trac_space.specs.Texts.{flat_text, IsByte};
 ghost use Rattle.trac_store.specs.Loading.{called_part, AreCharacters};
 ghost use Rattle.trac_store.specs.Arguments.{AreParted, filled_cells};
 ghost use Rattle.trac_store.specs.FlatForms.{flat_forms};
-ghost use Rattle.trac_store.specs.Gaps.{gap_number, gap_ordinal};
 ghost use Rattle.trac_store.specs.Index.{IsKept};
 ghost use Rattle.trac_store.specs.Stored.{forms_in, start_of};
 
-use crate::arguments::{argument, list_parts};
 use crate::store::heads_of;
-use trac_space::{Cell, Space, is_character};
+use trac_space::Space;
 
 /// Puts the characters of the body of form `k`, which begins at a place of the store, from its
 /// pointer on before active, where no gap stands among them and they fit, and gives how many they
@@ -120,7 +120,8 @@ pub fn fill_items(space: &mut Space, from: u32, stop: u32, first: u32, end: u32)
     fill_gaps(space, from, stop, first, end)
 }
 
-// The same, where there may be gaps among them.
+// The same, where there may be gaps among them: the places of the comma marks lie meanwhile over
+// the texts.
 #[inline(always)]
 fn fill_gaps(space: &mut Space, from: u32, stop: u32, first: u32, end: u32) -> bool
     requires order { from ≤ stop }
@@ -137,129 +138,40 @@ fn fill_gaps(space: &mut Space, from: u32, stop: u32, first: u32, end: u32) -> b
     ensures full { OnFalse result (space.new ≡ record space.old { spare = space.new.spare }) }
     ensures kept { IsKept space.old.spare space.new.spare }
 {
-    fill_beside_list(space, from, stop, first, end)
-        || fill_without_list(space, from, stop, first, end)
-}
-
-// The same where a list of the arguments and the text fit into cells that are in no list. False
-// where they don't.
-#[inline(always)]
-fn fill_beside_list(space: &mut Space, from: u32, stop: u32, first: u32, end: u32) -> bool
-    requires order { from ≤ stop }
-    requires within { stop ≤ length space.old.store }
-    requires bounded { length space.old.store ≤ 16777216 }
-    requires arguments { AreParted space.old.neutral first end }
-    ensures fits { let text = filled_cells space.old from stop first end in
-        IsTrue result → cells_used space.old + length text ≤ space.old.room }
-    ensures last { let text = filled_cells space.old from stop first end in
-        OnTrue result (space.new ≡ record space.old {
-          neutral = space.old.neutral ++ flat_text text;
-        }) }
-    ensures full { OnFalse result (space.new ≡ space.old) }
-{
-    if space.way() < end + 2 - first {
-        return false;
-    }
-    let listed = list_parts(space, first, end);
-    let filled = space.put_filled(from, stop, listed);
-    space.drop_active(listed + 1);
+    let first = first.min(end);
+    let commas = space.lay_commas(first, end);
+    let filled = put_filled(space, (from, stop), (first, end), commas);
+    space.lift_neutral(first, end);
     filled
 }
 
-// The same without a list of the arguments, nor a spare list. False where the text doesn't fit.
-#[inline(never)]
-fn fill_without_list(space: &mut Space, from: u32, stop: u32, first: u32, end: u32) -> bool
-    requires order { from ≤ stop }
-    requires within { stop ≤ length space.old.store }
-    requires bounded { length space.old.store ≤ 16777216 }
-    requires arguments { AreParted space.old.neutral first end }
-    ensures put { let text = filled_cells space.old from stop first end in
-        IsTrue result ↔ (cells_used space.old + length text ≤ space.old.room) }
-    ensures last { let text = filled_cells space.old from stop first end in
+// Puts the items in the store from one place up to another at the end of neutral, each gap replaced
+// by the part of its ordinal of those between so many comma marks, whose places lie over the given
+// cells of neutral. False where they don't fit. The spare list is let go where it is in their way.
+#[inline(always)]
+fn put_filled(space: &mut Space, items: (u32, u32), given: (u32, u32), commas: u32) -> bool
+    requires order { items.0 ≤ items.1 }
+    requires within { items.1 ≤ length space.old.store }
+    requires given_order { given.0 ≤ given.1 }
+    requires given_within { given.1 ≤ length space.old.neutral }
+    requires commas { HaveCommas (slice_range space.old.neutral given.0 given.1) commas }
+    requires no_call { let texts = map under (slice_range space.old.neutral given.0 given.1) in
+        NoCall (filled texts (slice_range space.old.store items.0 items.1)) }
+    ensures put { let texts = map under (slice_range space.old.neutral given.0 given.1) in
+        let more = filled texts (slice_range space.old.store items.0 items.1) in
+        IsTrue result ↔ (cells_used space.old + length more ≤ space.old.room) }
+    ensures last { let texts = map under (slice_range space.old.neutral given.0 given.1) in
+        let more = filled texts (slice_range space.old.store items.0 items.1) in
         OnTrue result (space.new ≡ record space.old {
-          neutral = space.old.neutral ++ flat_text text;
-          spare = [];
+          neutral = space.old.neutral ++ more;
+          spare = space.new.spare;
         }) }
-    ensures full { OnFalse result (space.new ≡ record space.old { spare = [] }) }
+    ensures full { OnFalse result (space.new ≡ record space.old { spare = space.new.spare }) }
+    ensures kept { IsKept space.old.spare space.new.spare }
 {
+    if space.put_filled(items.0, items.1, given.0, given.1, commas) {
+        return true;
+    }
     space.drop_spare();
-    let before = space.neutral_len();
-    let filled = fill_cells(space, from, stop, first, end);
-    if !filled {
-        space.cut_neutral(before);
-    }
-    filled
-}
-
-// Puts the items in the store from place `from` up to `stop` at the end of neutral, each gap
-// replaced by the argument of its number. False where they don't fit into cells that are in no
-// list; then some of them may stand there.
-#[inline(always)]
-fn fill_cells(space: &mut Space, from: u32, stop: u32, first: u32, end: u32) -> bool
-    requires order { from ≤ stop }
-    requires within { stop ≤ length space.old.store }
-    requires bounded { length space.old.store ≤ 16777216 }
-    requires arguments { AreParted space.old.neutral first end }
-    ensures put { let text = filled_cells space.old from stop first end in
-        IsTrue result ↔ HasWay (length text) space.old }
-    ensures last { let text = filled_cells space.old from stop first end in
-        OnTrue result (space.new ≡ record space.old {
-          neutral = space.old.neutral ++ flat_text text;
-        }) }
-    ensures some { OnFalse result ((done : Text) × (space.new ≡ record space.old {
-      neutral = space.old.neutral ++ flat_text done;
-    })) }
-{
-    let mut at = from;
-    let mut way = space.way();
-    loop {
-        let count = space.put_characters(at, at + way.min(stop - at));
-        let gap = at + count;
-        if gap == stop {
-            return true;
-        }
-        // then no way is left
-        if has_character(space, gap) {
-            return false;
-        }
-        way -= count;
-        let part = argument(space, first, end, ordinal(space, gap));
-        if way < part.1 - part.0 {
-            return false;
-        }
-        way -= part.1 - part.0;
-        space.put_from_neutral(part.0, part.1);
-        at = gap + 1;
-    }
-}
-
-// Whether a character stands at place `i` of the store.
-#[inline]
-fn has_character(space: &Space, i: u32) -> bool
-    requires within { i < length space.now.store }
-    requires bounded { length space.now.store ≤ 16777216 }
-    ensures { result ≡ byte_cell_at space.now.store i }
-{
-    is_character(&space.store_part(i, i + 1)[0])
-}
-
-// The ordinal of the gap at place `i` of the store, 0 of any other cell.
-#[inline]
-fn ordinal(space: &Space, i: u32) -> u32
-    requires within { i < length space.now.store }
-    requires bounded { length space.now.store ≤ 16777216 }
-    ensures { result ≡ gap_ordinal space.now.store i }
-{
-    ordinal_in(space.store_part(i, i + 1)[0])
-}
-
-// The ordinal in a cell that is a gap, 0 of any other cell.
-#[inline]
-fn ordinal_in(cell: Cell) -> u32
-    ensures { result ≡ gap_number (Some cell) }
-{
-    match cell {
-        Cell::Gap(ordinal) => ordinal,
-        _ => 0,
-    }
+    space.put_filled(items.0, items.1, given.0, given.1, commas)
 }

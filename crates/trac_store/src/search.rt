@@ -1,14 +1,13 @@
 //! Places among the cells of a body.
-ghost use Rattle.std.specs.Prelude.{◌≡◌, ◌-◌, ◌≤◌, ◌<◌, length, map, MatchOption};
+ghost use Rattle.std.specs.Prelude.{◌≡◌, ◌-◌, ◌≤◌, ◌<◌, length, MatchOption};
 ghost use Rattle.std.specs.Prelude.{slice_range};
-ghost use Rattle.trac_space.specs.Texts.{character_of, byte_cell_at};
+ghost use Rattle.trac_space.specs.Texts.{byte_cell_at};
 ghost use Rattle.trac_store.specs.Parts.{IsTextPart, part_text};
 ghost use Rattle.trac_store.specs.Search.{NonePasses, IsFirst};
 ghost use Rattle.trac_store.specs.Search.{IsLast};
 ghost use Rattle.trac_store.specs.Gaps.{is_gap_cell, gap_cell_at, text_cells_at};
 
-use crate::borders::{first_by_borders, list_borders};
-use crate::segment::begins;
+use crate::borders::{first_place, lay_borders};
 use trac_space::{Cell, Space, is_character};
 
 // Whether the cell is a gap.
@@ -69,14 +68,11 @@ pub fn last_character(cells: &[Cell], from: u32) -> Option<u32>
     None
 }
 
-// How many characters a text has for which the search by its borders is worth their list.
-const LONG: u32 = 8;
-
 /// The first place at `from` or after at which the part of neutral stands in the store from one
 /// place up to another. None where there is none.
 ///
-/// Places count from the first of these. One pass over the cells, where free cells beside the index
-/// are enough for the part; nothing else changes.
+/// Places count from the first of these. One pass over the cells of the store, and two over the
+/// part; afterwards nothing has changed.
 pub fn find_text(space: &mut Space, body: (u32, u32), from: u32, part: (u32, u32)) -> Option<u32>
     requires order { body.0 ≤ body.1 }
     requires within { body.1 ≤ length space.old.store }
@@ -92,32 +88,9 @@ pub fn find_text(space: &mut Space, body: (u32, u32), from: u32, part: (u32, u32
         (λ place. IsFirst (text_cells_at text cells) from (length cells) place) }
     ensures same { space.new ≡ space.old }
 {
-    let len = part.1 - part.0;
-    if len < LONG || body.1 - body.0 - from < len || space.way() < len {
-        let text = space.neutral_part(part.0, part.1);
-        return first_text(space.store_part(body.0, body.1), from, text);
-    }
-    list_borders(space, part);
+    lay_borders(space, part);
     let text = space.neutral_part(part.0, part.1);
-    let table = space.active_part(0, len);
-    let found = first_by_borders(space.store_part(body.0, body.1), from, text, table);
-    space.drop_active(len);
+    let found = first_place(space.store_part(body.0, body.1), from, text);
+    space.lift_neutral(part.0, part.1);
     found
-}
-
-// The first place at `from` or after from which the cells begin with the text.
-fn first_text(cells: &[Cell], from: u32, text: &[Cell]) -> Option<u32>
-    requires within { from ≤ length cells.now }
-    requires bounded { length cells.now ≤ 16777216 }
-    ensures { let bytes = map character_of text.now in
-        MatchOption result
-        (NonePasses (text_cells_at bytes cells.now) from (length cells.now))
-        (λ place. IsFirst (text_cells_at bytes cells.now) from (length cells.now) place) }
-{
-    for i in from..cells.len() as u32 {
-        if begins(&cells[i as usize..], text) {
-            return Some(i);
-        }
-    }
-    None
 }

@@ -1,12 +1,13 @@
 //! Segmenting: gaps among the cells of the store (Mooers 1966).
-ghost use Rattle.std.specs.Prelude.{◌≡◌, ◌+◌, ◌<◌, ◌≤◌, ◌++◌, length, take, drop, map};
-ghost use Rattle.std.specs.Prelude.{slice_range, slice_set, slice_index_or};
-ghost use Rattle.trac_space.specs.declared.cell.Cell.TheVariants.{Byte};
-ghost use Rattle.trac_space.specs.Cells.{seen, NoCall};
+ghost use Rattle.std.specs.Prelude.{◌≡◌, ◌+◌, ◌-◌, ◌<◌, ◌≤◌, ◌++◌, length, take, drop};
+ghost use Rattle.std.specs.Prelude.{slice_range, MatchOption};
 ghost use Rattle.trac_space.specs.Texts.{character_of};
+ghost use Rattle.trac_store.specs.Borders.{laid_text, HaveBorders};
 ghost use Rattle.trac_store.specs.Parts.{IsTextPart, part_text};
-ghost use Rattle.trac_store.specs.Gaps.{is_byte, begins_cells, segment_cells, segmented_cells};
+ghost use Rattle.trac_store.specs.Gaps.{is_byte, text_cells_at, segment_cells, segmented_cells};
+ghost use Rattle.trac_store.specs.Search.{NonePasses, IsFirst};
 
+use crate::borders::{first_place, lay_borders};
 use trac_space::{Cell, Space};
 
 // Whether both cells are the same byte.
@@ -21,85 +22,63 @@ pub(crate) fn is_same_byte(cell: Cell, byte: Cell) -> bool
     }
 }
 
-// Whether the cells begin with the bytes of the text.
-pub(crate) fn begins(cells: &[Cell], text: &[Cell]) -> bool
-    ensures { result ≡ begins_cells (map character_of text.now) cells.now }
-{
-    if cells.len() < text.len() {
-        return false;
-    }
-    for i in 0..text.len() {
-        if !is_same_byte(cells[i], text[i]) {
-            return false;
-        }
-    }
-    true
-}
-
-// Whether the text, whose first cell is `first`, stands in the store at place `from`, before `to`.
-fn stands_at(space: &Space, from: u32, to: u32, text: (u32, u32), first: Cell) -> bool
-    requires order { from < to }
+// The first place of the store from `from` up to `to` at which the text stands, over which its borders
+// lie. None where there is none.
+fn next_place(space: &Space, from: u32, to: u32, text: (u32, u32)) -> Option<u32>
+    requires order { from ≤ to }
     requires within { to ≤ length space.now.store }
+    requires bounded { to ≤ 16777216 }
     requires text_order { text.0 < text.1 }
     requires text_within { text.1 ≤ length space.now.neutral }
-    requires first { seen first ≡ slice_index_or space.now.neutral text.0 (Byte 0) }
-    ensures { let bytes = part_text space.now.neutral text.0 text.1 in
-        result ≡ begins_cells bytes (slice_range space.now.store from to) }
+    requires text_bounded { text.1 ≤ 16777216 }
+    requires borders { let cells = slice_range space.now.neutral text.0 text.1 in
+        HaveBorders cells (length cells) }
+    ensures { let bytes = laid_text (slice_range space.now.neutral text.0 text.1) in
+        let cells = slice_range space.now.store from to in
+        MatchOption result
+        (NonePasses (text_cells_at bytes cells) 0 (length cells))
+        (λ place. (from ≤ place) × (place + (text.1 - text.0) ≤ to)
+        × IsFirst (text_cells_at bytes cells) 0 (length cells) (place - from)) }
 {
     let cells = space.store_part(from, to);
-    if !is_same_byte(cells[0], first) {
-        return false;
-    }
-    begins(cells, space.neutral_part(text.0, text.1))
-}
-
-// Puts the cell at place `from` of the store at place `to` too.
-fn copy_cell(space: &mut Space, from: u32, to: u32)
-    requires order { to ≤ from }
-    requires within { from < length space.old.store }
-    requires no_call { NoCall space.old.store }
-    ensures { space.new ≡ record space.old {
-      store = slice_set space.old.store to (slice_index_or space.old.store from (Byte 0));
-    } }
-{
-    match space.store_at(from) {
-        Some(cell) => space.write_store(to, cell),
-        None => {}
+    match first_place(cells, 0, space.neutral_part(text.0, text.1)) {
+        Some(place) => Some(from + place),
+        None => None,
     }
 }
 
-// Makes each occurrence of a text a gap, in the store from place `from` up to `to`, and gives the
-// new end.
+// Makes each occurrence of a text, over which its borders lie, a gap, in the store from place `from`
+// up to `to`, and gives the new end.
 fn make_gaps(space: &mut Space, from: u32, to: u32, text: (u32, u32), ordinal: u32) -> u32
     requires order { from ≤ to }
     requires within { to ≤ length space.old.store }
-    requires text_part { IsTextPart space.old.neutral text.0 text.1 }
-    requires some { text.0 < text.1 }
-    requires no_call { NoCall space.old.store }
-    ensures after { let bytes = part_text space.old.neutral text.0 text.1 in
+    requires bounded { to ≤ 16777216 }
+    requires text_order { text.0 < text.1 }
+    requires text_within { text.1 ≤ length space.old.neutral }
+    requires text_bounded { text.1 ≤ 16777216 }
+    requires borders { let cells = slice_range space.old.neutral text.0 text.1 in
+        HaveBorders cells (length cells) }
+    ensures after { let bytes = laid_text (slice_range space.old.neutral text.0 text.1) in
         let gapped = segment_cells bytes ordinal 0 (slice_range space.old.store from to) in
         space.new ≡ record space.old {
           store = take from space.old.store ++ gapped ++ drop to space.old.store;
         } }
-    ensures end { let bytes = part_text space.old.neutral text.0 text.1 in
+    ensures end { let bytes = laid_text (slice_range space.old.neutral text.0 text.1) in
         let gapped = segment_cells bytes ordinal 0 (slice_range space.old.store from to) in
         result ≡ from + length gapped }
     ensures shorter { result ≤ to }
 {
-    let len = text.1 - text.0;
-    let first = space.neutral_part(text.0, text.1)[0];
     let mut read = from;
     let mut write = from;
-    while read < to {
-        if stands_at(space, read, to, text, first) {
-            space.write_store(write, Cell::Gap(ordinal));
-            read += len;
-        } else {
-            copy_cell(space, read, write);
-            read += 1;
-        }
+    while let Some(place) = next_place(space, read, to, text) {
+        space.move_in_store(read, place, write);
+        write += place - read;
+        space.write_store(write, Cell::Gap(ordinal));
         write += 1;
+        read = place + (text.1 - text.0);
     }
+    space.move_in_store(read, to, write);
+    write += to - read;
     space.remove_store(write, to);
     write
 }
@@ -110,8 +89,9 @@ fn make_gaps(space: &mut Space, from: u32, to: u32, text: (u32, u32), ordinal: u
 pub fn segment_store(space: &mut Space, from: u32, to: u32, text: (u32, u32), ordinal: u32) -> u32
     requires order { from ≤ to }
     requires within { to ≤ length space.old.store }
+    requires bounded { to ≤ 16777216 }
     requires text_part { IsTextPart space.old.neutral text.0 text.1 }
-    requires no_call { NoCall space.old.store }
+    requires text_bounded { text.1 ≤ 16777216 }
     ensures after { let bytes = part_text space.old.neutral text.0 text.1 in
         let gapped = segmented_cells bytes ordinal (slice_range space.old.store from to) in
         space.new ≡ record space.old {
@@ -125,5 +105,8 @@ pub fn segment_store(space: &mut Space, from: u32, to: u32, text: (u32, u32), or
     if text.0 == text.1 {
         return to;
     }
-    make_gaps(space, from, to, text, ordinal)
+    lay_borders(space, text);
+    let end = make_gaps(space, from, to, text, ordinal);
+    space.lift_neutral(text.0, text.1);
+    end
 }

@@ -1,48 +1,56 @@
-use Rattle.trac_space.proofs.Words.{◌≡◌, ◌+◌, ◌∙◌, ap, drop, slice_range, slice_index_or, arith, Comma, filling}
-use Rattle.trac_space.proofs.Filled.{along-start, along-front, along-end, lists-now, same-part, same-cell, cell-put, cell-full}
+use Rattle.trac_space.proofs.Words.{◌≡◌, ◌+◌, ◌≤◌, ◌∙◌, ap, length, map, slice_range, slice_index_or, arith, Comma, length-between, filling}
+use Rattle.trac_space.specs.Overlay.{under}
+use Rattle.trac_space.proofs.Filled.{along-start, along-front, along-end, commas-now, same-part, same-cell, cell-put, cell-full}
 use Rattle.trac_space.proofs.filling.fill_each.Goals as goal
 use Rattle.trac_space.proofs.filling.fill_each.Goals.{After-cells_for-start}
 
-pub cells_for-start-requires-clause-listed : goal.cells_for-start-requires-clause-listed
-cells_for-start-requires-clause-listed c =
-    lists-now c.args.cells.now _ _ _ c.args.from c.args.stop c.args.to c.args.parts.list (omega arith) (omega arith) c.loop-at.cells c.loop-at.at c.loop-at.to c.loop-at.invariant c.args.parts.base c.args.parts.bound c.requires.bound c.requires.listed
+pub cells_for-start-requires-clause-commas : goal.cells_for-start-requires-clause-commas
+cells_for-start-requires-clause-commas c =
+    commas-now c.args.cells.now _ c.args.from c.args.stop c.args.to c.args.last (omega (arith, c.requires.before, c.requires.behind)) c.requires.inside c.loop-at.cells c.loop-at.at c.loop-at.to c.loop-at.invariant c.args.given.start (c.args.given.start + c.args.given.len) c.args.given.commas c.requires.behind c.requires.commas
 
 -- the cells that are to be put are those that fill the next one
-are : (c : After-cells_for-start) → slice_range c.loop-at.cells c.cells_for-start.result.0 (c.cells_for-start.result.0 + c.cells_for-start.result.1) ≡ filling (slice_range c.args.cells.now c.args.parts.base c.args.parts.bound) (drop c.args.parts.list c.args.cells.now) c.args.parts.count (slice_index_or c.args.cells.now c.loop-at.at Comma)
+are : (c : After-cells_for-start) → map under (slice_range c.loop-at.cells c.cells_for-start.result.0 (c.cells_for-start.result.0 + c.cells_for-start.result.1)) ≡ filling (map under (slice_range c.args.cells.now c.args.given.start (c.args.given.start + c.args.given.len))) (slice_index_or c.args.cells.now c.loop-at.at Comma)
 are c =
     let old = c.args.cells.now in
     let i = c.loop-at.invariant in
-    let part = same-part old _ _ _ c.args.from c.args.stop c.args.to c.args.parts.list (omega arith) (omega arith) c.loop-at.cells c.loop-at.at c.loop-at.to i c.args.parts.base c.args.parts.bound c.requires.bound in
-    let cell = same-cell old _ _ _ c.args.from c.args.stop c.args.to c.args.parts.list (omega arith) (omega arith) c.loop-at.cells c.loop-at.at c.loop-at.to i c.loop-at.at Comma (omega arith) in
+    let before : c.args.stop ≤ c.args.to = omega (arith, c.requires.before, c.requires.behind) in
+    let part = same-part old _ c.args.from c.args.stop c.args.to c.args.last before c.requires.inside c.loop-at.cells c.loop-at.at c.loop-at.to i c.args.given.start (c.args.given.start + c.args.given.len) c.requires.behind in
+    let cell = same-cell old _ c.args.from c.args.stop c.args.to c.args.last before c.requires.inside c.loop-at.cells c.loop-at.at c.loop-at.to i c.loop-at.at Comma (omega (arith, before, c.loop-at-test.true)) in
     c.cells_for-start.ensures.cells
-    ∙ ap (λ neutral. filling neutral (drop c.args.parts.list c.loop-at.cells) c.args.parts.count (slice_index_or c.loop-at.cells c.loop-at.at Comma)) part
-    ∙ ap (λ list. filling (slice_range old c.args.parts.base c.args.parts.bound) list c.args.parts.count (slice_index_or c.loop-at.cells c.loop-at.at Comma)) i.behind
-    ∙ ap (filling (slice_range old c.args.parts.base c.args.parts.bound) (drop c.args.parts.list old) c.args.parts.count) cell
+    ∙ ap (λ cells. filling (map under cells) (slice_index_or c.loop-at.cells c.loop-at.at Comma)) part
+    ∙ ap (filling (map under (slice_range old c.args.given.start (c.args.given.start + c.args.given.len)))) cell
+
+long : (c : After-cells_for-start) → length (slice_range c.loop-at.cells c.cells_for-start.result.0 (c.cells_for-start.result.0 + c.cells_for-start.result.1)) ≡ c.cells_for-start.result.1
+long c =
+    let i = c.loop-at.invariant in
+    let a = c.cells_for-start.result.0 in
+    let b = a + c.cells_for-start.result.1 in
+    omega (arith, length-between c.loop-at.cells a b (omega (arith, c.cells_for-start.ensures.within, c.requires.behind, c.requires.room, c.requires.inside, i.size)))
 
 pub loop-at-init : goal.loop-at-init
 loop-at-init c =
-    along-start c.args.cells.now _ _ _ c.args.from c.args.stop c.args.to c.args.parts.list (omega arith) (omega arith) c.requires.order c.requires.room
+    along-start c.args.cells.now _ c.args.from c.args.stop c.args.to c.args.last (omega (arith, c.requires.before, c.requires.behind)) c.requires.inside c.requires.order c.requires.room
 
 pub loop-at-preserved : goal.loop-at-preserved
 loop-at-preserved c =
     let k = (goal.at.loop-at-preserved c).After-cells_for-start in
     let i = c.loop-at.invariant in
-    cell-put c.args.cells.now _ _ _ c.args.from c.args.stop c.args.to c.args.parts.list (omega arith) (omega arith) c.loop-at.cells c.loop-at.at c.loop-at.to i c.copy_part.new.cells c.cells_for-start.result.0 c.cells_for-start.result.1 (omega arith) (omega (arith, c.cells_for-start.ensures.within, i.long)) (omega (arith, c.if-n-parts.false, i.within)) (are k) c.copy_part.ensures.after c.copy_part.ensures.len
+    cell-put c.args.cells.now _ c.args.from c.args.stop c.args.to c.args.last (omega (arith, c.requires.before, c.requires.behind)) c.requires.inside c.loop-at.cells c.loop-at.at c.loop-at.to i c.put_part.new.cells _ c.cells_for-start.result.1 c.loop-at-test.true (long k) (are k) (omega (arith, c.if-n-last.false, i.within)) c.put_part.ensures.len c.put_part.ensures.front c.put_part.ensures.behind
 
-pub returns-then-n-parts-clause-put : goal.returns-then-n-parts-clause-put
-returns-then-n-parts-clause-put c =
-    let k = (goal.at.returns-then-n-parts-clause-put c).After-cells_for-start in
+pub returns-then-n-last-clause-put : goal.returns-then-n-last-clause-put
+returns-then-n-last-clause-put c =
+    let k = (goal.at.returns-then-n-last-clause-put c).After-cells_for-start in
     let i = c.loop-at.invariant in
-    cell-full c.args.cells.now _ _ _ c.args.from c.args.stop c.args.to c.args.parts.list (omega arith) (omega arith) c.loop-at.cells c.loop-at.at c.loop-at.to i c.cells_for-start.result.0 c.cells_for-start.result.1 (omega arith) (omega (arith, c.cells_for-start.ensures.within, i.long, i.size, i.within)) (are k) (omega (arith, c.if-n-parts.true, i.within))
+    cell-full c.args.cells.now _ c.args.from c.args.stop c.args.to c.args.last (omega (arith, c.requires.before, c.requires.behind)) c.requires.inside c.loop-at.cells c.loop-at.at c.loop-at.to i _ c.cells_for-start.result.1 c.loop-at-test.true (long k) (are k) (omega (arith, c.if-n-last.true, i.within))
 
-pub returns-then-n-parts-clause-front : goal.returns-then-n-parts-clause-front
-returns-then-n-parts-clause-front c =
-    along-front c.args.cells.now _ _ _ c.args.from c.args.stop c.args.to c.args.parts.list (omega arith) (omega arith) c.loop-at.cells c.loop-at.at c.loop-at.to c.loop-at.invariant
+pub returns-then-n-last-clause-front : goal.returns-then-n-last-clause-front
+returns-then-n-last-clause-front c =
+    along-front c.args.cells.now _ c.args.from c.args.stop c.args.to c.args.last (omega (arith, c.requires.before, c.requires.behind)) c.requires.inside c.loop-at.cells c.loop-at.at c.loop-at.to c.loop-at.invariant
 
 pub returns-clause-put : goal.returns-clause-put
 returns-clause-put c =
-    along-end c.args.cells.now _ _ _ c.args.from c.args.stop c.args.to c.args.parts.list (omega arith) (omega arith) c.loop-at.cells c.loop-at.at c.loop-at.to c.loop-at.invariant (omega (arith, c.loop-at.invariant.order, c.loop-at-test.false))
+    along-end c.args.cells.now _ c.args.from c.args.stop c.args.to c.args.last (omega (arith, c.requires.before, c.requires.behind)) c.requires.inside c.loop-at.cells c.loop-at.at c.loop-at.to c.loop-at.invariant (omega (arith, c.loop-at.invariant.order, c.loop-at-test.false))
 
 pub returns-clause-front : goal.returns-clause-front
 returns-clause-front c =
-    along-front c.args.cells.now _ _ _ c.args.from c.args.stop c.args.to c.args.parts.list (omega arith) (omega arith) c.loop-at.cells c.loop-at.at c.loop-at.to c.loop-at.invariant
+    along-front c.args.cells.now _ c.args.from c.args.stop c.args.to c.args.last (omega (arith, c.requires.before, c.requires.behind)) c.requires.inside c.loop-at.cells c.loop-at.at c.loop-at.to c.loop-at.invariant

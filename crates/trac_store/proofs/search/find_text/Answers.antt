@@ -1,31 +1,21 @@
-use Rattle.trac_store.proofs.Words.{length, map, slice_range, sym, ap, ◌∙◌, ◌-◌, length-map, seen, Lists, character_of, text_cells_at}
-use Rattle.trac_store.proofs.BorderLists.{front-part}
-use Rattle.trac_store.proofs.Gaps.{text-shown}
-use Rattle.trac_store.proofs.Searches.{first-agrees, texts-seen}
+use Rattle.trac_store.proofs.Words.{◌++◌, map, take, drop, slice_range, ap, ◌∙◌, List, Cell, Lists, under}
+use Rattle.trac_store.proofs.LaidBorders.{shown-borders, shown-text}
+use Rattle.trac_store.proofs.Searches.{first-seen}
 use Rattle.trac_store.proofs.search.find_text.Goals as goal
 
-pub returns-then-len-lt-LONG-clause-found : goal.returns-then-len-lt-LONG-clause-found
-returns-then-len-lt-LONG-clause-found c =
-    let text = c.neutral_part-text.result.now in
-    let part = slice_range c.args.space.now.neutral c.args.part.0 c.args.part.1 in
-    let raw = c.store_part.result.now in
-    let cells = slice_range c.args.space.now.store c.args.body.0 c.args.body.1 in
-    let size = sym (length-map raw seen) ∙ ap length c.store_part.ensures in
-    first-agrees c.first_text.result (text_cells_at (map character_of text) raw) (text_cells_at (map character_of part) cells) c.args.from (length raw) (length cells) size (λ k below. texts-seen raw cells text part c.store_part.ensures c.neutral_part-text.ensures k) c.first_text.ensures
-
-pub first_by_borders-found-requires-clause-borders : goal.first_by_borders-found-requires-clause-borders
-first_by_borders-found-requires-clause-borders c =
-    let text = text-shown _ _ (c.neutral_part-text-2.ensures ∙ ap (λ (s : Lists). slice_range s.neutral c.args.part.0 c.args.part.1) c.list_borders.ensures.same) in
-    let table = c.active_part-table.ensures ∙ front-part c.list_borders.new.space.active (c.args.part.1 - c.args.part.0) in
-    rw (text, table) c.list_borders.ensures.borders
+pub first_place-found-requires-clause-borders : goal.first_place-found-requires-clause-borders
+first_place-found-requires-clause-borders c =
+    shown-borders c.args.space.now.neutral c.lay_borders.new.space.neutral c.neutral_part-text.result.now c.args.part.0 c.args.part.1 c.requires.text_part.within c.lay_borders.ensures.laid c.neutral_part-text.ensures
 
 pub returns-clause-found : goal.returns-clause-found
 returns-clause-found c =
-    let text = c.neutral_part-text-2.result.now in
-    let part = slice_range c.args.space.now.neutral c.args.part.0 c.args.part.1 in
-    let raw = c.store_part-2.result.now in
-    let cells = slice_range c.args.space.now.store c.args.body.0 c.args.body.1 in
-    let store = c.store_part-2.ensures ∙ ap (λ (l : Lists). slice_range l.store c.args.body.0 c.args.body.1) c.list_borders.ensures.same in
-    let neutral = c.neutral_part-text-2.ensures ∙ ap (λ (l : Lists). slice_range l.neutral c.args.part.0 c.args.part.1) c.list_borders.ensures.same in
-    let size = sym (length-map raw seen) ∙ ap length store in
-    first-agrees c.first_by_borders-found.result (text_cells_at (map character_of text) raw) (text_cells_at (map character_of part) cells) c.args.from (length raw) (length cells) size (λ k below. texts-seen raw cells text part store neutral k) c.first_by_borders-found.ensures
+    let store = c.store_part.ensures ∙ ap (λ (l : Lists). slice_range l.store c.args.body.0 c.args.body.1) c.lay_borders.ensures.same in
+    let text = shown-text c.args.space.now.neutral c.lay_borders.new.space.neutral c.neutral_part-text.result.now c.args.part.0 c.args.part.1 c.requires.text_part.within c.lay_borders.ensures.laid c.neutral_part-text.ensures in
+    first-seen c.first_place-found.result c.store_part.result.now _ _ _ c.args.from store text c.first_place-found.ensures
+
+pub returns-clause-same : goal.returns-clause-same
+returns-clause-same c =
+    let laid = c.lay_borders.ensures in
+    c.lift_neutral.ensures
+    ∙ ap (λ (l : Lists). record l { neutral = take c.args.part.0 c.lay_borders.new.space.neutral ++ map under (slice_range c.lay_borders.new.space.neutral c.args.part.0 c.args.part.1) ++ drop c.args.part.1 c.lay_borders.new.space.neutral }) laid.same
+    ∙ ap (λ (cells : List Cell). record c.args.space.now { neutral = cells }) laid.laid.numbers

@@ -1,107 +1,98 @@
-use Rattle.trac_store.proofs.Words.{◌≡◌, ℕ, ◌+◌, ◌-◌, ◌<◌, ◌≤◌, Bool, true, List, [], ◌++◌, length, take, drop, map, set, get_or, slice_range, refl, subst, sym, ap, ◌∙◌, arith, length-set, length-append, length-take-le, drop-set-lt, drop-drop, get_or-drop, length-between}
-use Rattle.trac_store.proofs.Words.{between_none, All-set, All-get_or, Cell, Byte, Gap, IsNoCall, NoCall, Lists, character_of, begins_cells, segment_cells}
-use Rattle.trac_store.proofs.FlatLemmas.{length-part_text}
-use Rattle.trac_store.proofs.Gaps.{begins-length, written-gap, written-other}
+use Rattle.trac_store.proofs.Words.{◌≡◌, ℕ, ◌+◌, ◌-◌, ◌≤◌, List, ◌++◌, length, take, drop, set, slice_range, refl, sym, ap, subst, ◌∙◌, arith, length-set, length-append, length-take-le, length-map, length-between, drop-set-lt, Cell, Gap, Lists, character_of, under, laid_text, segment_cells, text_cells_at, IsFirst, NonePasses}
+use Rattle.trac_store.proofs.Gaps.{moved-len, moved-rest, written-gap, written-end}
 use Rattle.trac_store.proofs.segment.make_gaps.Goals as goal
-use Rattle.trac_store.proofs.segment.make_gaps.Goals.{then-stands_at, else-stands_at}
+use Rattle.trac_store.proofs.segment.make_gaps.Goals.{After-next_place}
 
--- what the test of the code says of the cells as they were
-test_is : (was now : Lists) (read to a b : ℕ) (r : Bool) → now ≡ record was { store = now.store } → drop read now.store ≡ drop read was.store → r ≡ begins_cells (map character_of (slice_range now.neutral a b)) (slice_range now.store read to) → begins_cells (map character_of (slice_range was.neutral a b)) (slice_range was.store read to) ≡ r
-test_is was now read to a b r others rest is =
-    sym (is ∙ ap (λ v. begins_cells (map character_of (slice_range v.neutral a b)) (slice_range now.store read to)) others ∙ ap (λ l. begins_cells (map character_of (slice_range was.neutral a b)) (take (to - read) l)) rest)
+-- the text, which stays
+abbrev text : After-next_place → List ℕ
+text c = laid_text (slice_range c.args.space.now.neutral c.args.text.0 c.args.text.1)
 
--- a write before a place leaves what stands from there on
-rest-set : (now was : List Cell) (read more write : ℕ) (cell : Cell) → write < read + more → drop read now ≡ drop read was → drop (read + more) (set now write cell) ≡ drop (read + more) was
-rest-set now was read more write cell before h =
-    drop-set-lt (read + more) now write cell before ∙ sym (drop-drop more read now) ∙ ap (drop more) h ∙ drop-drop more read was
+same_text : (c : After-next_place) → laid_text (slice_range c.loop-place.space.neutral c.args.text.0 c.args.text.1) ≡ text c
+same_text c = ap (λ (l : Lists). laid_text (slice_range l.neutral c.args.text.0 c.args.text.1)) c.loop-place.invariant.others
+
+-- the cells that are still to be read are as they were
+same_cells : (c : After-next_place) → slice_range c.loop-place.space.store c.loop-place.read c.args.to ≡ slice_range c.args.space.now.store c.loop-place.read c.args.to
+same_cells c = ap (take (c.args.to - c.loop-place.read)) c.loop-place.invariant.rest
+
+long : (c : After-next_place) → length (text c) ≡ c.args.text.1 - c.args.text.0
+long c =
+    let part = slice_range c.args.space.now.neutral c.args.text.0 c.args.text.1 in
+    length-map part (λ cell. character_of (under cell)) ∙ length-between c.args.space.now.neutral c.args.text.0 c.args.text.1 c.requires.text_within
 
 -- a write to the store leaves the others
 keep_others : (s l n : Lists) (store : List Cell) → l ≡ record s { store = l.store } → n ≡ record l { store = store } → n ≡ record s { store = n.store }
 keep_others s l n store first second =
-    let is = ap (λ v. v.store) second in
-    let neutral = ap (λ v. v.neutral) first in
-    let active = ap (λ v. v.active) first in
-    let spare = ap (λ v. v.spare) first in
-    let room = ap (λ v. v.room) first in
-    second ∙ rw (neutral, active, spare, room, is)
+    second ∙ ap (λ (v : Lists). record v { store = store }) first ∙ ap (λ cells. record s { store = cells }) (sym (ap (λ (v : Lists). v.store) second))
 
--- a cell of what stands from a place on
-same_cell : (now was : List Cell) (read : ℕ) → drop read now ≡ drop read was → get_or now read (Byte 0) ≡ get_or was read (Byte 0)
-same_cell now was read h =
-    let e : read + 0 ≡ read = omega arith in
-    let a = rw e at (get_or-drop read now 0 (Byte 0)) in
-    let b = rw e at (get_or-drop read was 0 (Byte 0)) in
-    sym a ∙ ap (λ l. get_or l 0 (Byte 0)) h ∙ b
-
-short : (text : List ℕ) (cells : List Cell) (read to : ℕ) → to ≤ length cells → begins_cells text (slice_range cells read to) ≡ true → length text ≤ to - read
-short text cells read to within found =
-    omega (arith, begins-length, length-between cells read to within)
-
-pub overflow_add-read : goal.overflow_add-read
-overflow_add-read c =
+pub loop-place-preserved : goal.loop-place-preserved
+loop-place-preserved c =
+    let k = (goal.at.loop-place-preserved c).After-next_place in
     let s = c.args.space.now in
-    let h = c.loop-read.invariant in
-    let found = test_is s c.loop-read.space c.loop-read.read c.args.to c.args.text.0 c.args.text.1 _ h.others h.rest c.stands_at.ensures ∙ c.if-stands_at.true in
-    let few = short (map character_of (slice_range s.neutral c.args.text.0 c.args.text.1)) s.store c.loop-read.read c.args.to c.requires.within found in
-    let size = length-part_text s.neutral c.args.text.0 c.args.text.1 c.requires.text_part.within in
-    omega arith
+    let h = c.loop-place.invariant in
+    let now = c.loop-place.space in
+    let read = c.loop-place.read in
+    let write = c.loop-place.write in
+    let place = c.in-Some.place in
+    let n = place - read in
+    let len = c.args.text.1 - c.args.text.0 in
+    let found = c.in-Some.ensures in
+    let order : write ≤ read = h.order in
+    let up : read ≤ place = found.0 in
+    let within : place ≤ length s.store = omega (arith, found.1, c.requires.within) in
+    let moved = c.move_in_store.ensures in
+    let store : c.move_in_store.new.self.store ≡ take write now.store ++ slice_range now.store read place ++ drop (write + n) now.store = ap (λ (l : Lists). l.store) moved in
+    let mid = c.move_in_store.new.self.store in
+    let after = c.write_store.ensures in
+    let last : c.write_store.new.self.store ≡ set mid (write + n) (Gap c.args.ordinal) = ap (λ (l : Lists). l.store) after in
+    let first : IsFirst (text_cells_at (text k) (slice_range s.store read c.args.to)) 0 (length (slice_range s.store read c.args.to)) n =
+    subst (λ cells. IsFirst (text_cells_at (text k) cells) 0 (length cells) n) (same_cells k) (subst (λ t. IsFirst (text_cells_at t (slice_range now.store read c.args.to)) 0 (length (slice_range now.store read c.args.to)) n) (same_text k) found.2) in
+    let size = long k in
+    let gap = written-gap s.store now.store mid read write place order up within h.len h.rest store (text k) c.args.ordinal c.args.to _ c.requires.within h.written (omega (arith, size, c.requires.text_order)) (omega (arith, size, found.1)) first.before first.passes in
+    let e : place + length (text k) ≡ place + len = ap (λ m. place + m) size in
+    record {
+      others = keep_others s c.move_in_store.new.self c.write_store.new.self _ (keep_others s now c.move_in_store.new.self _ h.others moved) after;
+      len = ap length last ∙ length-set mid (write + n) (Gap c.args.ordinal) ∙ moved-len s.store now.store mid read write place order up within h.len h.rest store;
+      lower = omega (arith, h.lower);
+      order = omega (arith, order, up, c.requires.text_order);
+      upper = found.1;
+      rest = ap (drop (place + len)) last ∙ drop-set-lt (place + len) mid (write + n) (Gap c.args.ordinal) (omega (arith, order, up, c.requires.text_order)) ∙ moved-rest s.store now.store mid read write place order up within h.len h.rest store (place + len) (omega (arith, order, up)) (omega (arith, up));
+      written = ap (λ l. take (write + n + 1) l ++ segment_cells (text k) c.args.ordinal 0 (slice_range s.store (place + len) c.args.to)) last ∙ ap (λ m. take (write + n + 1) (set mid (write + n) (Gap c.args.ordinal)) ++ segment_cells (text k) c.args.ordinal 0 (slice_range s.store m c.args.to)) (sym e) ∙ gap;
+    }
 
-pub loop-read-preserved : goal.loop-read-preserved
-loop-read-preserved c =
+-- no occurrence is left
+none : (c : After-next_place) → NonePasses (text_cells_at (laid_text (slice_range c.loop-place.space.neutral c.args.text.0 c.args.text.1)) (slice_range c.loop-place.space.store c.loop-place.read c.args.to)) 0 (length (slice_range c.loop-place.space.store c.loop-place.read c.args.to)) → NonePasses (text_cells_at (text c) (slice_range c.args.space.now.store c.loop-place.read c.args.to)) 0 (length (slice_range c.args.space.now.store c.loop-place.read c.args.to))
+none c passes =
+    subst (λ cells. NonePasses (text_cells_at (text c) cells) 0 (length cells)) (same_cells c) (subst (λ t. NonePasses (text_cells_at t (slice_range c.loop-place.space.store c.loop-place.read c.args.to)) 0 (length (slice_range c.loop-place.space.store c.loop-place.read c.args.to))) (same_text c) passes)
+
+pub returns-clause-after : goal.returns-clause-after
+returns-clause-after c =
+    let k = (goal.at.returns-clause-after c).After-next_place in
     let s = c.args.space.now in
-    let h = c.loop-read.invariant in
-    let now = c.loop-read.space in
-    let read = c.loop-read.read in
-    let write = c.loop-read.write in
-    let a = c.args.text.0 in
-    let b = c.args.text.1 in
-    let text = map character_of (slice_range s.neutral a b) in
-    let size = length-part_text s.neutral a b c.requires.text_part.within in
-    let test = test_is s now read c.args.to a b _ h.others h.rest c.stands_at.ensures in
-    elim c.if-stands_at.branch [
-      | then-stands_at w ↦
-          let found = test ∙ w.if-stands_at.true in
-          let few = short text s.store read c.args.to c.requires.within found in
-          let cell = Gap c.args.ordinal in
-          let is = w.space-is ∙ w.write_store.ensures in
-          let store = ap (λ v. v.store) is in
-          let more = written-gap text c.args.ordinal s.store now.store read c.args.to write _ h.order (omega arith) c.requires.within h.len h.written (omega arith) (omega arith) found in
-          record {
-            others = keep_others s now c.if-stands_at.space (set now.store write cell) h.others is;
-            len = ap length store ∙ length-set now.store write cell ∙ h.len;
-            lower = omega arith;
-            order = omega (arith, w.read-is);
-            upper = omega (arith, w.read-is);
-            rest = rw (w.read-is, store) (rest-set now.store s.store read (b - a) write cell (omega arith) h.rest);
-            written = rw (w.read-is, store) (rw size at more);
-            no_call = subst (λ cells. NoCall cells) (sym store) (All-set IsNoCall now.store write cell refl h.no_call);
-          }
-      | else-stands_at w ↦
-          let other = test ∙ w.if-stands_at.false in
-          let cell = get_or now.store read (Byte 0) in
-          let was = same_cell now.store s.store read h.rest in
-          let is = w.space-is ∙ w.copy_cell.ensures in
-          let store = ap (λ v. v.store) is in
-          let more = written-other text c.args.ordinal s.store now.store read c.args.to write _ h.order (omega arith) c.requires.within h.len h.written other in
-          record {
-            others = keep_others s now c.if-stands_at.space (set now.store write cell) h.others is;
-            len = ap length store ∙ length-set now.store write cell ∙ h.len;
-            lower = omega arith;
-            order = omega (arith, w.read-is);
-            upper = omega (arith, w.read-is);
-            rest = rw (w.read-is, store) (rest-set now.store s.store read 1 write cell (omega arith) h.rest);
-            written = rw (w.read-is, store, was) more;
-            no_call = subst (λ cells. NoCall cells) (sym store) (All-set IsNoCall now.store write cell (All-get_or IsNoCall now.store read (Byte 0) (omega arith) h.no_call) h.no_call);
-          }
-    ]
+    let h = c.loop-place.invariant in
+    let now = c.loop-place.space in
+    let read = c.loop-place.read in
+    let write = c.loop-place.write in
+    let to = c.args.to in
+    let mid = c.move_in_store-2.new.self in
+    let moved = c.move_in_store-2.ensures in
+    let store : mid.store ≡ take write now.store ++ slice_range now.store read to ++ drop (write + (to - read)) now.store = ap (λ (l : Lists). l.store) moved in
+    let front = written-end s.store now.store mid.store read write to h.order h.upper c.requires.within h.len h.rest store (text k) c.args.ordinal to _ c.requires.within h.written refl (none k c.in_default.ensures) in
+    let rest = moved-rest s.store now.store mid.store read write to h.order h.upper c.requires.within h.len h.rest store to (omega (arith, h.order, h.upper)) h.upper in
+    c.remove_store.ensures ∙ ap (λ (l : Lists). record l { store = take (write + (to - read)) mid.store ++ drop to mid.store }) (keep_others s now mid _ h.others moved) ∙ ap (λ cells. record s { store = cells ++ drop to mid.store }) front ∙ ap (λ cells. record s { store = take c.args.from s.store ++ segment_cells (text k) c.args.ordinal 0 (slice_range s.store c.args.from to) ++ cells }) rest
 
 pub returns-clause-end : goal.returns-clause-end
 returns-clause-end c =
+    let k = (goal.at.returns-clause-end c).After-next_place in
     let s = c.args.space.now in
-    let h = c.loop-read.invariant in
-    let now = c.loop-read.space.store in
-    let text = map character_of (slice_range s.neutral c.args.text.0 c.args.text.1) in
-    let e : c.loop-read.read ≡ c.args.to = omega arith in
-    let none = between_none s.store c.args.to in
-    let all : take c.loop-read.write now ++ [] ≡ take c.args.from s.store ++ segment_cells text c.args.ordinal 0 (slice_range s.store c.args.from c.args.to) = rw (e, none) at h.written in
-    omega (arith, ap length all, length-append (take c.loop-read.write now) [], length-append (take c.args.from s.store) (segment_cells text c.args.ordinal 0 (slice_range s.store c.args.from c.args.to)), length-take-le c.loop-read.write now (omega arith), length-take-le c.args.from s.store (omega arith))
+    let h = c.loop-place.invariant in
+    let now = c.loop-place.space in
+    let read = c.loop-place.read in
+    let write = c.loop-place.write in
+    let to = c.args.to in
+    let mid = c.move_in_store-2.new.self in
+    let store : mid.store ≡ take write now.store ++ slice_range now.store read to ++ drop (write + (to - read)) now.store = ap (λ (l : Lists). l.store) c.move_in_store-2.ensures in
+    let front = written-end s.store now.store mid.store read write to h.order h.upper c.requires.within h.len h.rest store (text k) c.args.ordinal to _ c.requires.within h.written refl (none k c.in_default.ensures) in
+    let size = moved-len s.store now.store mid.store read write to h.order h.upper c.requires.within h.len h.rest store in
+    let order = h.order in
+    let upper = h.upper in
+    omega (arith, ap length front, length-append (take c.args.from s.store) (segment_cells (text k) c.args.ordinal 0 (slice_range s.store c.args.from to)), length-take-le (write + (to - read)) mid.store (omega (arith, size, order, upper, c.requires.within)), length-take-le c.args.from s.store (omega (arith, c.requires.order, c.requires.within)))

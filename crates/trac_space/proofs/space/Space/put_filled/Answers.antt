@@ -1,49 +1,88 @@
-use Rattle.trac_space.proofs.Words.{◌≡◌, ◌+◌, ◌-◌, ◌++◌, List, length, drop, map, slice_range, refl, sym, ap, ◌∙◌, subst, arith, false≢true, length-map, map-append, Cell, lists, seen, NoCall, filled, Lists}
-use Rattle.trac_space.proofs.BlockChanges.{sizes, shown, laid-more, laid, parts-more-to, parts-kept}
-use Rattle.trac_space.proofs.Filled.{list-stands, filled-seen}
+use Rattle.trac_space.proofs.Words.{◌≡◌, ◌+◌, ◌-◌, ◌++◌, List, length, map, slice_range, refl, sym, ap, ◌∙◌, subst, arith, false≢true, length-map, map-append, take-map, drop-map, Cell, lists, seen, NoCall, filled, Lists}
+use Rattle.trac_space.specs.Overlay.{under}
+use Rattle.trac_space.proofs.BlockChanges.{sizes, shown, laid-more, laid, parts-more-to, parts-kept, neutral-part, store-part}
+use Rattle.trac_space.proofs.Lifted.{seen-under}
+use Rattle.trac_space.proofs.SeenParts.{commas-from-seen, filled-seen}
 use Rattle.trac_space.proofs.space.Space.put_filled.Goals as goal
-use Rattle.trac_space.proofs.space.Space.put_filled.Goals.{After-fill_cells}
+use Rattle.trac_space.proofs.space.Space.put_filled.Goals.{After-fill_cells, After-self}
 
-pub fill_cells-requires-clause-listed : goal.fill_cells-requires-clause-listed
-fill_cells-requires-clause-listed c = list-stands c.self.inside c.self.invariant c.self.view_is c.args.count c.requires.listed
+-- the cells that are given, as they stand in the block, and as they are seen
+abbrev given : After-self → List Cell
+given c =
+    let s = c.self.inside in
+    slice_range s.cells.now (s.store + c.args.first) (s.store + c.args.end)
+
+given_seen : (c : After-self) → map seen (given c) ≡ slice_range c.args.self.now.neutral c.args.first c.args.end
+given_seen c =
+    let s = c.self.inside in
+    let size = sizes c.self.invariant c.self.view_is in
+    ap (map seen) (neutral-part c.self.invariant c.args.first c.args.end c.requires.given_order (omega (arith, c.requires.given_within, size.neutral)))
+    ∙ simp (take-map, drop-map) refl
+    ∙ ap (λ (l : Lists). slice_range l.neutral c.args.first c.args.end) c.self.view_is
+
+end_is : (c : After-self) → c.self.inside.store + c.args.first + (c.args.end - c.args.first) ≡ c.self.inside.store + c.args.end
+end_is c = omega (arith, c.requires.given_order)
+
+pub fill_cells-requires-clause-commas : goal.fill_cells-requires-clause-commas
+fill_cells-requires-clause-commas c =
+    let k = (goal.at.fill_cells-requires-clause-commas c).After-self in
+    let end = end_is k in
+    rw end (commas-from-seen (given k) _ c.args.commas (given_seen k) c.requires.commas)
 
 -- what is put, as it stands in the block
 abbrev more : After-fill_cells → List Cell
 more c =
     let s = c.self.inside in
-    filled (slice_range s.cells.now s.store (s.store + s.neutral)) (drop (s.end - s.active) s.cells.now) c.args.count (slice_range s.cells.now c.args.a c.args.b)
+    filled (map under (slice_range s.cells.now (s.store + c.args.first) (s.store + c.args.first + (c.args.end - c.args.first)))) (slice_range s.cells.now c.args.a c.args.b)
 
 -- and as it is seen
-is_seen : (c : After-fill_cells) → map seen (more c) ≡ filled c.args.self.now.neutral c.args.self.now.active c.args.count (slice_range c.args.self.now.store c.args.a c.args.b)
-is_seen c =
+is_seen : (c : After-fill_cells) → map seen (slice_range c.self.inside.cells.now (c.self.inside.store + c.args.first) (c.self.inside.store + c.args.end)) ≡ slice_range c.args.self.now.neutral c.args.first c.args.end → map seen (more c) ≡ filled (map under (slice_range c.args.self.now.neutral c.args.first c.args.end)) (slice_range c.args.self.now.store c.args.a c.args.b)
+is_seen c shown_given =
+    let s = c.self.inside in
     let size = sizes c.self.invariant c.self.view_is in
-    filled-seen c.self.inside c.self.invariant c.self.view_is c.args.count c.requires.listed c.args.a c.args.b c.requires.order (omega (arith, c.requires.within, size.store))
+    let end : s.store + c.args.first + (c.args.end - c.args.first) ≡ s.store + c.args.end = omega (arith, c.requires.given_order) in
+    let raw = slice_range s.cells.now (s.store + c.args.first) (s.store + c.args.end) in
+    let items : map seen (slice_range s.cells.now c.args.a c.args.b) ≡ slice_range c.args.self.now.store c.args.a c.args.b =
+    ap (map seen) (store-part c.self.invariant c.args.a c.args.b c.requires.order (omega (arith, c.requires.within, size.store)))
+    ∙ simp (take-map, drop-map) refl
+    ∙ ap (λ (l : Lists). slice_range l.store c.args.a c.args.b) c.self.view_is in
+    ap (λ e. map seen (filled (map under (slice_range s.cells.now (s.store + c.args.first) e)) (slice_range s.cells.now c.args.a c.args.b))) end
+    ∙ filled-seen (map under raw) (slice_range s.cells.now c.args.a c.args.b)
+    ∙ ap (λ l. filled l (map seen (slice_range s.cells.now c.args.a c.args.b))) (seen-under raw ∙ ap (map under) shown_given)
+    ∙ ap (filled (map under (slice_range c.args.self.now.neutral c.args.first c.args.end))) items
+
+-- how many cells are put
+long : (c : After-fill_cells) → map seen (more c) ≡ filled (map under (slice_range c.args.self.now.neutral c.args.first c.args.end)) (slice_range c.args.self.now.store c.args.a c.args.b) → length (filled (map under (slice_range c.args.self.now.neutral c.args.first c.args.end)) (slice_range c.args.self.now.store c.args.a c.args.b)) ≡ length (more c)
+long c is = sym (ap length is) ∙ length-map (more c) seen
 
 pub returns-in-Some-clause-put : goal.returns-in-Some-clause-put
 returns-in-Some-clause-put c =
-    let k = (goal.at.returns-in-Some-clause-put c).After-fill_cells in
+    let at = goal.at.returns-in-Some-clause-put c in
+    let k = at.After-fill_cells in
     let size = sizes c.self.invariant c.self.view_is in
     let put = c.in-Some.ensures.put in
-    let long = sym (ap length (is_seen k)) ∙ length-map (more k) seen in
-    (λ e. omega (arith, put.0, put.1, long, size.store, size.neutral, size.active, size.spare, size.room, c.self.invariant.fits, c.self.invariant.behind), λ fits. refl)
+    let all = long k (is_seen k (given_seen at.After-self)) in
+    (λ e. omega (arith, put.0, put.1, all, size.store, size.neutral, size.active, size.spare, size.room, c.self.invariant.fits, c.self.invariant.behind), λ fits. refl)
 
 pub returns-in-None-clause-put : goal.returns-in-None-clause-put
 returns-in-None-clause-put c =
-    let k = (goal.at.returns-in-None-clause-put c).After-fill_cells in
+    let at = goal.at.returns-in-None-clause-put c in
+    let k = at.After-fill_cells in
     let size = sizes c.self.invariant c.self.view_is in
-    let long = sym (ap length (is_seen k)) ∙ length-map (more k) seen in
-    (λ e. absurd (false≢true e), λ fits. absurd (omega (arith, fits, c.in-None.ensures.put, long, size.store, size.neutral, size.active, size.spare, size.room, c.self.invariant.fits, c.self.invariant.behind)))
+    let all = long k (is_seen k (given_seen at.After-self)) in
+    (λ e. absurd (false≢true e), λ fits. absurd (omega (arith, fits, c.in-None.ensures.put, all, size.store, size.neutral, size.active, size.spare, size.room, c.self.invariant.fits, c.self.invariant.behind)))
 
 pub returns-in-Some-clause-last : goal.returns-in-Some-clause-last
 returns-in-Some-clause-last c =
-    let k = (goal.at.returns-in-Some-clause-last c).After-fill_cells in
+    let at = goal.at.returns-in-Some-clause-last c in
+    let k = at.After-fill_cells in
     let s = c.self.inside in
     let put = c.in-Some.ensures in
     let moved = parts-more-to c.self.invariant (more k) c.fill_cells.new.cells c.in-Some.end (s.end - s.active) put.put.0 (omega (arith, c.self.invariant.fits)) put.put.1 put.len put.put.2 put.behind in
     shown s.active moved
     ∙ simp map-append refl
-    ∙ ap (λ (cells : List Cell). record (lists s) { neutral = (lists s).neutral ++ cells }) (is_seen k)
-    ∙ ap (λ (l : Lists). record l { neutral = l.neutral ++ filled c.args.self.now.neutral c.args.self.now.active c.args.count (slice_range c.args.self.now.store c.args.a c.args.b) }) c.self.view_is
+    ∙ ap (λ (cells : List Cell). record (lists s) { neutral = (lists s).neutral ++ cells }) (is_seen k (given_seen at.After-self))
+    ∙ ap (λ (l : Lists). record l { neutral = l.neutral ++ filled (map under (slice_range c.args.self.now.neutral c.args.first c.args.end)) (slice_range c.args.self.now.store c.args.a c.args.b) }) c.self.view_is
 
 pub returns-in-None-clause-full : goal.returns-in-None-clause-full
 returns-in-None-clause-full c =
@@ -53,12 +92,13 @@ returns-in-None-clause-full c =
 
 pub invariant_of-self : goal.invariant_of-self
 invariant_of-self c =
-    let k = (goal.at.invariant_of-self c).After-fill_cells in
+    let at = goal.at.invariant_of-self c in
+    let k = at.After-fill_cells in
     let h = c.self.invariant in
     let fits = h.fits in
     let put = c.in-Some.ensures in
     let moved = parts-more-to h (more k) c.fill_cells.new.cells c.in-Some.end (c.self.inside.end - c.self.inside.active) put.put.0 (omega (arith, fits)) put.put.1 put.len put.put.2 put.behind in
-    laid-more _ h moved refl (omega (arith, fits, put.put.0, put.put.1)) (omega (arith, h.behind)) (more k) refl refl (subst NoCall (sym (is_seen k)) c.requires.no_call)
+    laid-more _ h moved refl (omega (arith, fits, put.put.0, put.put.1)) (omega (arith, h.behind)) (more k) refl refl (subst NoCall (sym (is_seen k (given_seen at.After-self))) c.requires.no_call)
 
 pub invariant_of-self-in-None : goal.invariant_of-self-in-None
 invariant_of-self-in-None c =

@@ -1,0 +1,491 @@
+"""The package for Python: on each case of conformance/, on random scripts beside the program, with arguments that can't
+be used, in threads, with signals, and where memory is refused."""
+import copy
+import importlib
+import os
+import pathlib
+import random
+import re
+import sys
+import threading
+
+import pytest
+
+import python_package
+from trac import TOP, report
+
+sys.path.append(os.path.join(TOP, 'conformance'))
+from run import cases
+
+HELLO = b"#(ps,hello)'"
+LOOP = b"#(ds,L,(#(cl,L)))#(cl,L)'"
+GREET = b"#(ds,greet,(Hello, X!))#(ss,greet,X)'"
+STATUS = {'halted': 0, 'input ended': 0, 'workspace': 1, 'steps': 3}
+CASES = [case for path in sorted(pathlib.Path(TOP, 'conformance').glob('*.cases')) for case in cases(path)]
+PROGRAM = re.compile(r'^```python\n(.*?)^```\n\n```output\n(.*?)^```', re.MULTILINE | re.DOTALL)
+# What random scripts are made of.
+WORDS = [*'()#,\'\nAB1 \u00e9', '#(', '##(', '-2', '', '#(ps,', '##(cl,A,', '#(ds,A,', '#(ss,A,B', '#(cc,A', '#(cs,A,',
+         '#(cn,A,2', '#(in,A,B', '#(pf,A)', '#(ln,-)', '#(rs)', '##(rc)', '#(ad,7,', '#(gr,', '#(cm,!)', '#(dd,A)',
+         '#(da)', '#(hl)']
+
+
+def account(report):
+    """The steps, the peak and the status of a report or a session."""
+    return report.steps, report.peak, STATUS[report.fate.value]
+
+
+def in_pieces(module, script, cells, steps, draw):
+    """The output and the account of a session that is fed in pieces and makes steps by turns, as they are drawn."""
+    session, output = module.Session(cells, steps), b''
+    while script and not session.fate.is_end:
+        piece, script = (script[:(size := draw.randint(1, 9))], script[size:])
+        output += session.feed(piece, most=draw.choice((None, 0, 1, 7, 300)))
+        if draw.random() < 0.1:
+            session = session.copy()
+    output += session.end(most=draw.choice((0, 5)))
+    for part in session.outputs():
+        output += part
+    return output, *account(session)
+
+
+# ---- Runs.
+
+
+def test_each_case(trac_t64):
+    draw, tried = random.Random(49), 0
+    for case in (case for case in CASES if 'fails' not in case):
+        cells, steps = int(case['cells']), int(case['allowance'])
+        made = trac_t64.run(case['input'], cells, steps)
+        wanted = {key: case[key] for key in ('steps', 'peak') if key in case}
+        got = {'steps': str(made.steps), 'peak': str(made.peak)}
+        assert (made.output, STATUS[made.fate.value]) == (case['output'], int(case['status'])), case['name']
+        assert {key: got[key] for key in wanted} == wanted, case['name']
+        assert case.get('halts') != 'yes' or made.fate is trac_t64.Fate.HALTED, case['name']
+        pieces = in_pieces(trac_t64, case['input'], cells, steps, draw)
+        assert pieces == (made.output, *account(made)), case['name']
+        tried += 1
+    assert tried > 600
+
+
+def test_random_scripts_beside_the_program(trac_t64):
+    draw, ends = random.Random(1966), set()
+    for _ in range(400):
+        script = ''.join(draw.choice(WORDS) for _ in range(draw.randint(1, 40))).encode() + draw.choice((b'', b"'"))
+        cells, steps = draw.choice((11, 30, 60, 300, 65536)), draw.choice((9, 100, 1000, 20000))
+        wanted = report(script, '--cells', str(cells), '--steps', str(steps))
+        made = trac_t64.run(script, cells, steps)
+        assert (made.output, *account(made)) == wanted, (script, cells, steps)
+        assert in_pieces(trac_t64, script, cells, steps, draw) == wanted, (script, cells, steps)
+        ends.add(made.fate)
+    assert len(ends) == 4
+
+
+def test_a_report(trac_t64):
+    made = trac_t64.run("#(ps,h\u00e9)#(ps,##(rc)){}'rest".format('#(hl)').encode() + b'\xff')
+    assert (made.text, made.output, made.fate) == ('h\u00e9r', b'h\xc3\xa9r', trac_t64.Fate.HALTED)
+    assert made.consumed == len("#(ps,h..)#(ps,##(rc))#(hl)'r")
+    assert trac_t64.run(b'\xff').text == '\ufffd'
+    for script in (HELLO, bytearray(HELLO), memoryview(HELLO), memoryview(bytes(2 * len(HELLO)))[::2], HELLO.decode()):
+        trac_t64.run(script)
+    assert trac_t64.run('#(ps,\u20ac)').text == '\u20ac'
+
+
+def test_an_output_that_is_larger_than_the_workspace(trac_t64):
+    script = b"#(ds,A,%s)#(ds,L,(#(ps,##(cl,A))#(cl,L)))#(cl,L)'" % (b'x' * 5000)
+    made = trac_t64.run(script, 65536, 100000)
+    assert made.output == b'x' * len(made.output) and len(made.output) > 10000000
+
+
+# ---- Sessions.
+
+
+def test_a_session_keeps_its_forms(trac_t64):
+    with trac_t64.Session(200, 1000) as session:
+        assert session.feed(GREET) == b''
+        assert (session.fate, session.awaits, session.rule) == (trac_t64.Fate.WANTS_INPUT, 'text', 'end of call')
+        session.again()
+        assert (session.steps, session.peak, session.awaits) == (0, 0, 'nothing')
+        assert (session.neutral, session.active) == ((), b'')
+        assert session.feed("##(cl,greet,Ad") + session.feed("a)'rest") == b'Hello, Ada!'
+        assert (session.unread, session.meta, session.cells) == (b'rest', ord("'"), 200)
+        [form] = session.forms()
+        assert form == (b'greet', b'<^>Hello, <1>!', (*b'Hello, ', trac_t64.FIRST_GAP, ord('!')), 0)
+        assert session.parts == (17, 7, 174, 2) and sum(session.parts) == session.cells
+        assert session.end() == b'rest' and session.fate is trac_t64.Fate.INPUT_ENDED
+
+
+def test_the_steps_of_the_manual(trac_t64):
+    with open(os.path.join(TOP, 'docs', 'LANGUAGE.md'), encoding='utf-8') as page:
+        block = re.search(r"```trace\n  step .*?\n(.*?)```", page.read(), re.DOTALL)[1]
+    rows = re.findall(r'^ +(\d+)  (.{13}) +(\d+) +\d+  (.*)$', block, re.MULTILINE)
+    session = trac_t64.Session()
+    session.feed(HELLO, most=0)
+    session.end(most=0)
+    made = []
+    while True:
+        size = session.cells - session.parts.free
+        if (step := session.step()) is None:
+            break
+        strings = f'{trac_t64.shown(session.neutral)}|{trac_t64.shown(session.active)}'
+        made.append((str(step.number), f'{step.rule:13}', str(size), strings))
+        assert step.output == (b'hello' if step.number == 19 else b'')
+    # what the workspace holds behind the last step is not promised
+    assert made[:-1] == rows[:-1] and len(made) == len(rows) == 29
+    assert (session.step(), list(session)) == (None, [])
+
+
+def test_iterating_stops_where_input_is_wanted(trac_t64):
+    session = trac_t64.Session()
+    assert [step.rule for step in session] == ['idling', 'active call', 'character', 'character', 'argument',
+                                               'active call', 'character', 'character']
+    session.feed(HELLO, most=0)
+    assert b''.join(step.output for step in session) == b'hello'
+    assert session.fate is trac_t64.Fate.WANTS_INPUT
+
+
+def test_outputs_come_before_the_next_step(trac_t64):
+    session = trac_t64.Session()
+    session.feed("#(ps,a)#(ds,A,)#(ps,)#(ps,b)'", most=0)
+    seen = [(output, session.steps, len(session.forms())) for output in session.outputs()]
+    assert [output for output, _, _ in seen] == [b'a', b'b'] and [count for *_, count in seen] == [0, 1]
+
+
+def test_input_behind_its_end(trac_t64):
+    session = trac_t64.Session()
+    session.end(most=3)
+    session.feed()
+    with pytest.raises(ValueError, match='^data '):
+        session.feed(b'x')
+    session.again()
+    assert session.feed(HELLO) == b'hello'
+
+
+def test_a_run_that_is_over_stays_over(trac_t64):
+    session = trac_t64.Session(1000, 100)
+    session.feed(b"#(ps,a)#(hl)'#(ps,b)'")
+    before = session.steps
+    assert (session.feed(b"#(ps,c)'"), session.steps, session.unread) == (b'', before, b"#(ps,b)'#(ps,c)'")
+    rest = session.unread
+    session.again(200)
+    assert session.feed(rest) == b'bc'
+    session.again(5)
+    assert (session.feed(), session.fate, session.steps) == (b'', trac_t64.Fate.STEPS, 5)
+    session.again()
+    session.feed(LOOP)
+    assert session.steps == 100
+
+
+def test_copies_go_their_own_ways(trac_t64):
+    first = trac_t64.Session(300)
+    first.feed(GREET + b"#(ps,##(cl,greet,##(rs)))'A")
+    second, third, fourth = first.copy(), copy.copy(first), copy.deepcopy(first)
+    assert second.feed(b"b'") == b'Hello, Ab!'
+    assert first.feed(b"c#(da)'") == b'Hello, Ac#(da)!'
+    first.close()
+    assert third.feed(b"d'#(ds,more,x)'") == b'Hello, Ad!'
+    fifth = third.copy()
+    third.close()
+    assert [form.name for form in fifth.forms()] == [b'greet', b'more']
+    assert fourth.unread == b'A' and len(fourth.forms()) == 1
+    assert fourth.feed(b"e'") == b'Hello, Ae!' and fifth.feed(b"#(ln,/)'") == b'/greet/more'
+    with pytest.raises(ValueError, match='closed'):
+        first.copy()
+
+
+def test_copies_in_any_order(trac_t64):
+    draw = random.Random(5)
+    sessions = [(trac_t64.Session(2000), [])]
+    for number in range(400):
+        session, names = draw.choice(sessions)
+        session.again()
+        session.feed(f"#(ds,F{number},x)'")
+        names.append(f'F{number}'.encode())
+        if len(sessions) < 6:
+            sessions.append((session.copy(), list(names)))
+        elif draw.random() < 0.3:
+            sessions.pop(draw.randrange(6))[0].close()
+        for session, names in sessions:
+            if len(names) > 60:
+                session.again()
+                session.feed("#(da)'")
+                names.clear()
+            assert [form.name for form in session.forms()] == names
+
+
+def test_shown(trac_t64):
+    assert trac_t64.shown([256, *b'a\n\\\t', 258, 257, *'\u00e9\u00a0'.encode(), 0xC3, 0]) == \
+        '<#>a\\n\\\\\\t<,><##>\u00e9\\xC2\\xA0\\xC3\\x00'
+    for code in (259, -1):
+        with pytest.raises(ValueError):
+            trac_t64.shown([code])
+
+
+# ---- What can't be used.
+
+
+def test_arguments_that_are_refused(trac_t64):
+    session = trac_t64.Session()
+    huge = 10**30
+    rows = [
+        (ValueError, 'cells', lambda: trac_t64.run(HELLO, 0)),
+        (ValueError, 'cells', lambda: trac_t64.run(HELLO, 16777217)),
+        (ValueError, 'cells', lambda: trac_t64.Session(-1)), (ValueError, 'cells', lambda: trac_t64.Session(huge)),
+        (TypeError, 'cells', lambda: trac_t64.Session('9')), (TypeError, 'cells', lambda: trac_t64.Session(1.0)),
+        (TypeError, 'cells', lambda: trac_t64.Session(None)), (ValueError, 'steps', lambda: trac_t64.Session(9, 0)),
+        (ValueError, 'steps', lambda: trac_t64.run(HELLO, 9, 2**64)),
+        (TypeError, 'steps', lambda: trac_t64.run(HELLO, 9, '1')),
+        (TypeError, 'script', lambda: trac_t64.run(None)), (TypeError, 'script', lambda: trac_t64.run(7)),
+        (TypeError, 'script', lambda: trac_t64.run([35])), (ValueError, 'script', lambda: trac_t64.run('\ud800')),
+        (TypeError, 'data', lambda: session.feed(7)), (ValueError, 'data', lambda: session.feed('a\udcff')),
+        (ValueError, 'most', lambda: session.feed(HELLO, -1)), (ValueError, 'most', lambda: session.end(2**64)),
+        (TypeError, 'most', lambda: session.end(0.5)), (ValueError, 'steps', lambda: session.again(0)),
+        (TypeError, 'steps', lambda: session.again(b'1')),
+    ]
+    for kind, name, call in rows:
+        with pytest.raises(kind, match=rf'^{name} '):
+            call()
+    # nothing was taken of what was refused
+    assert (session.unread, session.steps, session.fate) == (b'', 0, trac_t64.Fate.GOING)
+    assert session.feed(HELLO) == b'hello'
+
+
+def test_a_session_that_is_closed(trac_t64):
+    session = trac_t64.Session()
+    session.close()
+    session.close()
+    names = [name for name in dir(trac_t64.Session) if not name.startswith('_') and name not in ('cells', 'close')]
+    assert len(names) > 15
+    for name in names:
+        with pytest.raises(ValueError, match='closed'):
+            found = getattr(session, name)
+            list(found() or ()) if callable(found) else found
+    with pytest.raises(ValueError, match='closed'), session:
+        session.feed(HELLO)
+
+
+def test_the_machine_below_refuses_too(trac_t64):
+    machine = importlib.import_module('trac_t64._engine').Machine
+    for words, kind in (((0, 1), ValueError), ((16777217, 1), ValueError), ((1, -1), OverflowError),
+                        ((1, 'x'), TypeError), ((), TypeError), ((2**70, 1), OverflowError)):
+        with pytest.raises(kind):
+            machine(*words)
+    made = machine(cells=20, steps=30)
+    for call in (lambda: made.feed('x'), lambda: made.feed(bytearray(b'x')), lambda: made.go(-1, False),
+                 lambda: made.go(1), lambda: made.again(None), lambda: made.copy(1)):
+        with pytest.raises((TypeError, OverflowError)):
+            call()
+    with pytest.raises(TypeError):
+        type('Other', (machine,), {})
+
+
+def test_no_session_is_pickled(trac_t64):
+    import pickle
+    with pytest.raises(TypeError):
+        pickle.dumps(trac_t64.Session())
+
+
+# ---- Threads, signals and memory.
+
+
+def test_threads_with_a_session_each(trac_t64):
+    made, barrier = {}, threading.Barrier(4)
+
+    def work(number):
+        barrier.wait()
+        with trac_t64.Session() as session:
+            session.feed(f"#(ds,A,{number})'")
+            made[number] = b''.join(session.feed("#(ps,##(cl,A))'") for _ in range(200)), \
+                trac_t64.run(LOOP, 65536, 500000 + number).steps
+
+    threads = [threading.Thread(target=work, args=(number,)) for number in range(4)]
+    for thread in threads:
+        thread.start()
+    for thread in threads:
+        thread.join(60)
+    assert made == {number: (str(number).encode() * 200, 500000 + number) for number in range(4)}
+
+
+def test_one_session_in_two_threads(trac_t64):
+    session = trac_t64.Session(65536, 2**64 - 1)
+    twin = session.copy()
+    session.feed(LOOP, most=0)
+    thread = threading.Thread(target=session.feed, args=(b'', 30000000))
+    thread.start()
+    refused = set()
+    while thread.is_alive() and len(refused) < 5:
+        for name, call in (('steps', lambda: session.steps), ('feed', session.feed), ('close', session.close),
+                           ('copy', session.copy), ('twin', twin.feed)):
+            try:
+                call()
+            except RuntimeError as error:
+                assert 'middle of a turn' in str(error)
+                refused.add(name)
+            else:
+                # the turn hasn't begun yet
+                break
+    assert refused == {'steps', 'feed', 'close', 'copy', 'twin'} and thread.is_alive()
+    thread.join(60)
+    assert session.steps == 30000000 and twin.feed(HELLO) == b'hello'
+
+
+INTERRUPTED = """
+import os, signal, sys, threading, time
+from trac_t64 import Session, run
+# what runs in the background may have it ignored
+signal.signal(signal.SIGINT, signal.default_int_handler)
+def soon(): threading.Timer(0.2, os.kill, (os.getpid(), signal.SIGINT)).start()
+soon()
+begin = time.monotonic()
+try: run(b"#(ds,L,(#(cl,L)))#(cl,L)'", 65536, 2**63)
+except KeyboardInterrupt: print('stopped', time.monotonic() - begin < 20)
+session = Session(65536, 2**63)
+soon()
+try: session.feed(b"#(ds,N,0)#(ds,L,(#(ps,#(cl,N);)#(ds,N,#(ad,#(cl,N),1))#(cl,L)))#(cl,L)'")
+except KeyboardInterrupt: pass
+steps = session.steps
+output = session.feed(b'', most=100000)
+numbers = [int(each) for each in output.split(b';')[:-1]]
+print(numbers == list(range(len(numbers))), len(numbers) > 1000, session.steps == steps + 100000)
+"""
+
+
+def test_an_interrupt_stops_between_two_steps(python_site):
+    assert python_package.python(python_site, INTERRUPTED).split() == ['stopped', 'True', 'True', 'True', 'True']
+
+
+IN_A_HANDLER = """
+import signal
+from trac_t64 import Session
+session, told = Session(65536, 2**63), []
+def handler(*_):
+    try: session.steps
+    except RuntimeError as error: told.append(str(error))
+signal.signal(signal.SIGALRM, handler)
+signal.setitimer(signal.ITIMER_REAL, 0.1)
+session.feed(b"#(ds,L,(#(cl,L)))#(cl,L)'", most=30000000)
+print(told, session.steps)
+"""
+
+
+def test_a_handler_of_a_signal_can_not_use_the_session(python_site):
+    assert python_package.python(python_site, IN_A_HANDLER).strip() == \
+        "['the session, or a copy of it, is in the middle of a turn'] 30000000"
+
+
+LEAKING = """
+import sys
+from trac_t64 import Session, run
+from trac_t64._engine import Machine
+def resident():
+    with open('/proc/self/statm') as file: return int(file.read().split()[1]) * 4096
+def use(count):
+    for number in range(count):
+        session = Session(2000)
+        session.feed(b"#(ds,A,(x,y))#(ss,A,x)#(ps,##(cl,A,hello))'" + bytes(9000))
+        twin = session.copy()
+        twin.feed(b"'#(rs)"), session.forms(), session.neutral, session.active, twin.forms(), session.unread
+        if number % 3: session.close()
+        if number % 2: session, twin = twin, session
+        for call in (lambda: session.feed(7), lambda: Session(0)):
+            try: call()
+            except (TypeError, ValueError): pass
+    run(b"#(ps,hello)'")
+# twice, since the C library keeps memory when it gave back a great block first
+use(1500)
+use(1500)
+before, references = resident(), sys.getrefcount(Machine)
+use(10000)
+print(resident() - before, sys.getrefcount(Machine) - references)
+"""
+
+
+def test_ten_thousand_sessions_leak_nothing(python_site):
+    grown, references = map(int, python_package.python(python_site, LEAKING).split())
+    assert grown < 300000 and references == 0
+
+
+REFUSED = """
+import resource
+from trac_t64 import Session, run
+def allow(more):
+    with open('/proc/self/statm') as file: used = int(file.read().split()[0]) * 4096
+    resource.setrlimit(resource.RLIMIT_AS, (used + more, resource.RLIM_INFINITY))
+def refused(call):
+    try: call()
+    except MemoryError: return True
+    return False
+session = Session(20000, 10**9)
+script = b"#(ds,A,%s)#(ds,L,(#(ps,##(cl,A))#(cl,L)))#(cl,L)'" % (b'0123456789' * 500)
+session.feed(script, most=0)
+allow(30000000)
+print(refused(lambda: Session(16777216)), refused(lambda: run(script, 16777216)))
+big = Session(1000000)
+print(refused(lambda: [big.copy() for _ in range(9)]), refused(lambda: big.feed(bytes(40000000))), big.unread == b'')
+big.close()
+print(refused(lambda: session.feed(b'', most=10**8)), session.fate.value)
+steps, taken = session.steps, 10**8 - session.steps
+resource.setrlimit(resource.RLIMIT_AS, (resource.RLIM_INFINITY, resource.RLIM_INFINITY))
+output = session.feed(b'', most=1000)
+print(session.steps == steps + 1000, output == b'0123456789' * (len(output) // 10), len(output) > 5000000)
+whole = run(script, 20000, session.steps)
+print(output == whole.output, whole.steps == session.steps)
+"""
+
+
+def test_memory_that_is_refused(python_site):
+    assert python_package.python(python_site, REFUSED).split() == [
+        *['True'] * 5, 'True', 'wants', 'output', *['True'] * 5]
+
+
+# ---- The package itself.
+
+
+def test_types(python_site):
+    # what ipykernel itself stands on is left out, which takes four fifths of the time
+    python_package.call(['mypy', '--strict', '--follow-imports=skip', '-p', 'trac_t64', '--cache-dir', os.devnull,
+                         '--config-file', os.path.join(TOP, 'hosts', 'python', 'pyproject.toml')],
+                        env={**os.environ, 'MYPYPATH': str(python_site)}, cwd='/')
+
+
+def test_the_types_of_the_machine_name_what_it_has(trac_t64):
+    machine = importlib.import_module('trac_t64._engine').Machine
+    with open(os.path.join(TOP, 'hosts', 'python', 'trac_t64', '_engine.pyi'), encoding='utf-8') as stub:
+        named = re.findall(r'^    def ([a-z]\w*)\(', stub.read(), re.MULTILINE)
+    assert sorted(named) == [name for name in dir(machine) if not name.startswith('_')]
+
+
+def test_the_examples_of_docstrings(python_site):
+    script = 'import doctest, trac_t64\nprint(doctest.testmod(trac_t64))'
+    assert python_package.python(python_site, script) == 'TestResults(failed=0, attempted=2)\n'
+
+
+def test_the_archive_and_the_wheel(python_site, tmp_path):
+    sources = python_package.copy_sources(tmp_path / 'sources')
+    python_package.call([sys.executable, '-m', 'build', '--no-isolation', '--outdir', tmp_path / 'dist', sources],
+                        env={**os.environ, **python_package.QUICK, 'CFLAGS': '-O0 -g0'})
+    with open(os.path.join(TOP, 'VERSION'), encoding='utf-8') as file:
+        version = file.read().strip()
+    archive, wheel = sorted(os.listdir(tmp_path / 'dist'))
+    assert archive == f'trac-t64-{version}.tar.gz' and wheel.startswith(f'trac_t64-{version}-cp311-abi3-')
+    python_package.call([sys.executable, '-m', 'pip', 'install', '--quiet', '--no-index', '--no-deps', '--target',
+                         tmp_path / 'site', tmp_path / 'dist' / wheel], env={**os.environ, **python_package.QUICK})
+    script = 'import trac_t64\nprint(trac_t64.run("#(ps,hello)").text)'
+    assert python_package.python(tmp_path / 'site', script) == 'hello\n'
+    installed = {name for name in os.listdir(python_site / 'trac_t64') if name != '__pycache__'}
+    assert installed == {name for name in os.listdir(tmp_path / 'site' / 'trac_t64') if name != '__pycache__'}
+
+
+def test_the_programs_of_the_pages(python_site, tmp_path):
+    for name in ('docs/EMBEDDING.md', 'hosts/python/README.md'):
+        with open(os.path.join(TOP, name), encoding='utf-8') as page:
+            found = PROGRAM.findall(page.read())
+        assert found, name
+        for text, output in found:
+            assert python_package.python(python_site, text, cwd=tmp_path) == output, name
+
+
+def test_the_functions_are_those_of_the_manual(trac_t64):
+    with open(os.path.join(TOP, 'docs', 'LANGUAGE.md'), encoding='utf-8') as page:
+        rows = re.findall(r'^#### `([^`]+)`: (.*)$', page.read(), re.MULTILINE)
+    functions = importlib.import_module('trac_t64.functions')
+    assert list(functions.FUNCTIONS.items()) == [(usage[:2], (usage, what)) for usage, what in rows]

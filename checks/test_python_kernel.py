@@ -1,0 +1,163 @@
+"""The kernel for Jupyter, asked by Jupyter's own client, and the lesson, a notebook that it runs from start to end."""
+import importlib
+import json
+import os
+import subprocess
+import sys
+
+import pytest
+
+import python_package
+from trac import TOP
+
+LESSON = os.path.join(TOP, 'examples', 'lesson.ipynb')
+FOREVER = "#(ds,L,(#(cl,L)))#(cl,L)'"
+
+
+@pytest.fixture(scope='module')
+def installed(python_site, tmp_path_factory):
+    """The environment of a Jupyter that finds the kernel."""
+    prefix = tmp_path_factory.mktemp('kernel')
+    python_package.call([sys.executable, '-m', 'trac_t64.kernel', '--install', '--prefix', prefix],
+                        env=python_package.environment(python_site))
+    own = {name: str(tmp_path_factory.mktemp('jupyter'))
+           for name in ('JUPYTER_CONFIG_DIR', 'JUPYTER_RUNTIME_DIR', 'IPYTHONDIR')}
+    return python_package.environment(python_site, JUPYTER_PATH=str(prefix / 'share' / 'jupyter'), **own)
+
+
+@pytest.fixture(scope='module')
+def kernel(installed):
+    """A kernel that runs, and its client."""
+    with pytest.MonkeyPatch.context() as patch:
+        for name, value in installed.items():
+            patch.setenv(name, value)
+        manager, client = importlib.import_module('jupyter_client.manager').start_new_kernel(
+            kernel_name='trac_t64', stderr=subprocess.DEVNULL)
+    yield manager, client
+    client.stop_channels()
+    manager.shutdown_kernel(now=True)
+
+
+SHOWN = {'display_data': lambda content: ('table', content['data']['text/plain']),
+         'stream': lambda content: ('stream', content['text']),
+         'error': lambda content: ('error', content['traceback'])}
+
+
+def run(kernel, code, answers=None):
+    """What a cell shows, and how it ended. What it asks for is answered in turn."""
+    _, client = kernel
+    seen, left = [], list(answers or ())
+
+    def see(message):
+        if show := SHOWN.get(message['msg_type']):
+            seen.append(show(message['content']))
+
+    reply = client.execute_interactive(code, timeout=30, allow_stdin=answers is not None, stop_on_error=False,
+                                       stdin_hook=lambda _: client.input(left.pop(0)), output_hook=see)
+    assert not left
+    return seen, reply['content']['status']
+
+
+def red(line):
+    return [('error', [f'\x1b[31m{line}\x1b[0m'])], 'error'
+
+
+def test_cells_of_a_session(kernel):
+    assert run(kernel, '%reset\n') == ([], 'ok')
+    assert run(kernel, "#(ds,greet,(Hello, X!))#(ss,greet,X)'") == ([], 'ok')
+    assert run(kernel, "#(ps,##(cl,greet,\u00c9va))'\n") == ([('stream', 'Hello, \u00c9va!')], 'ok')
+    assert run(kernel, '##(cl,greet,no apostrophe)') == ([('stream', 'Hello, no apostrophe!')], 'ok')
+    assert run(kernel, "#(hl)'#(ps,x)'") == ([], 'ok') and run(kernel, '') == ([], 'ok')
+    assert run(kernel, '%forms') == ([('table', 'name   form            pointer\ngreet  <^>Hello, <1>!  0')], 'ok')
+    # a character whose two bytes are printed apart
+    halves = "#(ds,A,\u00e9)#(ps,#(cn,A,1))#(ps,#(cn,A,1))#(cr,A)#(ps,#(cn,A,1))'"
+    assert run(kernel, halves)[0] == [('stream', '\u00e9'), ('stream', '\ufffd')]
+
+
+def test_what_a_script_reads(kernel):
+    assert run(kernel, "#(ps,[##(rs)][##(rs)])'one'", answers=['t,w', "o'"]) == ([('stream', '[one][t,w\no]')], 'ok')
+    # where nobody can be asked, the input ends
+    assert run(kernel, "#(ps,[##(rs)])'") == ([], 'ok')
+
+
+def test_faults(kernel):
+    assert run(kernel, "%reset\n%steps 100\n\n#(ps,\u00e9)'" + FOREVER) == (
+        [('stream', '\u00e9')] + red('line 4, column 34: allowance of 100 steps used up')[0], 'error')
+    assert run(kernel, "%steps 1000000\n#(ln,/)'") == ([('stream', '/L')], 'ok')
+    assert run(kernel, "%cells 18\n#(ps,hello)'") == red('line 2, column 12: workspace of 18 cells full at step 9')
+    assert run(kernel, '%cells 65536') == ([], 'ok')
+
+
+def test_commands_that_are_refused(kernel):
+    for code in ('%nothing', '%cells', '%cells 0', '%cells 16777217', '%cells 1 2', '%steps x', '%reset now', '%',
+                 '%trace -1'):
+        seen, status = run(kernel, code + "\n#(ps,never)'")
+        assert status == 'error' and len(seen) == 1 and seen[0][0] == 'error', code
+    assert run(kernel, '%help')[1] == 'ok'
+
+
+def test_a_table_of_steps(kernel):
+    seen, _ = run(kernel, "%trace 3\n#(ps,hello)'")
+    assert seen == [('stream', 'hello'), ('table', 'step  rule         neutral string  active string  prints\n'
+                                          '1     idling                       #(ps,#(rs))\n'
+                                          '2     active call  <#>             ps,#(rs))\n'
+                                          '3     character    <#>p            s,#(rs))')]
+    [_, (_, table)], _ = run(kernel, "%trace\n#(ps,a\\\n)'")
+    assert table.splitlines()[-1].split()[:3] == ['27', 'end', 'of'] and 'a\\\\' in table
+
+
+def test_an_interrupt(kernel):
+    manager, client = kernel
+    run(kernel, "%reset\n%steps 1000000000000\n#(ds,A,kept)'")
+    asked = client.execute("#(ps,begun)'" + FOREVER, stop_on_error=False)
+    while client.get_iopub_msg(timeout=20)['msg_type'] != 'stream':
+        pass
+    manager.interrupt_kernel()
+    while (reply := client.get_shell_msg(timeout=20))['parent_header']['msg_id'] != asked:
+        pass
+    assert (reply['content']['status'], reply['content']['ename']) == ('error', 'interrupted')
+    assert run(kernel, "%steps 1000000\n#(cl,A)'") == ([('stream', 'kept')], 'ok')
+
+
+def test_what_can_stand_at_the_cursor(kernel, trac_t64):
+    _, client = kernel
+    functions = importlib.import_module('trac_t64.functions').FUNCTIONS
+    run(kernel, "%reset\n#(ds,north,x)#(ds,nine,x)#(ds,south,x)'")
+
+    def matches(code, end=''):
+        told = client.complete(code + end, len(code), reply=True, timeout=10)['content']
+        return told['matches'], told['cursor_start']
+
+    assert matches('#(c', ')') == (['cc', 'cl', 'cm', 'cn', 'cr', 'cs'], 2)
+    assert matches('\u20ac##(', 'x') == (sorted(functions), 4)
+    assert matches('#(cl,n') == (['nine', 'north'], 5) and matches('#(DD,s') == (['south'], 5)
+    assert matches('#(ps,n') == ([], 6) and matches('#(cl,north,n') == ([], 12) and matches('n') == ([], 1)
+    assert matches('%t') == (['%trace'], 0)
+    told = client.inspect('#(ps,#(cl,north))', 9, reply=True, timeout=10)['content']
+    assert told['data'] == {'text/plain': '#(cl,N,X1,X2,..): call'}
+    for code, status in (("#(ps,a)'", 'complete'), ("#(ps,a)'\n", 'complete'), ('#(ps,a)', 'incomplete'),
+                         ('%forms', 'complete')):
+        assert client.is_complete(code) and client.get_shell_msg(timeout=10)['content']['status'] == status
+
+
+def test_a_python_without_ipykernel(python_site):
+    script = "import sys\nsys.modules['ipykernel'] = None\n" \
+        'try: import trac_t64.kernel\nexcept ImportError as error: print(error)'
+    assert python_package.python(python_site, script).startswith('the kernel needs ipykernel')
+
+
+def outputs(path):
+    """The sources and the outputs of the cells of a notebook."""
+    with open(path, encoding='utf-8') as file:
+        cells = json.load(file)['cells']
+    return [(cell['source'], [{key: value for key, value in output.items() if key != 'execution_count'}
+                              for output in cell.get('outputs', ())]) for cell in cells]
+
+
+def test_the_lesson(installed, tmp_path):
+    python_package.call(['jupyter', 'nbconvert', '--execute', '--to', 'notebook', '--output-dir', tmp_path, LESSON],
+                        env=installed)
+    wanted = outputs(LESSON)
+    assert sum(len(shown) for _, shown in wanted) >= 15
+    for got, cell in zip(outputs(tmp_path / 'lesson.ipynb'), wanted, strict=True):
+        assert got == cell

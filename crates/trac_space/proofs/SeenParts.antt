@@ -1,0 +1,92 @@
+-- Parts between comma marks, as contracts see them.
+use Rattle.trac_space.proofs.Words.{◌≡◌, ℕ, suc, ◌+◌, ◌-◌, All, List, [], ◌∷◌, ◌++◌, length, take, drop, map, get_or, slice_range, refl, sym, ap, ◌∙◌, arith, subst}
+use Rattle.trac_space.proofs.Words.{take-map, drop-map, map-append, length-map, All-head, All-tail, All-cons, All-nil, Cell, Byte, Call, Comma, Gap, Head, seen, is_comma, HaveCommas, parts_at, numbered_part, part_between, filling, filled}
+use Rattle.std.proofs.Math.ListN.{get_or-map as get_or-map-same}
+use Rattle.trac_space.specs.Overlay.{under, over}
+use Rattle.trac_space.proofs.LaidCommas.{Takes}
+use Rattle.trac_space.proofs.Lifted.{seen-under}
+
+comma-seen : (cell : Cell) → is_comma (seen cell) ≡ is_comma cell
+comma-seen (Byte b) = refl
+comma-seen cell = refl
+
+over-seen : (cell : Cell) → over (seen cell) ≡ over cell
+over-seen (Byte b) = refl
+over-seen cell = refl
+
+parts-seen : (from at : ℕ) (cells : List Cell) → parts_at from at (map seen cells) ≡ parts_at from at cells
+parts-seen from at [] = refl
+parts-seen from at (cell ∷ cells) = rw (comma-seen cell, parts-seen (at + 1) (at + 1) cells, parts-seen from (at + 1) cells) refl
+
+-- cells over which none lies are the same as they are seen
+plain-one : (cell : Cell) → under (seen cell) ≡ seen cell → under cell ≡ cell
+plain-one (Gap k) is = absurd cc
+plain-one (Head k) is = absurd cc
+plain-one (Byte b) is = refl
+plain-one (Call mode k) is = refl
+plain-one Comma is = refl
+
+plain-seen : (cells : List Cell) → map under (map seen cells) ≡ map seen cells → map under cells ≡ cells
+plain-seen [] is = refl
+plain-seen (cell ∷ cells) is =
+    rw (plain-one cell (ap (λ l. get_or l 0 Comma) is), plain-seen cells (ap (drop 1) is)) refl
+
+-- the places of comma marks lie there as they are seen to
+pub commas-from-seen : (cells part : List Cell) (count : ℕ) → map seen cells ≡ part → HaveCommas part count → HaveCommas cells count
+commas-from-seen cells part count shown have =
+    let same : map under part ≡ map seen (map under cells) = ap (map under) (sym shown) ∙ sym (seen-under cells) in
+    let parts : parts_at 0 0 (map under part) ≡ parts_at 0 0 (map under cells) = ap (parts_at 0 0) same ∙ parts-seen 0 0 (map under cells) in
+    let rest : map seen (drop count cells) ≡ drop count part = sym (drop-map seen count cells) ∙ ap (drop count) shown in
+    record {
+      within = omega (arith, have.within, ap length shown, length-map cells seen);
+      others = plain-seen (drop count cells) (ap (map under) rest ∙ have.others ∙ sym rest);
+      all = ap length (sym parts) ∙ have.all;
+      ends = λ k less.
+          let read : over (get_or part k Comma) ≡ over (get_or cells k Comma) = ap (λ l. over (get_or l k Comma)) (sym shown) ∙ ap over (get_or-map-same seen cells k Comma) ∙ over-seen (get_or cells k Comma) in
+          sym read ∙ have.ends k less ∙ ap (λ p. (numbered_part p (suc k)).1) parts;
+    }
+
+pub commas-seen : (cells : List Cell) (count : ℕ) → map seen cells ≡ cells → HaveCommas cells count → HaveCommas (map seen cells) count
+commas-seen cells count same have = subst (λ l. HaveCommas l count) (sym same) have
+
+-- what takes a number is seen as it is, and so is what has one
+takes-seen : (cell : Cell) → Takes (seen cell) → Takes cell
+takes-seen (Byte b) takes = takes
+takes-seen cell takes = takes
+
+pub takes-from-seen : (cells : List Cell) → All Takes (map seen cells) → All Takes cells
+takes-from-seen [] takes = All-nil Takes
+takes-from-seen (cell ∷ cells) takes = All-cons Takes cell cells (takes-seen cell (All-head Takes (seen cell) (map seen cells) takes)) (takes-from-seen cells (All-tail Takes (seen cell) (map seen cells) takes))
+
+numbered-seen : (cell : Cell) → Takes (under cell) → seen cell ≡ cell
+numbered-seen (Call mode k) takes = absurd cc
+numbered-seen (Byte b) takes = refl
+numbered-seen Comma takes = refl
+numbered-seen (Gap k) takes = refl
+numbered-seen (Head k) takes = refl
+
+pub all-numbered-seen : (cells : List Cell) → All Takes (map under cells) → map seen cells ≡ cells
+all-numbered-seen [] takes = refl
+all-numbered-seen (cell ∷ cells) takes = rw (numbered-seen cell (All-head Takes (under cell) (map under cells) takes), all-numbered-seen cells (All-tail Takes (under cell) (map under cells) takes)) refl
+
+part-seen : (given : List Cell) (number : ℕ) → map seen (part_between given number) ≡ part_between (map seen given) number
+part-seen given number =
+    let p = numbered_part (parts_at 0 0 given) number in
+    sym (take-map seen (p.1 - p.0) (drop p.0 given))
+    ∙ ap (take (p.1 - p.0)) (sym (drop-map seen p.0 given))
+    ∙ ap (λ parts. slice_range (map seen given) (numbered_part parts number).0 (numbered_part parts number).1) (sym (parts-seen 0 0 given))
+
+filling-seen : (given : List Cell) (cell : Cell) → map seen (filling given cell) ≡ filling (map seen given) (seen cell)
+filling-seen given (Gap k) = part-seen given k
+filling-seen given (Byte b) = refl
+filling-seen given (Call mode k) = part-seen given 0
+filling-seen given Comma = part-seen given 0
+filling-seen given (Head k) = part-seen given 0
+
+-- cells are seen filled as those that are seen
+pub filled-seen : (given : List Cell) (cells : List Cell) → map seen (filled given cells) ≡ filled (map seen given) (map seen cells)
+filled-seen given [] = refl
+filled-seen given (cell ∷ cells) =
+    map-append seen (filling given cell) (filled given cells)
+    ∙ ap (λ more. more ++ map seen (filled given cells)) (filling-seen given cell)
+    ∙ ap (λ more. filling (map seen given) (seen cell) ++ more) (filled-seen given cells)

@@ -1,0 +1,7 @@
+use Rattle.trac_space.proofs.Words.{◌≡◌, ◌++◌, map, take, drop}
+use Rattle.trac_space.specs.Overlay.{under}
+use Rattle.trac_space.proofs.overlay.lift.Given as goal
+
+-- so many cells are lifted
+abbrev pub invariant-loop-k : goal.invariant-loop-k
+invariant-loop-k l = l.cells ≡ map under (take l.k l.fn.cells) ++ drop l.k l.fn.cells

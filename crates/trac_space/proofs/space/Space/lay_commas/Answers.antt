@@ -1,0 +1,85 @@
+use Rattle.trac_space.proofs.Words.{◌≡◌, ◌+◌, ◌-◌, ◌++◌, ◌∙◌, All, ap, arith, refl, sym, subst, length, map, take, drop, slice_range, length-map, length-between, take-map, drop-map, seen, HaveCommas, Lists, lists}
+use Rattle.trac_space.specs.Overlay.{under, HaveNumbers}
+use Rattle.trac_space.proofs.BlockChanges.{sizes, shown, laid, parts-in_neutral, parts_of, neutral-part}
+use Rattle.trac_space.proofs.Calls.{marks-numbered, marks-calls, marks-linked}
+use Rattle.trac_space.proofs.LaidCommas.{Takes}
+use Rattle.trac_space.proofs.Lifted.{in-middle, numbers-middle, numbers-seen}
+use Rattle.trac_space.proofs.SeenParts.{takes-from-seen, all-numbered-seen, commas-seen}
+use Rattle.trac_space.proofs.space.Space.lay_commas.Goals as goal
+use Rattle.trac_space.proofs.space.Space.lay_commas.Goals.{After-lay_commas, After-self}
+
+-- the cells as they stand in the block, and as they are seen
+part_is : (c : After-self) → slice_range c.self.inside.cells.now (c.self.inside.store + c.args.first) (c.self.inside.store + c.args.end) ≡ slice_range (parts_of c.self.inside).neutral c.args.first c.args.end
+part_is c =
+    let size = sizes c.self.invariant c.self.view_is in
+    neutral-part c.self.invariant c.args.first c.args.end c.requires.order (omega (arith, c.requires.within, size.neutral))
+
+takes : (c : After-self) → All Takes (slice_range (parts_of c.self.inside).neutral c.args.first c.args.end)
+takes c =
+    let neutral = (parts_of c.self.inside).neutral in
+    let shown_is : slice_range c.args.self.now.neutral c.args.first c.args.end ≡ map seen (slice_range neutral c.args.first c.args.end) =
+    ap (λ (l : Lists). slice_range l.neutral c.args.first c.args.end) (sym c.self.view_is) ∙ simp (take-map, drop-map) refl in
+    takes-from-seen (slice_range neutral c.args.first c.args.end) (subst (All Takes) shown_is c.requires.takes)
+
+pub lay_commas-requires-clause-takes : goal.lay_commas-requires-clause-takes
+lay_commas-requires-clause-takes c =
+    let k = (goal.at.lay_commas-requires-clause-takes c).After-self in
+    subst (All Takes) (sym (part_is k)) (takes k)
+
+same_under : (c : After-lay_commas) → slice_range c.self.inside.cells.now (c.self.inside.store + c.args.first) (c.self.inside.store + c.args.end) ≡ slice_range (parts_of c.self.inside).neutral c.args.first c.args.end → map under c.lay_commas.new.cells ≡ slice_range (parts_of c.self.inside).neutral c.args.first c.args.end
+same_under c is = c.lay_commas.ensures.same ∙ is
+
+long : (c : After-lay_commas) → map under c.lay_commas.new.cells ≡ slice_range (parts_of c.self.inside).neutral c.args.first c.args.end → length c.lay_commas.new.cells ≡ c.args.end - c.args.first
+long c is =
+    let size = sizes c.self.invariant c.self.view_is in
+    sym (length-map c.lay_commas.new.cells under) ∙ ap length is ∙ length-between (parts_of c.self.inside).neutral c.args.first c.args.end (omega (arith, c.requires.within, size.neutral, size.cells))
+
+pub returns-clause-commas : goal.returns-clause-commas
+returns-clause-commas c =
+    let at = goal.at.returns-clause-commas c in
+    let size = sizes c.self.invariant c.self.view_is in
+    let new = c.lay_commas.new.cells in
+    let neutral = (parts_of c.self.inside).neutral in
+    let is = same_under at.After-lay_commas (part_is at.After-self) in
+    let all : map seen new ≡ new = all-numbered-seen new (subst (All Takes) (sym is) (takes at.After-self)) in
+    let moved = parts-in_neutral c.self.invariant c.args.first c.args.end _ _ c.requires.order (omega (arith, c.requires.within, size.neutral)) (long at.After-lay_commas is) refl in
+    let view = ap (λ (l : Lists). slice_range l.neutral c.args.first c.args.end) (shown c.self.inside.active moved) in
+    let middle : slice_range (map seen (take c.args.first neutral ++ new ++ drop c.args.end neutral)) c.args.first c.args.end ≡ map seen new = simp (take-map, drop-map) (ap (map seen) (in-middle neutral new c.args.first c.args.end c.requires.order (omega (arith, c.requires.within, size.neutral, size.cells)) (long at.After-lay_commas is))) in
+    subst (λ l. HaveCommas l c.lay_commas.result) (sym (view ∙ middle)) (commas-seen new c.lay_commas.result all c.lay_commas.ensures.commas)
+
+pub returns-clause-numbers : goal.returns-clause-numbers
+returns-clause-numbers c =
+    let at = goal.at.returns-clause-numbers c in
+    let size = sizes c.self.invariant c.self.view_is in
+    let new = c.lay_commas.new.cells in
+    let neutral = (parts_of c.self.inside).neutral in
+    let is = same_under at.After-lay_commas (part_is at.After-self) in
+    let moved = parts-in_neutral c.self.invariant c.args.first c.args.end _ _ c.requires.order (omega (arith, c.requires.within, size.neutral)) (long at.After-lay_commas is) refl in
+    let view = ap (λ (l : Lists). l.neutral) (shown c.self.inside.active moved) in
+    let raw = numbers-middle neutral new c.args.first c.args.end c.requires.order (omega (arith, c.requires.within, size.neutral, size.cells)) (long at.After-lay_commas is) is in
+    let old = ap (λ (l : Lists). l.neutral) c.self.view_is in
+    let now = take c.args.first neutral ++ new ++ drop c.args.end neutral in
+    let seen_are = numbers-seen neutral now c.args.first c.args.end raw in
+    subst (λ l. HaveNumbers c.args.self.now.neutral l c.args.first c.args.end) (sym view) (subst (λ l. HaveNumbers l (map seen now) c.args.first c.args.end) old seen_are)
+
+pub returns-clause-same : goal.returns-clause-same
+returns-clause-same c =
+    let at = goal.at.returns-clause-same c in
+    let size = sizes c.self.invariant c.self.view_is in
+    let is = same_under at.After-lay_commas (part_is at.After-self) in
+    let moved = parts-in_neutral c.self.invariant c.args.first c.args.end _ _ c.requires.order (omega (arith, c.requires.within, size.neutral)) (long at.After-lay_commas is) refl in
+    let view = shown c.self.inside.active moved in
+    rw (← c.self.view_is) (view ∙ ap (λ cells. record (lists c.self.inside) { neutral = cells }) (sym (ap (λ (l : Lists). l.neutral) view)))
+
+-- no call mark comes or goes
+pub invariant_of-self : goal.invariant_of-self
+invariant_of-self c =
+    let at = goal.at.invariant_of-self c in
+    let h = c.self.invariant in
+    let size = sizes h c.self.view_is in
+    let neutral = (parts_of c.self.inside).neutral in
+    let is = same_under at.After-lay_commas (part_is at.After-self) in
+    let moved = parts-in_neutral h c.args.first c.args.end _ _ c.requires.order (omega (arith, c.requires.within, size.neutral)) (long at.After-lay_commas is) refl in
+    let raw = numbers-middle neutral c.lay_commas.new.cells c.args.first c.args.end c.requires.order (omega (arith, c.requires.within, size.neutral, size.cells)) (long at.After-lay_commas is) is in
+    let same = marks-numbered neutral _ c.args.first c.args.end c.requires.order raw in
+    laid _ h moved refl (omega arith) (omega arith) (marks-calls neutral _ same _ h.calls) (marks-linked neutral _ same h.linked)

@@ -1,0 +1,37 @@
+use Rattle.trac_space.proofs.Words.{◌≡◌, ◌-◌, ◌∙◌, ap, arith, refl, length, map, slice_range, length-map, length-between}
+use Rattle.trac_space.specs.Overlay.{under}
+use Rattle.trac_space.proofs.BlockChanges.{sizes, shown, maps, laid, parts-in_neutral, parts_of, neutral-part}
+use Rattle.trac_space.proofs.Calls.{marks-lifted, marks-calls, marks-linked}
+use Rattle.trac_space.proofs.Lifted.{seen-under}
+use Rattle.trac_space.proofs.space.Space.lift_neutral.Goals as goal
+use Rattle.trac_space.proofs.space.Space.lift_neutral.Goals.{After-lift}
+
+lifted : (c : After-lift) → c.lift.new.cells ≡ map under (slice_range (parts_of c.self.inside).neutral c.args.a c.args.b)
+lifted c =
+    let size = sizes c.self.invariant c.self.view_is in
+    c.lift.ensures ∙ ap (map under) (neutral-part c.self.invariant c.args.a c.args.b c.requires.order (omega (arith, c.requires.within, size.neutral)))
+
+long : (c : After-lift) → length (map under (slice_range (parts_of c.self.inside).neutral c.args.a c.args.b)) ≡ c.args.b - c.args.a
+long c =
+    let size = sizes c.self.invariant c.self.view_is in
+    length-map (slice_range (parts_of c.self.inside).neutral c.args.a c.args.b) under ∙ length-between (parts_of c.self.inside).neutral c.args.a c.args.b (omega (arith, c.requires.within, size.neutral, size.cells))
+
+pub returns : goal.returns
+returns c =
+    let k = (goal.at.returns c).After-lift in
+    let size = sizes c.self.invariant c.self.view_is in
+    let moved = parts-in_neutral c.self.invariant c.args.a c.args.b _ _ c.requires.order (omega (arith, c.requires.within, size.neutral)) (ap length (lifted k) ∙ long k) refl in
+    let is = lifted k in
+    rw (← c.self.view_is) (shown _ moved ∙ rw is (simp (maps, seen-under)))
+
+-- call marks stay
+pub invariant_of-self : goal.invariant_of-self
+invariant_of-self c =
+    let k = (goal.at.invariant_of-self c).After-lift in
+    let h = c.self.invariant in
+    let size = sizes h c.self.view_is in
+    let neutral = (parts_of c.self.inside).neutral in
+    let is = lifted k in
+    let moved = parts-in_neutral h c.args.a c.args.b _ _ c.requires.order (omega (arith, c.requires.within, size.neutral)) (ap length is ∙ long k) refl in
+    let same = marks-lifted neutral c.args.a c.args.b c.requires.order in
+    laid _ h moved refl (omega arith) (omega arith) (rw is (marks-calls neutral _ same _ h.calls)) (rw is (marks-linked neutral _ same h.linked))

@@ -1,0 +1,218 @@
+-- Borders that are laid over a text, one after the other.
+use Rattle.trac_store.proofs.Words.{◌≡◌, ℕ, ◌+◌, ◌-◌, ◌<◌, ◌≤◌, List, [], ◌∷◌, length, take, drop, map, slice_range, get_or, set, refl, sym, ap, subst, ◌∙◌, arith, rules, reads, places, same_lists, ⊎_elim, All, All-head, All-tail, All-get_or, append_assoc, drop-drop, drop-set-lt, take-set-le, length-set, length-map}
+use Rattle.trac_store.proofs.Words.{get_or-set_same, get_or-set_other, get_or-map, get_or-drop, get_or-between, length-between, split_between, cases_eq, Cell, Byte, Call, Comma, Gap, Head, seen, Lists, character_of, IsByte, under, over, byte_at, IsLongestBorder, IsNextBorder, laid_text, HaveBorders, AreLaid, IsTextPart, part_text}
+use Rattle.std.proofs.Math.ListN.{get_or-map as get_or-map-same}
+use Rattle.std.proofs.Math.Seq.{map-set_same}
+use Rattle.std.proofs.lemmas.Simd.{map-map}
+use Rattle.trac_store.proofs.TextBorders.{longest-more}
+
+-- the borders of so many beginnings are laid, and the cells behind them are as they were
+pub record BordersLaid (was now : List Cell) (count border : ℕ) : Type 0 where
+  pub under_is : map under now ≡ map under was
+  pub behind : drop count now ≡ drop count was
+  pub some : 0 < count
+  pub within : count ≤ length now
+  pub borders : HaveBorders now count
+  pub longest : IsLongestBorder (laid_text now) count border
+
+drop-more : (was now : List Cell) (count : ℕ) → drop count now ≡ drop count was → drop (count + 1) now ≡ drop (count + 1) was
+drop-more was now count same = sym (drop-drop 1 count now) ∙ ap (drop 1) same ∙ drop-drop 1 count was
+
+pub laid-text-set : (cells : List Cell) (k : ℕ) (cell : Cell) → under cell ≡ under (get_or cells k (Byte 0)) → laid_text (set cells k cell) ≡ laid_text cells
+laid-text-set cells k cell same =
+    map-set_same (λ c. character_of (under c)) cells k cell (Byte 0) (ap character_of same)
+
+pub laid-next : (was now : List Cell) (count border next : ℕ) (cell : Cell) → BordersLaid was now count border → count < length now → under cell ≡ under (get_or now count (Byte 0)) → over cell ≡ next → get_or now count (Byte 0) ≡ Byte (byte_at (laid_text now) count) → IsNextBorder (laid_text now) border (get_or now count (Byte 0)) next → BordersLaid was (set now count cell) (count + 1) next
+laid-next was now count border next cell h less same over_is byte is =
+    let text : laid_text (set now count cell) ≡ laid_text now = laid-text-set now count cell same in
+    let long : IsLongestBorder (laid_text now) (count + 1) next = longest-more (laid_text now) count border next (get_or now count (Byte 0)) byte h.longest is in
+    record {
+      under_is = map-set_same under now count cell (Byte 0) same ∙ h.under_is;
+      behind = drop-set-lt (count + 1) now count cell (omega arith) ∙ drop-more was now count h.behind;
+      some = omega arith;
+      within = omega (arith, less, length-set now count cell);
+      borders = λ n some within.
+          ⊎_elim
+          (λ last.
+          let e : n - 1 ≡ count = omega (arith, last) in
+          let read : over (get_or (set now count cell) (n - 1) (Byte 0)) ≡ next = ap (λ k. over (get_or (set now count cell) k (Byte 0))) e ∙ ap over (get_or-set_same now count cell (Byte 0) less) ∙ over_is in
+          subst (λ b. IsLongestBorder (laid_text (set now count cell)) n b) (sym read) (subst (λ t. IsLongestBorder t n next) (sym text) (subst (λ m. IsLongestBorder (laid_text now) m next) (sym last) long)))
+          (λ other.
+          let e : get_or (set now count cell) (n - 1) (Byte 0) ≡ get_or now (n - 1) (Byte 0) = get_or-set_other now count (n - 1) cell (Byte 0) (λ at. other (omega (arith, at, some))) in
+          subst (λ c. IsLongestBorder (laid_text (set now count cell)) n (over c)) (sym e) (subst (λ t. IsLongestBorder t n (over (get_or now (n - 1) (Byte 0)))) (sym text) (h.borders n some (omega (arith, within, other)))))
+          (cases_eq n (count + 1));
+      longest = subst (λ t. IsLongestBorder t (count + 1) next) (sym text) long;
+    }
+
+pub cell-kept : (was now : List Cell) (count : ℕ) → drop count now ≡ drop count was → get_or now count (Byte 0) ≡ get_or was count (Byte 0)
+cell-kept was now count same =
+    let e : count + 0 ≡ count = omega arith in
+    let read : (cells : List Cell) → get_or (drop count cells) 0 (Byte 0) ≡ get_or cells count (Byte 0) = λ cells. get_or-drop count cells 0 (Byte 0) ∙ ap (λ k. get_or cells k (Byte 0)) e in
+    sym (read now) ∙ ap (λ cells. get_or cells 0 (Byte 0)) same ∙ read was
+
+is-character : (cell : Cell) → IsByte cell → cell ≡ Byte (character_of cell)
+is-character (Byte b) is = refl
+is-character cell is = absurd is
+
+character-in : (text : List Cell) (k : ℕ) → k < length text → All IsByte text → get_or text k (Byte 0) ≡ Byte (byte_at (map character_of text) k)
+character-in text k within bytes =
+    is-character (get_or text k (Byte 0)) (All-get_or IsByte text k (Byte 0) within bytes) ∙ ap (λ b. Byte b) (sym (get_or-map character_of text k (Byte 0) 0 within))
+
+-- a cell that isn't reached yet is that of the text under the numbers
+pub byte-under : (was now : List Cell) (count : ℕ) → drop count now ≡ drop count was → count < length was → count < length now → All IsByte was → get_or now count (Byte 0) ≡ Byte (byte_at (laid_text now) count)
+byte-under was now count same within inside bytes =
+    let is = cell-kept was now count same ∙ character-in was count within bytes in
+    let read : byte_at (laid_text now) count ≡ character_of (under (get_or now count (Byte 0))) = get_or-map (λ c. character_of (under c)) now count (Byte 0) 0 inside in
+    is ∙ ap (λ b. Byte b) (sym (read ∙ ap (λ c. character_of (under c)) is))
+
+one-border : (text : List ℕ) → IsLongestBorder text 1 0
+one-border text = record {
+  shorter = omega arith;
+  border = record { within = omega arith; same = λ k below. absurd (omega (arith, below)) };
+  longest = λ c less _. omega (arith, less);
+}
+
+pub laid-first : (was : List Cell) → 0 < length was → All IsByte was → BordersLaid was was 1 0
+laid-first was some bytes =
+    let first : over (get_or was 0 (Byte 0)) ≡ 0 = ap over (character-in was 0 some bytes) in
+    record {
+      under_is = refl;
+      behind = refl;
+      some = omega arith;
+      within = omega (arith, some);
+      borders = λ n more within.
+          let e : n ≡ 1 = omega (arith, more, within) in
+          let e0 : n - 1 ≡ 0 = omega (arith, e) in
+          let zero : over (get_or was (n - 1) (Byte 0)) ≡ 0 = ap (λ k. over (get_or was k (Byte 0))) e0 ∙ first in
+          subst (λ m. IsLongestBorder (laid_text was) m (over (get_or was (n - 1) (Byte 0)))) (sym e) (subst (IsLongestBorder (laid_text was) 1) (sym zero) (one-border (laid_text was)));
+      longest = one-border (laid_text was);
+    }
+
+under-byte : (cell : Cell) → IsByte cell → under cell ≡ cell
+under-byte (Byte b) is = refl
+under-byte cell is = absurd is
+
+-- under characters over which nothing lies are they themselves
+pub under-bytes : (cells : List Cell) → All IsByte cells → map under cells ≡ cells
+under-bytes [] bytes = refl
+under-bytes (cell ∷ cells) bytes =
+    ap (λ c. c ∷ map under cells) (under-byte cell (All-head IsByte cell cells bytes)) ∙ ap (λ l. cell ∷ l) (under-bytes cells (All-tail IsByte cell cells bytes))
+
+text-under : (was now : List Cell) → map under now ≡ map under was → All IsByte was → laid_text now ≡ map character_of was
+text-under was now same bytes =
+    sym (map-map character_of under now) ∙ ap (map character_of) (same ∙ under-bytes was bytes)
+
+-- the text and the numbers are seen as they are
+seen-character : (cell : Cell) → character_of (under (seen cell)) ≡ character_of (under cell)
+seen-character (Byte b) = refl
+seen-character cell = refl
+
+seen-over : (cell : Cell) → over (seen cell) ≡ over cell
+seen-over (Byte b) = refl
+seen-over cell = refl
+
+pub laid-seen : (cells : List Cell) → laid_text (map seen cells) ≡ laid_text cells
+laid-seen [] = refl
+laid-seen (cell ∷ cells) = rw (seen-character cell, laid-seen cells) refl
+
+over-seen : (cells : List Cell) (k : ℕ) → over (get_or (map seen cells) k (Byte 0)) ≡ over (get_or cells k (Byte 0))
+over-seen cells k = ap over (get_or-map-same seen cells k (Byte 0)) ∙ seen-over (get_or cells k (Byte 0))
+
+-- the slice of a list with borders has them
+pub borders-seen : (cells part : List Cell) (count : ℕ) → map seen cells ≡ part → HaveBorders part count → HaveBorders cells count
+borders-seen cells part count shown borders n some within =
+    let text = ap laid_text (sym shown) ∙ laid-seen cells in
+    let number = ap (λ l. over (get_or l (n - 1) (Byte 0))) (sym shown) ∙ over-seen cells (n - 1) in
+    subst (λ t. IsLongestBorder t n (over (get_or cells (n - 1) (Byte 0)))) text (subst (IsLongestBorder (laid_text part) n) number (borders n some within))
+
+byte-seen : (cell : Cell) (b : ℕ) → seen cell ≡ Byte b → cell ≡ Byte b
+byte-seen (Byte c) b is = is
+byte-seen (Call mode k) b is = cc
+byte-seen Comma b is = cc
+byte-seen (Gap k) b is = cc
+byte-seen (Head n) b is = cc
+
+-- the borders of so many beginnings of the text from a up to b are laid
+pub record BordersUpTo (old now : Lists) (a b count border : ℕ) : Type 0 where
+  pub same : now ≡ record old { neutral = now.neutral }
+  pub front : take a now.neutral ≡ take a old.neutral
+  pub behind : drop b now.neutral ≡ drop b old.neutral
+  pub long : length now.neutral ≡ length old.neutral
+  pub laid : BordersLaid (slice_range old.neutral a b) (slice_range now.neutral a b) count border
+
+pub up-to-first : (old : Lists) (a b : ℕ) → IsTextPart old.neutral a b → a < b → BordersUpTo old old a b 1 0
+up-to-first old a b part some = record {
+  same = refl;
+  front = refl;
+  behind = refl;
+  long = refl;
+  laid = laid-first (slice_range old.neutral a b) (omega (arith, some, length-between old.neutral a b part.within)) part.bytes;
+}
+
+-- the cell to which a further one comes
+module _ (old now : Lists) (a b count border : ℕ) (part : IsTextPart old.neutral a b) (h : BordersUpTo old now a b count border) (less : count < b - a) (text : List Cell) (shown : map seen text ≡ slice_range now.neutral a b) where
+  was_len : length (slice_range old.neutral a b) ≡ b - a
+  was_len = length-between old.neutral a b part.within
+
+  now_len : length (slice_range now.neutral a b) ≡ b - a
+  now_len = length-between now.neutral a b (omega (arith, part.within, h.long))
+
+  pub text_len : length text ≡ b - a
+  text_len = sym (length-map text seen) ∙ ap length shown ∙ now_len
+
+  abbrev here : Cell
+  here = get_or (slice_range now.neutral a b) count (Byte 0)
+
+  pub here-is : here ≡ Byte (byte_at (laid_text (slice_range now.neutral a b)) count)
+  here-is = byte-under (slice_range old.neutral a b) (slice_range now.neutral a b) count h.laid.behind (omega (arith, less, was_len)) (omega (arith, less, now_len)) part.bytes
+
+  pub cell-is : get_or text count (Byte 0) ≡ here
+  cell-is =
+      let seen_is : seen (get_or text count (Byte 0)) ≡ here = sym (get_or-map-same seen text count (Byte 0)) ∙ ap (λ l. get_or l count (Byte 0)) shown in
+      byte-seen _ _ (seen_is ∙ here-is) ∙ sym here-is
+
+  pub in-neutral : get_or now.neutral (a + count) (Byte 0) ≡ here
+  in-neutral = sym (get_or-between now.neutral a b count (Byte 0) (omega (arith, less)))
+
+  pub text-borders : HaveBorders text border
+  text-borders n some within = borders-seen text (slice_range now.neutral a b) count shown h.laid.borders n some (omega (arith, within, h.laid.longest.shorter))
+
+  pub up-to-next : (new : Lists) (next : ℕ) (cell : Cell) → IsNextBorder (laid_text text) border (get_or text count (Byte 0)) next → under cell ≡ under (get_or text count (Byte 0)) → over cell ≡ next → new ≡ record now { neutral = set now.neutral (a + count) cell } → BordersUpTo old new a b (count + 1) next
+  up-to-next new next cell is under_is over_is written =
+      let neutral : new.neutral ≡ set now.neutral (a + count) cell = ap (λ (s : Lists). s.neutral) written in
+      let order = part.order in
+      let inside = part.within in
+      let slice : slice_range new.neutral a b ≡ set (slice_range now.neutral a b) count cell = ap (λ l. slice_range l a b) neutral ∙ same_lists _ _ (search (rules, places)) (λ k d below. grind (arith, reads)) in
+      let words : laid_text text ≡ laid_text (slice_range now.neutral a b) = sym (laid-seen text) ∙ ap laid_text shown in
+      let is_here : IsNextBorder (laid_text (slice_range now.neutral a b)) border here next = subst (λ c. IsNextBorder (laid_text (slice_range now.neutral a b)) border c next) cell-is (subst (λ t. IsNextBorder t border (get_or text count (Byte 0)) next) words is) in
+      record {
+        same = written ∙ ap (λ (s : Lists). record s { neutral = set now.neutral (a + count) cell }) h.same ∙ ap (λ l. record old { neutral = l }) (sym neutral);
+        front = ap (take a) neutral ∙ take-set-le a now.neutral (a + count) cell (omega arith) ∙ h.front;
+        behind = ap (drop b) neutral ∙ drop-set-lt b now.neutral (a + count) cell (omega (arith, less)) ∙ h.behind;
+        long = ap length neutral ∙ length-set now.neutral (a + count) cell ∙ h.long;
+        laid = subst (λ l. BordersLaid (slice_range old.neutral a b) l (count + 1) next) (sym slice) (laid-next (slice_range old.neutral a b) (slice_range now.neutral a b) count border next cell h.laid (omega (arith, less, now_len)) (under_is ∙ ap under cell-is) over_is here-is is_here);
+      }
+
+-- all of them are
+pub laid-all : (old now : Lists) (a b count border : ℕ) → IsTextPart old.neutral a b → BordersUpTo old now a b count border → b - a ≤ count → AreLaid old.neutral now.neutral a b
+laid-all old now a b count border part h all =
+    let was = slice_range old.neutral a b in
+    let cells = slice_range now.neutral a b in
+    let under_is : map under cells ≡ was = h.laid.under_is ∙ under-bytes was part.bytes in
+    record {
+      numbers = rw (h.front, under_is, h.behind) (append_assoc (take a old.neutral) was (drop b old.neutral) ∙ sym (split_between old.neutral a b part.order));
+      text = text-under was cells h.laid.under_is part.bytes;
+      borders = λ n some within. h.laid.borders n some (omega (arith, within, all));
+      long = h.long;
+    }
+
+-- the text as a slice shows it
+module _ (was now text : List Cell) (a b : ℕ) (within : b ≤ length was) (laid : AreLaid was now a b) (shown : map seen text ≡ slice_range now a b) where
+  pub shown-long : length text ≡ b - a
+  shown-long = sym (length-map text seen) ∙ ap length shown ∙ length-between now a b (omega (arith, within, laid.long))
+
+  pub shown-borders : HaveBorders text (length text)
+  shown-borders = subst (HaveBorders text) (sym shown-long) (borders-seen text (slice_range now a b) (b - a) shown laid.borders)
+
+  pub shown-text : laid_text text ≡ part_text was a b
+  shown-text = sym (laid-seen text) ∙ ap laid_text shown ∙ laid.text

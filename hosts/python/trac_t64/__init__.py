@@ -1,0 +1,19 @@
+"""TRAC T-64, the text language of Calvin Mooers, in a workspace of fixed size.
+
+`run` runs a script to its end. A `Session` keeps one machine: its input comes in pieces, its steps
+can be made one by one, and its forms stay from one script to the next.
+
+>>> from trac_t64 import run
+>>> run("#(ps,hello)'").text
+'hello'
+"""
+from ._engine import MOST_CELLS, VERSION
+from .session import (
+    ACTIVE_CALL, COMMA_MARK, FIRST_GAP, NEUTRAL_CALL, Fate, Form, Parts, Report, Session, Step, Text, run, shown,
+)
+
+__version__ = VERSION
+__all__ = [
+    'ACTIVE_CALL', 'COMMA_MARK', 'FIRST_GAP', 'MOST_CELLS', 'NEUTRAL_CALL', 'VERSION', 'Fate', 'Form', 'Parts',
+    'Report', 'Session', 'Step', 'Text', 'run', 'shown',
+]

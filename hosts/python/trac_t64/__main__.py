@@ -1,0 +1,308 @@
+"""python -m trac_t64: runs scripts, with the words, the lines and the statuses of `trac`."""
+from __future__ import annotations
+
+import argparse
+import contextlib
+import io
+import os
+import re
+import signal
+import sys
+from collections.abc import Callable, Iterator, Sequence
+from typing import Any, NamedTuple, NoReturn
+
+from ._engine import MOST_CELLS
+from .reading import Reading, fault_words, is_idle
+from .session import DEFAULT_CELLS, DEFAULT_STEPS, Fate, Session
+
+PROGRAM = 'trac_t64'
+MOST_STEPS = 1000000000000
+CHUNK = 65536
+DONE, WORKSPACE, USAGE, STEPS, INPUT_FAILED, OUTPUT_FAILED, NO_MEMORY = range(7)
+STATUS = {Fate.WORKSPACE: WORKSPACE, Fate.STEPS: STEPS}
+
+
+# ---- The words.
+
+
+class Once(argparse.Action):
+    """An option that may be given once."""
+
+    def __call__(self, parser: argparse.ArgumentParser, namespace: argparse.Namespace, values: Any,
+                 option_string: str | None = None) -> None:
+        if getattr(namespace, self.dest) is not None:
+            parser.error(f'argument {option_string} cannot be used multiple times')
+        setattr(namespace, self.dest, True if self.nargs == 0 else values)
+
+
+def number_to(most: int) -> Callable[[str], int]:
+    """What reads a number from 1 to `most`."""
+    def read(word: str) -> int:
+        if not re.fullmatch(r'\+?0*[0-9]{1,20}', word, re.ASCII) or not 1 <= int(word) <= most:
+            raise argparse.ArgumentTypeError(f'{word!r} is not in 1..={most}')
+        return int(word)
+    return read
+
+
+class Parser(argparse.ArgumentParser):
+    """A parser whose line about a word goes out as the other lines do."""
+
+    def error(self, message: str) -> NoReturn:
+        say(f'{self.format_usage()}{PROGRAM}: error: {message}')
+        sys.exit(USAGE)
+
+
+def parser() -> Parser:
+    made = Parser(
+        prog=PROGRAM, add_help=False, allow_abbrev=False,
+        description='Runs TRAC T-64 scripts: the files, then those of -e, in one workspace in which forms stay;'
+        ' standard input where there are none')
+    made.add_argument('files', metavar='FILE', nargs='*',
+                      help='a script; a first line that begins with #! is passed over')
+    made.add_argument('-e', metavar='SCRIPT', dest='scripts', action='append', default=[], help='a script, given here')
+    made.add_argument('-i', dest='stays', action='store_true', help='stay in a session behind them')
+    made.add_argument('--cells', metavar='N', action=Once, type=number_to(MOST_CELLS),
+                      help=f'cells of the workspace, 1 to {MOST_CELLS} [default: {DEFAULT_CELLS}]')
+    made.add_argument('--steps', metavar='N', action=Once, type=number_to(MOST_STEPS),
+                      help=f'steps that each script is allowed, 1 to {MOST_STEPS} [default: {DEFAULT_STEPS}]')
+    made.add_argument('--report', action=Once, nargs=0, help='print the steps and the peak')
+    made.add_argument('-h', '--help', action='store_true', help='print this help')
+    return made
+
+
+# ---- The devices.
+
+
+def write_all(device: int, data: bytes) -> None:
+    """Writes all bytes. A write that a signal interrupted is made again."""
+    left = memoryview(data)
+    while left:
+        left = left[os.write(device, left):]
+
+
+def say(line: str) -> None:
+    """Says a line on standard error, whose failure is ignored."""
+    with contextlib.suppress(OSError):
+        write_all(2, line.encode(errors='surrogateescape') + b'\n')
+
+
+class Source:
+    """A script, by what reads so many bytes of it at most, and how far it was read."""
+
+    def __init__(self, name: str, read: Callable[[int], bytes], line: int = 1) -> None:
+        self.name, self._read = name, read
+        self._reading = Reading(line)
+
+    def give_more(self, session: Session) -> None:
+        """Reads once, and gives the session what there was, or the end of its input."""
+        if data := self._read(CHUNK):
+            self._reading.give(session, data)
+        else:
+            session.end(most=0)
+
+    def place(self, session: Session) -> str:
+        line, column = self._reading.place(session)
+        return f'{self.name}:{line}:{column}'
+
+
+@contextlib.contextmanager
+def opened(name: str) -> Iterator[Source]:
+    """The script in a file, behind a first line that begins with `#!`."""
+    with open(name, 'rb') as file:
+        if file.peek(2).startswith(b'#!'):
+            file.readline()
+            yield Source(name, file.read1, 2)
+        else:
+            yield Source(name, file.read1)
+
+
+# ---- The run.
+
+
+class Ending(NamedTuple):
+    """How a run ended: the status, the fault in words, and the account."""
+
+    status: int
+    words: str
+    steps: int
+    peak: int
+
+
+def need_of_read(session: Session) -> int:
+    """The cells that the next step needs, which reads, for what was read of its string so far."""
+    text = len(session.unread) if session.awaits == 'text' else 0
+    return session.cells - session.parts.free - 1 + text
+
+
+def play(session: Session, source: Source) -> Ending:
+    """Runs a script to its end. Each print is out before the next step, and so before the next read."""
+    while True:
+        try:
+            for output in session.outputs():
+                write_all(1, output)
+        except OSError:
+            return Ending(OUTPUT_FAILED, f'output failed at step {session.steps}', session.steps - 1, session.peak)
+        if session.fate is not Fate.WANTS_INPUT:
+            return Ending(STATUS.get(session.fate, DONE), fault_words(session), session.steps, session.peak)
+        try:
+            source.give_more(session)
+        except OSError:
+            peak = max(session.peak, need_of_read(session))
+            return Ending(INPUT_FAILED, f'input failed at step {session.steps + 1}', session.steps, peak)
+
+
+def run_source(session: Session, source: Source, reports: bool) -> int:
+    """Runs a script, says how it ended, and gives the status."""
+    session.again()
+    ending = play(session, source)
+    if reports:
+        say(f'{source.name}: {ending.steps} steps, peak {ending.peak} cells')
+    if ending.words:
+        say(f'{source.place(session)}: {ending.words}')
+    return ending.status
+
+
+def run_file(session: Session, name: str, reports: bool) -> int:
+    """Runs the script in a file, and gives the status."""
+    try:
+        with opened(name) as source:
+            return run_source(session, source, reports)
+    except OSError as error:
+        say(f"{PROGRAM}: can't read {name}: {error.strerror}")
+        return INPUT_FAILED
+
+
+def run_all(session: Session, given: argparse.Namespace) -> int:
+    """Runs the scripts, up to the first one that ends badly."""
+    status = DONE
+    for name in given.files:
+        status = status or run_file(session, name, given.report)
+    for script in given.scripts:
+        status = status or run_source(session, Source('-e', io.BytesIO(os.fsencode(script)).read1), given.report)
+    if not (given.files or given.scripts or given.stays):
+        status = run_source(session, Source('<stdin>', lambda most: os.read(0, most)), given.report)
+    return status
+
+
+# ---- A session at a terminal.
+
+
+def is_typed() -> bool:
+    """Whether standard input is a terminal."""
+    return sys.stdin is not None and sys.stdin.isatty()
+
+
+def ask(prompt: str) -> bytes | None:
+    """The next line: from the terminal, behind a prompt, or from standard input. None at its end."""
+    if not is_typed():
+        return sys.stdin and sys.stdin.buffer.readline() or None
+    try:
+        return os.fsencode(input(prompt)) + b'\n'
+    except EOFError:
+        say('')
+        return None
+
+
+def give_line(session: Session, reading: Reading, line: bytes | None) -> None:
+    """Gives the session a line, or the end. The line feed right behind a meta character is dropped."""
+    if line is None:
+        session.end(most=0)
+    elif line.endswith(bytes([session.meta, 10])):
+        reading.give(session, line[:-1], line[-1:])
+    else:
+        reading.give(session, line)
+
+
+def run_line(session: Session) -> None:
+    """Runs what the session was given. At a terminal, what it prints ends with a line end."""
+    output = b'\n'
+    for output in session.outputs():
+        write_all(1, output)
+    if not output.endswith(b'\n') and is_typed():
+        write_all(1, b'\n')
+
+
+def take_line(session: Session, reading: Reading) -> None:
+    """Asks for a line and runs it. ^C drops what was typed of a string, and stops one that runs."""
+    try:
+        is_new = is_idle(session) and not session.unread
+        give_line(session, reading, ask('> ' if is_new else '. '))
+        run_line(session)
+    except KeyboardInterrupt:
+        say('\n<stdin>: interrupted')
+        reading.begin_again(session)
+    if session.fate is Fate.WANTS_INPUT and is_idle(session) and not session.unread:
+        reading.begin_again(session)
+
+
+def say_fault(session: Session, reading: Reading, words: str) -> None:
+    line, column = reading.place(session)
+    say(f'<stdin>:{line}:{column}: {words}')
+
+
+def hold(session: Session, reading: Reading) -> int:
+    """Takes lines to the end of standard input or `hl`, and gives the status. A fault drops the rest of its
+    line; it ends the session where no string can be read at all."""
+    while True:
+        session.feed()
+        can_read = not session.fate.is_end
+        if can_read:
+            take_line(session, reading)
+        if session.fate.is_end:
+            if words := fault_words(session):
+                say_fault(session, reading, words)
+            if not (words and can_read):
+                return STATUS.get(session.fate, DONE)
+            reading.begin_again(session)
+
+
+def converse(session: Session) -> int:
+    """A session at a terminal, in which forms stay. Gives the status."""
+    if is_typed() and isinstance(sys.stdin, io.TextIOWrapper):
+        sys.stdin.reconfigure(errors='surrogateescape')
+        with contextlib.suppress(ImportError):
+            __import__('readline')
+    reading = Reading()
+    session.again()
+    try:
+        return hold(session, reading)
+    except OSError:
+        say_fault(session, reading, f'output failed at step {session.steps}')
+        return OUTPUT_FAILED
+
+
+# ---- The program.
+
+
+def perform(given: argparse.Namespace) -> int:
+    """Does what the words ask for, and gives the status."""
+    cells = given.cells or DEFAULT_CELLS
+    try:
+        with Session(cells, given.steps or DEFAULT_STEPS) as session:
+            status = run_all(session, given)
+            return converse(session) if given.stays else status
+    except MemoryError:
+        say(f'{PROGRAM}: no memory for {cells} cells')
+        return NO_MEMORY
+
+
+def main(words: Sequence[str] | None = None) -> int:
+    """Runs the program with these words, and gives its status."""
+    made = parser()
+    given = made.parse_intermixed_args(words)
+    try:
+        if not given.help:
+            return perform(given)
+        write_all(1, made.format_help().encode())
+        return DONE
+    except OSError:
+        return OUTPUT_FAILED
+
+
+if __name__ == '__main__':
+    try:
+        sys.exit(main())
+    except KeyboardInterrupt:
+        # as a program ends by the signal
+        signal.signal(signal.SIGINT, signal.SIG_DFL)
+        os.kill(os.getpid(), signal.SIGINT)

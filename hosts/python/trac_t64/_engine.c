@@ -1,0 +1,525 @@
+/* The module trac_t64._engine: a machine of trac.h as an object of Python, with a block and buffers of its own. Written
+ * by hand, and tested. It keeps to Python's stable ABI. The engine stands in the same unit, and no other library sees
+ * it. */
+#define PY_SSIZE_T_CLEAN
+#include <Python.h>
+
+#include "trac_engine.c"
+
+#include <stdlib.h>
+#include <time.h>
+
+/* The steps of a turn that keeps Python's lock; those between two looks at the clock; the looks at signals a second;
+ * the least bytes of a buffer, and the most that it keeps when it is empty. */
+enum { SHORT = 256, PART = 4096, LOOKS = 20, LEAST = 4096, KEPT = 65536 };
+
+/* ---- Bytes that come in at the end and leave at the front. */
+
+typedef struct {
+    char *bytes;
+    size_t start, end, room;
+} buffer;
+
+static size_t length_of(const buffer *of) { return of->end - of->start; }
+
+static size_t room_in(const buffer *of) { return of->room - of->end; }
+
+/* The first byte; null where there is no memory yet. */
+static char *front_of(const buffer *of) { return of->bytes ? of->bytes + of->start : NULL; }
+
+/* Makes room for so many bytes more. Gives 0 where there is no memory for them, and nothing is changed. */
+static int reserve(buffer *to, size_t more) {
+    const size_t length = length_of(to), most = (size_t)PY_SSIZE_T_MAX / 2;
+    if (more <= room_in(to))
+        return 1;
+    if (more > most - length)
+        return 0;
+    const size_t needed = length + more > LEAST ? length + more : LEAST, room = needed + needed / 2;
+    char *const bytes = (char *)malloc(room);
+    if (!bytes)
+        return 0;
+    if (length)
+        memcpy(bytes, front_of(to), length);
+    free(to->bytes);
+    *to = (buffer){bytes, 0, length, room};
+    return 1;
+}
+
+/* Adds bytes. Gives 0 where there is no memory for them, and nothing is changed. */
+static int append(buffer *to, const void *bytes, size_t length) {
+    if (!reserve(to, length))
+        return 0;
+    if (length)
+        memcpy(to->bytes + to->end, bytes, length);
+    to->end += length;
+    return 1;
+}
+
+/* Takes bytes from the front. An empty buffer keeps no great memory. */
+static void discard(buffer *from, size_t length) {
+    from->start += length;
+    if (from->start < from->end)
+        return;
+    from->start = from->end = 0;
+    if (from->room > KEPT) {
+        free(from->bytes);
+        *from = (buffer){NULL, 0, 0, 0};
+    }
+}
+
+static PyObject *bytes_of(const buffer *of) {
+    return PyBytes_FromStringAndSize(of->bytes ? front_of(of) : "", (Py_ssize_t)length_of(of));
+}
+
+/* ---- Machines. */
+
+/* A block. A machine keeps the address of its block, so a machine and its copies share one: the cells of one of them
+ * stand inside, and each other has its cells aside. */
+typedef struct {
+    trac_cell *cells;
+    size_t count, sharers;
+    struct machine_object *inside; /* null where the one inside was closed */
+    int is_in_turn;
+} block;
+
+typedef struct machine_object {
+    PyObject_HEAD
+    trac_machine machine;
+    block *block;     /* null where the machine is closed */
+    trac_cell *aside; /* null where its cells stand inside the block */
+    buffer input, output;
+    int has_ended; /* whether the input ends behind what the buffer holds */
+    trac_report report;
+    uint64_t consumed;
+} machine_object;
+
+static size_t block_size(const block *of) { return of->count * sizeof(trac_cell); }
+
+/* Exchanges the bytes of two rows. */
+static void exchange(char *a, char *b, size_t length) {
+    char between[LEAST];
+    while (length) {
+        const size_t part = length < sizeof between ? length : sizeof between;
+        memcpy(between, a, part);
+        memcpy(a, b, part);
+        memcpy(b, between, part);
+        a += part;
+        b += part;
+        length -= part;
+    }
+}
+
+/* Puts a machine's cells into its block; those of the machine that was inside go to where they were. */
+static void go_inside(machine_object *self) {
+    block *const shared = self->block;
+    if (shared->inside) {
+        exchange((char *)shared->cells, (char *)self->aside, block_size(shared));
+        shared->inside->aside = self->aside;
+    } else {
+        memcpy(shared->cells, self->aside, block_size(shared));
+        free(self->aside);
+    }
+    self->aside = NULL;
+    shared->inside = self;
+}
+
+/* Whether the machine can be used now, with its cells inside; else the error is set. */
+static int is_usable(machine_object *self) {
+    if (!self->block) {
+        PyErr_SetString(PyExc_ValueError, "the session is closed");
+        return 0;
+    }
+    if (self->block->is_in_turn) {
+        PyErr_SetString(PyExc_RuntimeError, "the session, or a copy of it, is in the middle of a turn");
+        return 0;
+    }
+    if (self->aside)
+        go_inside(self);
+    return 1;
+}
+
+/* Gives up the block and all other memory. */
+static void release(machine_object *self) {
+    block *const shared = self->block;
+    free(self->aside);
+    free(self->input.bytes);
+    free(self->output.bytes);
+    self->aside = NULL;
+    self->input = self->output = (buffer){NULL, 0, 0, 0};
+    self->block = NULL;
+    if (!shared)
+        return;
+    if (shared->inside == self)
+        shared->inside = NULL;
+    if (--shared->sharers == 0) {
+        free(shared->cells);
+        free(shared);
+    }
+}
+
+static void machine_dealloc(PyObject *object) {
+    PyTypeObject *const type = Py_TYPE(object);
+    release((machine_object *)object);
+    ((freefunc)PyType_GetSlot(type, Py_tp_free))(object);
+    Py_DECREF(type);
+}
+
+/* A block of so many cells with this machine inside. Null where there is no memory for it. */
+static block *new_block(machine_object *inside, size_t cells) {
+    block *const made = (block *)malloc(sizeof(block));
+    if (!made)
+        return NULL;
+    *made = (block){(trac_cell *)calloc(cells, sizeof(trac_cell)), cells, 1, inside, 0};
+    if (made->cells)
+        return made;
+    free(made);
+    return NULL;
+}
+
+static PyObject *machine_new(PyTypeObject *type, PyObject *arguments, PyObject *names) {
+    static char cells_name[] = "cells", steps_name[] = "steps";
+    static char *known[] = {cells_name, steps_name, NULL};
+    Py_ssize_t cells;
+    PyObject *number;
+    if (!PyArg_ParseTupleAndKeywords(arguments, names, "nO", known, &cells, &number))
+        return NULL;
+    const uint64_t steps = PyLong_AsUnsignedLongLong(number);
+    if (steps == UINT64_MAX && PyErr_Occurred())
+        return NULL;
+    if (cells < 1 || cells > TRAC_MOST_CELLS)
+        return PyErr_Format(PyExc_ValueError, "cells must be from 1 to %d", TRAC_MOST_CELLS);
+    machine_object *const self = (machine_object *)PyType_GenericAlloc(type, 0);
+    if (!self)
+        return NULL;
+    self->block = new_block(self, (size_t)cells);
+    if (self->block && trac_open(&self->machine, self->block->cells, (size_t)cells, steps) == 0)
+        return (PyObject *)self;
+    Py_DECREF(self);
+    return PyErr_NoMemory();
+}
+
+static PyObject *machine_close(machine_object *self, PyObject *nothing) {
+    (void)nothing;
+    if (self->block && !is_usable(self))
+        return NULL;
+    release(self);
+    Py_RETURN_NONE;
+}
+
+static PyObject *machine_copy(machine_object *self, PyObject *nothing) {
+    (void)nothing;
+    if (!is_usable(self))
+        return NULL;
+    machine_object *const copy = (machine_object *)PyType_GenericAlloc(Py_TYPE((PyObject *)self), 0);
+    if (!copy)
+        return NULL;
+    const size_t size = block_size(self->block);
+    copy->aside = (trac_cell *)malloc(size);
+    if (!copy->aside || !append(&copy->input, front_of(&self->input), length_of(&self->input)) ||
+        !append(&copy->output, front_of(&self->output), length_of(&self->output))) {
+        Py_DECREF(copy);
+        return PyErr_NoMemory();
+    }
+    memcpy(copy->aside, self->block->cells, size);
+    copy->machine = self->machine;
+    copy->has_ended = self->has_ended;
+    copy->report = self->report;
+    copy->consumed = self->consumed;
+    copy->block = self->block;
+    copy->block->sharers++;
+    return (PyObject *)copy;
+}
+
+/* ---- Turns. */
+
+static PyObject *machine_feed(machine_object *self, PyObject *given) {
+    char *bytes;
+    Py_ssize_t length;
+    if (!is_usable(self) || PyBytes_AsStringAndSize(given, &bytes, &length) < 0)
+        return NULL;
+    if (!append(&self->input, bytes, (size_t)length))
+        return PyErr_NoMemory();
+    Py_RETURN_NONE;
+}
+
+static PyObject *machine_end(machine_object *self, PyObject *nothing) {
+    (void)nothing;
+    if (!is_usable(self))
+        return NULL;
+    self->has_ended = 1;
+    Py_RETURN_NONE;
+}
+
+/* Makes at most so many steps, with so many bytes of room for what they print. Gives how many it made. */
+static uint64_t take_turn(machine_object *self, size_t room, uint64_t most) {
+    const uint64_t before = self->report.steps;
+    buffer *const input = &self->input, *const output = &self->output;
+    self->report = trac_turn(&self->machine, front_of(input), length_of(input), self->has_ended,
+                             room ? output->bytes + output->end : NULL, room, most);
+    discard(input, self->report.consumed);
+    output->end += self->report.written;
+    self->consumed += self->report.consumed;
+    return self->report.steps - before;
+}
+
+/* What is left to do, and whether steps stop where something was printed. */
+typedef struct {
+    uint64_t most;
+    int stops_at_output;
+} task;
+
+/* Why steps were stopped: there are no more to do now; there is no memory for a print, whose step wasn't done; or it's
+ * time to look at signals. */
+typedef enum { DONE, NO_MEMORY, TIME } stop;
+
+/* Makes steps until they stop; it needs no lock of Python's. */
+static stop make_steps(machine_object *self, task *of) {
+    const clock_t begin = clock();
+    while (of->most && clock() - begin <= CLOCKS_PER_SEC / LOOKS) {
+        const size_t room = of->stops_at_output ? 0 : room_in(&self->output);
+        of->most -= take_turn(self, room, of->most < PART ? of->most : PART);
+        if (self->report.fate == TRAC_WANTS_OUTPUT) {
+            if (!reserve(&self->output, self->report.wanted))
+                return NO_MEMORY;
+            of->most -= take_turn(self, room_in(&self->output), 1);
+            if (of->stops_at_output)
+                return DONE;
+        }
+        if (self->report.fate != TRAC_GOING)
+            return DONE;
+    }
+    return of->most ? TIME : DONE;
+}
+
+/* Makes steps, and looks at signals in between. Gives 0 where the error is set. */
+static int go_on(machine_object *self, task *of) {
+    stop why;
+    do {
+        if (of->most <= SHORT) {
+            why = make_steps(self, of);
+        } else {
+            Py_BEGIN_ALLOW_THREADS
+            why = make_steps(self, of);
+            Py_END_ALLOW_THREADS
+        }
+        if (PyErr_CheckSignals() < 0)
+            return 0;
+    } while (why == TIME);
+    if (why == NO_MEMORY)
+        PyErr_NoMemory();
+    return why == DONE;
+}
+
+static PyObject *machine_go(machine_object *self, PyObject *arguments) {
+    PyObject *number;
+    task given;
+    if (!PyArg_ParseTuple(arguments, "Op", &number, &given.stops_at_output))
+        return NULL;
+    given.most = PyLong_AsUnsignedLongLong(number);
+    if ((given.most == UINT64_MAX && PyErr_Occurred()) || !is_usable(self))
+        return NULL;
+    block *const shared = self->block;
+    shared->is_in_turn = 1;
+    const int is_done = go_on(self, &given);
+    shared->is_in_turn = 0;
+    if (!is_done)
+        return NULL;
+    Py_RETURN_NONE;
+}
+
+static PyObject *machine_take(machine_object *self, PyObject *nothing) {
+    PyObject *printed;
+    (void)nothing;
+    if (!is_usable(self))
+        return NULL;
+    printed = bytes_of(&self->output);
+    if (printed)
+        discard(&self->output, length_of(&self->output));
+    return printed;
+}
+
+static PyObject *machine_again(machine_object *self, PyObject *number) {
+    const uint64_t steps = PyLong_AsUnsignedLongLong(number);
+    if ((steps == UINT64_MAX && PyErr_Occurred()) || !is_usable(self))
+        return NULL;
+    (void)trac_again(&self->machine, steps);
+    discard(&self->input, length_of(&self->input));
+    self->has_ended = 0;
+    self->report = (trac_report){TRAC_GOING, 0, 0, 0, 0, 0};
+    self->consumed = 0;
+    Py_RETURN_NONE;
+}
+
+/* ---- What a machine shows of itself. */
+
+static PyObject *machine_report(machine_object *self, PyObject *nothing) {
+    (void)nothing;
+    if (!is_usable(self))
+        return NULL;
+    return Py_BuildValue("sKIK", trac_fate_name(self->report.fate), (unsigned long long)self->report.steps,
+                         (unsigned int)self->report.peak, (unsigned long long)self->consumed);
+}
+
+static PyObject *machine_unread(machine_object *self, PyObject *nothing) {
+    (void)nothing;
+    return is_usable(self) ? bytes_of(&self->input) : NULL;
+}
+
+static PyObject *machine_has_ended(machine_object *self, PyObject *nothing) {
+    (void)nothing;
+    return is_usable(self) ? PyBool_FromLong(self->has_ended) : NULL;
+}
+
+/* Fills new bytes by a function of trac.h, which answers how many items there are. */
+static PyObject *filled_by_form(const trac_form *form, size_t (*fill)(const trac_form *, void *, size_t)) {
+    const size_t length = fill(form, NULL, 0);
+    PyObject *const bytes = PyBytes_FromStringAndSize(NULL, (Py_ssize_t)length);
+    if (bytes)
+        (void)fill(form, PyBytes_AsString(bytes), length);
+    return bytes;
+}
+
+/* New bytes with room for so many codes, each a number of 32 bits. */
+static PyObject *room_for_codes(size_t count) {
+    return PyBytes_FromStringAndSize(NULL, (Py_ssize_t)(count * sizeof(uint32_t)));
+}
+
+static uint32_t *codes_in(PyObject *bytes) { return (uint32_t *)(void *)PyBytes_AsString(bytes); }
+
+static PyObject *codes_of_form(const trac_form *form) {
+    const size_t count = trac_form_codes(form, NULL, 0);
+    PyObject *const bytes = room_for_codes(count);
+    if (bytes)
+        (void)trac_form_codes(form, codes_in(bytes), count);
+    return bytes;
+}
+
+static PyObject *codes_of_string(machine_object *self, size_t (*fill)(const trac_machine *, uint32_t *, size_t)) {
+    if (!is_usable(self))
+        return NULL;
+    const size_t count = fill(&self->machine, NULL, 0);
+    PyObject *const bytes = room_for_codes(count);
+    if (bytes)
+        (void)fill(&self->machine, codes_in(bytes), count);
+    return bytes;
+}
+
+/* A form: its name, what `pf` shows, its items as codes, and its pointer. */
+static PyObject *form_tuple(const trac_form *form) {
+    PyObject *const name = filled_by_form(form, trac_form_name), *const text = filled_by_form(form, trac_form_text),
+                    *const codes = codes_of_form(form);
+    PyObject *const made = name && text && codes
+                               ? Py_BuildValue("OOOn", name, text, codes, (Py_ssize_t)trac_form_pointer(form))
+                               : NULL;
+    Py_XDECREF(name);
+    Py_XDECREF(text);
+    Py_XDECREF(codes);
+    return made;
+}
+
+static PyObject *machine_forms(machine_object *self, PyObject *nothing) {
+    trac_form form = TRAC_NO_FORM;
+    (void)nothing;
+    if (!is_usable(self))
+        return NULL;
+    PyObject *const list = PyList_New(0);
+    while (list && trac_next_form(&self->machine, &form)) {
+        PyObject *const each = form_tuple(&form);
+        const int is_added = each && PyList_Append(list, each) == 0;
+        Py_XDECREF(each);
+        if (!is_added) {
+            Py_DECREF(list);
+            return NULL;
+        }
+    }
+    return list;
+}
+
+static PyObject *machine_neutral(machine_object *self, PyObject *nothing) {
+    (void)nothing;
+    return codes_of_string(self, trac_neutral);
+}
+
+static PyObject *machine_active(machine_object *self, PyObject *nothing) {
+    (void)nothing;
+    return codes_of_string(self, trac_active);
+}
+
+static PyObject *machine_rule(machine_object *self, PyObject *nothing) {
+    (void)nothing;
+    return is_usable(self) ? PyUnicode_FromString(trac_rule_name(trac_rule(&self->machine))) : NULL;
+}
+
+static PyObject *machine_awaits(machine_object *self, PyObject *nothing) {
+    (void)nothing;
+    return is_usable(self) ? PyLong_FromUnsignedLong(trac_awaits(&self->machine)) : NULL;
+}
+
+static PyObject *machine_meta(machine_object *self, PyObject *nothing) {
+    (void)nothing;
+    return is_usable(self) ? PyLong_FromUnsignedLong(trac_meta(&self->machine)) : NULL;
+}
+
+static PyObject *machine_parts(machine_object *self, PyObject *nothing) {
+    Py_ssize_t cells[4];
+    (void)nothing;
+    if (!is_usable(self))
+        return NULL;
+    for (uint32_t part = TRAC_PART_STORE; part <= TRAC_PART_ACTIVE; part++)
+        cells[part] = (Py_ssize_t)trac_part(&self->machine, part);
+    return Py_BuildValue("nnnn", cells[TRAC_PART_STORE], cells[TRAC_PART_NEUTRAL], cells[TRAC_PART_FREE],
+                         cells[TRAC_PART_ACTIVE]);
+}
+
+/* ---- The module. */
+
+#define METHOD(name, takes, says) {#name, (PyCFunction)(void (*)(void))machine_##name, takes, says}
+
+static PyMethodDef machine_methods[] = {
+    METHOD(close, METH_NOARGS, "Gives up all memory."),
+    METHOD(copy, METH_NOARGS, "A machine that stands where this one does."),
+    METHOD(feed, METH_O, "Adds bytes to the input."),
+    METHOD(end, METH_NOARGS, "Ends the input behind what it holds."),
+    METHOD(go, METH_VARARGS, "Makes at most so many steps, up to the next print where the second argument is true."),
+    METHOD(take, METH_NOARGS, "Takes what was printed."),
+    METHOD(again, METH_O, "Begins a new run with an allowance of so many steps; drops the input."),
+    METHOD(report, METH_NOARGS, "The fate in words, the steps, the peak in cells, and the bytes consumed."),
+    METHOD(unread, METH_NOARGS, "The input that wasn't read."),
+    METHOD(has_ended, METH_NOARGS, "Whether the input has ended."),
+    METHOD(forms, METH_NOARGS, "The forms: name, display, items as numbers of 32 bits, and pointer."),
+    METHOD(neutral, METH_NOARGS, "The neutral string as numbers of 32 bits."),
+    METHOD(active, METH_NOARGS, "The active string as numbers of 32 bits."),
+    METHOD(rule, METH_NOARGS, "The rule of the next step, in words."),
+    METHOD(awaits, METH_NOARGS, "What the next step reads: 0 nothing, 1 a string, 2 a byte."),
+    METHOD(meta, METH_NOARGS, "The meta character."),
+    METHOD(parts, METH_NOARGS, "The cells of the store, the neutral string, those free, and the active string."),
+    {NULL, NULL, 0, NULL},
+};
+
+static PyType_Slot machine_slots[] = {
+    {Py_tp_doc, (void *)"A machine of trac.h with its block: Machine(cells, steps)."},
+    {Py_tp_new, (void *)machine_new},
+    {Py_tp_dealloc, (void *)machine_dealloc},
+    {Py_tp_methods, machine_methods},
+    {0, NULL},
+};
+
+static PyType_Spec machine_spec = {"trac_t64._engine.Machine", sizeof(machine_object), 0, Py_TPFLAGS_DEFAULT,
+                                   machine_slots};
+
+static int fill_module(PyObject *module) {
+    PyObject *const type = PyType_FromModuleAndSpec(module, &machine_spec, NULL);
+    const int is_added = type && PyModule_AddType(module, (PyTypeObject *)type) == 0;
+    Py_XDECREF(type);
+    return is_added && PyModule_AddStringConstant(module, "VERSION", trac_version()) == 0 &&
+                   PyModule_AddIntConstant(module, "MOST_CELLS", TRAC_MOST_CELLS) == 0
+               ? 0
+               : -1;
+}
+
+static PyModuleDef_Slot module_slots[] = {{Py_mod_exec, (void *)fill_module}, {0, NULL}};
+
+static PyModuleDef module_definition = {
+    PyModuleDef_HEAD_INIT, "_engine", "Machines of trac.h.", 0, NULL, module_slots, NULL, NULL, NULL};
+
+PyMODINIT_FUNC PyInit__engine(void) { return PyModuleDef_Init(&module_definition); }

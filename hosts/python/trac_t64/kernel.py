@@ -1,0 +1,313 @@
+"""A kernel for Jupyter: python -m trac_t64.kernel --install puts it where Jupyter finds it.
+
+A cell is a script: its text is the input of a run in a session whose forms stay from one cell to the
+next. What the script reads behind the cell's text is asked for. Lines at the head of a cell that begin
+with a percent sign are commands to the kernel.
+"""
+from __future__ import annotations
+
+import argparse
+import codecs
+import html
+import json
+import os
+import re
+import sys
+import tempfile
+from collections.abc import Callable, Iterable, Sequence
+from typing import Any
+
+from ._engine import MOST_CELLS, VERSION
+from .functions import FUNCTIONS, names_a_form
+from .reading import Reading, fault_words, is_idle
+from .session import DEFAULT_CELLS, DEFAULT_STEPS, MOST_STEPS, Fate, Session, shown
+
+try:
+    from IPython.core.error import StdinNotImplementedError
+    from ipykernel.kernelapp import IPKernelApp
+    from ipykernel.kernelbase import Kernel
+    from jupyter_client.kernelspec import KernelSpecManager
+except ModuleNotFoundError as missing:
+    raise ImportError(f'the kernel needs ipykernel, and {missing.name} is missing') from None
+
+NAME = 'trac_t64'
+# The rows of a table of steps, where no other number is given.
+ROWS = 100
+COMMANDS = {
+    '%forms': 'a table of the forms',
+    '%cells N': 'a new session with so many cells',
+    '%steps N': 'so many steps are allowed to each cell',
+    '%reset': 'a new session, without forms',
+    '%trace [N]': 'a table of the first N steps of the script below',
+    '%help': 'these commands, and the functions',
+}
+STYLE = '<style>.trac th, .trac td { text-align: left !important; white-space: pre }</style>'
+FUNCTION_BEFORE = re.compile(r'#\(([A-Za-z]*)$')
+FORM_BEFORE = re.compile(r'#\(([A-Za-z]+),([^#(),]*)$')
+COMMAND_BEFORE = re.compile(r'(?:^|\n)(%\w*)$')
+WORD_AROUND = re.compile(r'[A-Za-z]*$')
+
+Table = Sequence[Sequence[str]]
+
+
+class Fault(Exception):
+    """What is told in red: its kind, and a line about it."""
+
+    def __init__(self, kind: str, line: str) -> None:
+        super().__init__(kind, line)
+        self.kind, self.line = kind, line
+
+
+def number_of(command: str, words: Sequence[str], most: int) -> int:
+    """The number behind a command, from 1 to `most`."""
+    if len(words) != 1 or not re.fullmatch(r'[0-9]{1,20}', words[0], re.ASCII) or not 1 <= int(words[0]) <= most:
+        raise Fault('command', f'{command} wants one number, from 1 to {most}')
+    return int(words[0])
+
+
+def parted(code: str) -> tuple[list[str], int, str]:
+    """The commands at the head of a cell, the number of the line behind them, and the script."""
+    lines = code.split('\n')
+    count = next((k for k, line in enumerate(lines) if not line.startswith('%')), len(lines))
+    return lines[:count], count + 1, '\n'.join(lines[count:])
+
+
+def as_html(head: Sequence[str], rows: Table) -> str:
+    def row(kind: str, cells: Sequence[str]) -> str:
+        return '<tr>\n' + ''.join(f'<{kind}><code>{html.escape(cell)}</code></{kind}>\n' for cell in cells) + '</tr>\n'
+
+    body = ''.join(row('td', cells) for cells in rows)
+    return f'<table class="trac">\n{STYLE}\n{row("th", head)}{body}</table>'
+
+
+def as_text(head: Sequence[str], rows: Table) -> str:
+    table = [head, *rows]
+    widths = [max(map(len, column)) for column in zip(*table)]
+    return '\n'.join('  '.join(map(str.ljust, row, widths)).rstrip() for row in table)
+
+
+def forms_table(session: Session) -> Table:
+    """The forms as `pf` shows them."""
+    return [(shown(form.name), shown(form.text), str(form.pointer)) for form in session.forms()]
+
+
+def form_names(session: Session) -> list[str]:
+    """The names of the forms that are text."""
+    names = (form.name.decode(errors='replace') for form in session.forms())
+    return [name for name in names if '\ufffd' not in name]
+
+
+def completions(code: str, names: Iterable[str]) -> tuple[list[str], int]:
+    """What can stand at the end of a text, which begins at the place that is given."""
+    if found := COMMAND_BEFORE.search(code):
+        words: Iterable[str] = (command.split()[0] for command in COMMANDS)
+    elif found := FUNCTION_BEFORE.search(code):
+        words = FUNCTIONS
+    elif (found := FORM_BEFORE.search(code)) and names_a_form(found[1]):
+        words = names
+    else:
+        return [], len(code)
+    begin = found[found.lastindex or 0]
+    return sorted(word for word in words if word.startswith(begin)), len(code) - len(begin)
+
+
+class Printer:
+    """What a script printed, as text: a character may come in two parts."""
+
+    def __init__(self, send: Callable[[str], None]) -> None:
+        self._send = send
+        self._decoder = codecs.getincrementaldecoder('utf-8')('replace')
+
+    def put(self, output: bytes, is_last: bool = False) -> None:
+        if text := self._decoder.decode(output, is_last):
+            self._send(text)
+
+
+class TracKernel(Kernel):
+    """A session, and the cells that are run in it."""
+
+    implementation = NAME
+    implementation_version = VERSION
+    banner = f'TRAC T-64 {VERSION}. %help says what there is.'
+    language_info = {
+        'name': 'trac', 'version': 'T-64', 'mimetype': 'text/x-trac', 'file_extension': '.trac',
+        'pygments_lexer': 'text',
+    }
+
+    def __init__(self, **more: Any) -> None:
+        super().__init__(**more)
+        self._session = Session(DEFAULT_CELLS, DEFAULT_STEPS)
+        self._steps = DEFAULT_STEPS
+        # the steps that a cell shows in a table, and how many it shows at the most
+        self._rows: list[Sequence[str]] = []
+        self._most_rows = 0
+
+    # ---- What is shown.
+
+    def _send_text(self, text: str) -> None:
+        self.send_response(self.iopub_socket, 'stream', {'name': 'stdout', 'text': text})
+
+    def _send_table(self, head: Sequence[str], rows: Table) -> None:
+        data = {'text/html': as_html(head, rows), 'text/plain': as_text(head, rows)}
+        self.send_response(self.iopub_socket, 'display_data', {'data': data, 'metadata': {}})
+
+    def _failed(self, fault: Fault) -> dict[str, Any]:
+        """Shows a fault, and gives the reply of its cell."""
+        told = {'ename': fault.kind, 'evalue': fault.line, 'traceback': [f'\x1b[31m{fault.line}\x1b[0m']}
+        self.send_response(self.iopub_socket, 'error', told)
+        return {'status': 'error', 'execution_count': self.execution_count, **told}
+
+    # ---- Commands.
+
+    def _open(self, cells: int) -> None:
+        """A new session; the old one stays where there is no memory for it."""
+        try:
+            session = Session(cells, self._steps)
+        except MemoryError:
+            raise Fault('memory', f'no memory for {cells} cells') from None
+        self._session.close()
+        self._session = session
+
+    def _command(self, line: str) -> None:
+        command, *words = line.split()
+        if command == '%cells':
+            self._open(number_of(command, words, MOST_CELLS))
+        elif command == '%steps':
+            self._steps = number_of(command, words, MOST_STEPS)
+        elif command == '%trace':
+            self._most_rows = number_of(command, words or [str(ROWS)], MOST_STEPS)
+        elif command == '%reset' and not words:
+            self._open(self._session.cells)
+        elif command == '%forms' and not words:
+            self._send_table(('name', 'form', 'pointer'), forms_table(self._session))
+        elif command == '%help' and not words:
+            self._send_table(('command', ''), list(COMMANDS.items()))
+            self._send_table(('call', ''), [(f'#({usage})', what) for usage, what in FUNCTIONS.values()])
+        else:
+            raise Fault('command', f'{line}: there is no such command; there are ' + ', '.join(COMMANDS))
+
+    # ---- Scripts.
+
+    def _run_on(self, printer: Printer) -> None:
+        """Makes steps until there is none to make."""
+        session = self._session
+        while len(self._rows) < self._most_rows and (step := session.step()):
+            printer.put(step.output)
+            self._rows.append((
+                str(step.number), step.rule, shown(session.neutral), shown(session.active), shown(step.output)))
+        for output in session.outputs():
+            printer.put(output)
+
+    def _give_more(self, reading: Reading) -> None:
+        """Gives the script what it wants: the cell's last string is ended, and more is asked for."""
+        session = self._session
+        if is_idle(session):
+            session.end(most=0)
+            return
+        try:
+            line = self.raw_input().encode(errors='replace')
+        except StdinNotImplementedError:
+            session.end(most=0)
+        else:
+            reading.give(session, line if line.endswith(bytes([session.meta])) else line + b'\n')
+
+    def _run_script(self, script: str, line: int, printer: Printer) -> None:
+        """Runs a script that begins in this line of its cell."""
+        session, reading = self._session, Reading(line)
+        session.again(self._steps)
+        reading.give(session, script.encode(errors='replace'))
+        self._run_on(printer)
+        while session.fate is Fate.WANTS_INPUT:
+            self._give_more(reading)
+            self._run_on(printer)
+        if words := fault_words(session):
+            at = 'line {}, column {}'.format(*reading.place(session))
+            raise Fault(session.fate.value, f'{at}: {words}')
+
+    def _run_cell(self, code: str) -> None:
+        """Runs the commands and the script of a cell, and shows the steps that it asked for."""
+        self._rows, self._most_rows = [], 0
+        commands, line, script = parted(code)
+        for command in commands:
+            self._command(command)
+        printer = Printer(self._send_text)
+        try:
+            if script.strip():
+                self._run_script(script, line, printer)
+        finally:
+            printer.put(b'', is_last=True)
+            if self._rows:
+                self._send_table(('step', 'rule', 'neutral string', 'active string', 'prints'), self._rows)
+
+    def do_execute(
+        self, code: str, silent: bool, store_history: bool = True, user_expressions: Any = None,
+        allow_stdin: bool = False, **more: Any,
+    ) -> dict[str, Any]:
+        """Runs a cell."""
+        self._allow_stdin = allow_stdin
+        try:
+            self._run_cell(code)
+        except Fault as fault:
+            return self._failed(fault)
+        except KeyboardInterrupt:
+            return self._failed(Fault('interrupted', f'interrupted behind step {self._session.steps}'))
+        except MemoryError:
+            return self._failed(Fault('memory', 'no memory'))
+        return {'status': 'ok', 'execution_count': self.execution_count, 'payload': [], 'user_expressions': {}}
+
+    # ---- Help while a cell is written.
+
+    def do_complete(self, code: str, cursor_pos: int) -> dict[str, Any]:
+        """Functions behind `#(`, and forms behind a function that takes one."""
+        matches, begin = completions(code[:cursor_pos], form_names(self._session))
+        return {'status': 'ok', 'matches': matches, 'cursor_start': begin, 'cursor_end': cursor_pos, 'metadata': {}}
+
+    def do_inspect(
+        self, code: str, cursor_pos: int, detail_level: int = 0, omit_sections: Sequence[str] = ()
+    ) -> dict[str, Any]:
+        """How the function at the cursor is called."""
+        begin = WORD_AROUND.search(code[:cursor_pos])
+        word = (begin[0] if begin else '') + re.split('[^A-Za-z]', code[cursor_pos:], 1)[0]
+        usage, what = FUNCTIONS.get(word.lower(), ('', ''))
+        data = {'text/plain': f'#({usage}): {what}'} if usage else {}
+        return {'status': 'ok', 'found': bool(data), 'data': data, 'metadata': {}}
+
+    def do_is_complete(self, code: str) -> dict[str, str]:
+        """A script is complete behind the meta character, and commands are."""
+        _, _, script = parted(code)
+        is_done = not script.strip() or script.rstrip().encode().endswith(bytes([self._session.meta]))
+        return {'status': 'complete'} if is_done else {'status': 'incomplete', 'indent': ''}
+
+
+def install(prefix: str | None, is_of_user: bool) -> str:
+    """Puts the kernel where Jupyter finds it, and gives the folder."""
+    spec = {
+        'argv': [sys.executable, '-Xfrozen_modules=off', '-m', 'trac_t64.kernel', '-f', '{connection_file}'],
+        'display_name': 'TRAC T-64', 'language': 'trac', 'interrupt_mode': 'signal',
+    }
+    with tempfile.TemporaryDirectory() as folder:
+        with open(os.path.join(folder, 'kernel.json'), 'w', encoding='utf-8') as file:
+            json.dump(spec, file, indent=1)
+        os.chmod(folder, 0o755)
+        return str(KernelSpecManager().install_kernel_spec(folder, NAME, user=is_of_user, prefix=prefix))
+
+
+def main() -> None:
+    """Runs the kernel, or installs it where the first word is --install."""
+    if '--install' not in sys.argv[1:]:
+        IPKernelApp.launch_instance(kernel_class=TracKernel)
+        return
+    parser = argparse.ArgumentParser(prog='python -m trac_t64.kernel', description='Installs the kernel for Jupyter.')
+    parser.add_argument('--install', action='store_true', required=True)
+    where = parser.add_mutually_exclusive_group()
+    where.add_argument('--user', action='store_true', help='for this user')
+    where.add_argument('--prefix', help='below this folder; that of the Python which runs, if left out')
+    words = parser.parse_args()
+    try:
+        print(install(None if words.user else words.prefix or sys.prefix, words.user))
+    except OSError as error:
+        sys.exit(f"trac_t64.kernel: can't install it: {error}")
+
+
+if __name__ == '__main__':
+    main()

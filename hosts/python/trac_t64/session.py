@@ -1,0 +1,333 @@
+"""Runs and sessions: what `trac_t64` hands out."""
+from __future__ import annotations
+
+import enum
+import itertools
+import operator
+from collections.abc import Iterable, Iterator
+from dataclasses import dataclass
+from types import TracebackType
+from typing import NamedTuple, SupportsIndex, TypeAlias
+
+from ._engine import MOST_CELLS, Machine
+
+# A script or a piece of input. A str stands for its bytes in UTF-8.
+Text: TypeAlias = str | bytes | bytearray | memoryview
+
+# What stands in a neutral string beside bytes, which are 0 to 255.
+ACTIVE_CALL = 256
+NEUTRAL_CALL = 257
+COMMA_MARK = 258
+# The gap with ordinal 1 among the items of a form; that with ordinal N is N - 1 more.
+FIRST_GAP = 256
+
+DEFAULT_CELLS = 65536
+DEFAULT_STEPS = 1000000
+MOST_STEPS = 2**64 - 1
+
+_MARKS = {ACTIVE_CALL: '<#>', NEUTRAL_CALL: '<##>', COMMA_MARK: '<,>'}
+_LAYOUT = {'\t': '\\t', '\n': '\\n', '\r': '\\r', '\\': '\\\\'}
+_AWAITED = ('nothing', 'text', 'byte')
+
+
+class Fate(enum.Enum):
+    """How a run ended, or why the last turn of one that goes on did."""
+
+    GOING = 'going'  # all steps of the turn were made, and the run goes on
+    WANTS_INPUT = 'wants input'  # the next step reads more than there is; nothing was done of it
+    WANTS_OUTPUT = 'wants output'  # there is no memory for what the next step prints; nothing was done of it
+    HALTED = 'halted'  # the script called `hl`
+    INPUT_ENDED = 'input ended'  # the script asked for more input at its end
+    WORKSPACE = 'workspace'  # the next step needs more cells than there are; it wasn't done
+    STEPS = 'steps'  # the allowance of steps is used up
+
+    @property
+    def is_end(self) -> bool:
+        """Whether the run is over."""
+        return self not in (Fate.GOING, Fate.WANTS_INPUT, Fate.WANTS_OUTPUT)
+
+
+@dataclass(frozen=True)
+class Report:
+    """What a run came to."""
+
+    output: bytes
+    """What the script printed."""
+    fate: Fate
+    """How the run ended."""
+    steps: int
+    """The steps that were made."""
+    peak: int
+    """The greatest need of a step, in cells: the smallest workspace for the same run."""
+    consumed: int
+    """How many bytes of the script were read."""
+
+    @property
+    def text(self) -> str:
+        """The output, read as UTF-8; bytes that are none become U+FFFD."""
+        return self.output.decode(errors='replace')
+
+
+class Step(NamedTuple):
+    """A step that was made."""
+
+    number: int
+    """Its number in the run, from 1."""
+    rule: str
+    """The rule that it followed, by its name in the manual, as 'end of call'."""
+    output: bytes
+    """What it printed."""
+
+
+class Form(NamedTuple):
+    """A form, as it stood when it was asked for."""
+
+    name: bytes
+    text: bytes
+    """The body as `pf` shows it: `<N>` for a gap, and `<^>` at the pointer."""
+    items: tuple[int, ...]
+    """The body item by item: 0 to 255 is a byte, 255 + N the gap with ordinal N."""
+    pointer: int
+    """How many items stand in front of the form's pointer."""
+
+
+class Parts(NamedTuple):
+    """The cells of each part of the block."""
+
+    store: int
+    """Those of all forms."""
+    neutral: int
+    free: int
+    active: int
+
+
+def _whole(name: str, value: SupportsIndex, least: int, most: int) -> int:
+    """A whole number in a range."""
+    try:
+        number = operator.index(value)
+    except TypeError:
+        raise TypeError(f'{name} must be an int, not {type(value).__name__}') from None
+    if not least <= number <= most:
+        raise ValueError(f'{name} must be from {least} to {most}')
+    return number
+
+
+def _bytes_of(name: str, text: Text) -> bytes:
+    """The bytes of a text."""
+    if isinstance(text, bytes):
+        return text
+    if isinstance(text, (bytearray, memoryview)):
+        return bytes(text)
+    if not isinstance(text, str):
+        raise TypeError(f'{name} must be str or bytes, not {type(text).__name__}')
+    try:
+        return text.encode()
+    except UnicodeEncodeError as error:
+        raise ValueError(f'{name} has no UTF-8: {error.reason} at {error.start}') from None
+
+
+def _codes(numbers: bytes) -> tuple[int, ...]:
+    return tuple(memoryview(numbers).cast('I'))
+
+
+def _shown_character(one: str) -> str:
+    if one in _LAYOUT or one.isprintable():
+        return _LAYOUT.get(one, one)
+    return ''.join(f'\\x{byte:02X}' for byte in one.encode(errors='surrogateescape'))
+
+
+def _shown_mark(code: int) -> str:
+    if code not in _MARKS:
+        raise ValueError(f'codes has {code}, which is no byte and no mark')
+    return _MARKS[code]
+
+
+def shown(codes: Iterable[int]) -> str:
+    """A string of a session as a line to read: marks in angle brackets, as `<#>ps<,>hello`, and what is
+    not printable by escapes, as `\\n` and `\\xFF`. Raises ValueError for what is no byte and no mark."""
+    parts: list[str] = []
+    for is_text, part in itertools.groupby(codes, lambda code: code < 256):
+        if is_text:
+            parts.extend(map(_shown_character, bytes(part).decode(errors='surrogateescape')))
+        else:
+            parts.extend(map(_shown_mark, part))
+    return ''.join(parts)
+
+
+def run(script: Text, cells: SupportsIndex = DEFAULT_CELLS, steps: SupportsIndex = DEFAULT_STEPS) -> Report:
+    """Runs a script to its end, in a workspace of so many cells, from 1 to 16777216, with an allowance of
+    so many steps, from 1 to 2**64 - 1. Other threads run meanwhile, and ^C stops it.
+
+    Raises TypeError or ValueError, which name the argument, for what can't be used, and MemoryError.
+    """
+    text = _bytes_of('script', script)
+    with Session(cells, steps) as session:
+        session.feed(text, most=0)
+        output = session.end()
+        return Report(output, session.fate, session.steps, session.peak, session.consumed)
+
+
+class Session:
+    """A machine that is kept. Input is fed to it in pieces, and its forms and its meta character stay
+    from one run to the next.
+
+    One thread at a time uses a session; a second one gets a RuntimeError while a turn goes on. Sessions
+    are independent of each other, but for copies: a session and its copies share one block, so only one
+    of them can be in a turn.
+
+    ^C stops a turn between two steps, by KeyboardInterrupt, and so does want of memory by MemoryError. The
+    next turn goes on from there, and gives what was printed before, too.
+    """
+
+    __slots__ = ('_machine', '_cells', '_steps')
+
+    def __init__(self, cells: SupportsIndex = DEFAULT_CELLS, steps: SupportsIndex = DEFAULT_STEPS) -> None:
+        """A machine without forms, in a workspace of so many cells, from 1 to 16777216, with an allowance
+        of so many steps for each run, from 1 to 2**64 - 1."""
+        self._cells = _whole('cells', cells, 1, MOST_CELLS)
+        self._steps = _whole('steps', steps, 1, MOST_STEPS)
+        self._machine = Machine(self._cells, self._steps)
+
+    def __enter__(self) -> Session:
+        return self
+
+    def __exit__(
+        self, kind: type[BaseException] | None, error: BaseException | None, trace: TracebackType | None
+    ) -> None:
+        self.close()
+
+    def close(self) -> None:
+        """Gives up the memory. Every other call raises ValueError then."""
+        self._machine.close()
+
+    def copy(self) -> Session:
+        """Another session, which stands where this one does and goes its own way from there."""
+        twin = object.__new__(type(self))
+        twin._cells, twin._steps, twin._machine = self._cells, self._steps, self._machine.copy()
+        return twin
+
+    __copy__ = copy
+
+    def __deepcopy__(self, memo: dict[int, object]) -> Session:
+        return self.copy()
+
+    # ---- Turns.
+
+    def feed(self, data: Text = b'', most: SupportsIndex | None = None) -> bytes:
+        """Adds to the input, makes steps until the script wants more or its run is over, at most `most` of
+        them, and gives what they printed. With `most=0` the input is added, and that is all.
+
+        Where the run is over no step is made until `again`, and the input is kept in `unread`. Raises
+        ValueError where the input has ended.
+        """
+        given = _bytes_of('data', data)
+        limit = MOST_STEPS if most is None else _whole('most', most, 0, MOST_STEPS)
+        if given and self._machine.has_ended():
+            raise ValueError('data comes behind the end of the input')
+        self._machine.feed(given)
+        self._machine.go(limit, False)
+        return self._machine.take()
+
+    def end(self, most: SupportsIndex | None = None) -> bytes:
+        """Ends the input, makes steps to the end of the run, at most `most` of them, and gives what they
+        printed. A last string without a meta character is read as if one followed."""
+        limit = MOST_STEPS if most is None else _whole('most', most, 0, MOST_STEPS)
+        self._machine.end()
+        self._machine.go(limit, False)
+        return self._machine.take()
+
+    def step(self) -> Step | None:
+        """Makes one step. None where there is none to make: it wants input, or the run is over."""
+        machine = self._machine
+        rule, before = machine.rule(), self.steps
+        machine.go(1, False)
+        return Step(before + 1, rule, machine.take()) if self.steps > before else None
+
+    def __iter__(self) -> Iterator[Step]:
+        """Makes steps until there is none to make, and gives each one when it was made."""
+        while (made := self.step()) is not None:
+            yield made
+
+    def outputs(self) -> Iterator[bytes]:
+        """Makes steps until there is none to make, and gives each print before the next step."""
+        while True:
+            self._machine.go(MOST_STEPS, True)
+            if output := self._machine.take():
+                yield output
+            if self.fate is not Fate.GOING:
+                return
+
+    def again(self, steps: SupportsIndex | None = None) -> None:
+        """Begins a new run, with an allowance of so many steps; that of the session, if left out. Both
+        strings are cleared, with the calls that are open, and so is the input; the steps and the peak count
+        from 0. The forms with their pointers and the meta character stay."""
+        self._machine.again(self._steps if steps is None else _whole('steps', steps, 1, MOST_STEPS))
+
+    # ---- What a session shows of itself.
+
+    @property
+    def cells(self) -> int:
+        """The cells of the workspace."""
+        return self._cells
+
+    @property
+    def fate(self) -> Fate:
+        """How the run ended, or why the last turn did."""
+        return Fate(self._machine.report()[0])
+
+    @property
+    def steps(self) -> int:
+        """The steps of the run so far."""
+        return self._machine.report()[1]
+
+    @property
+    def peak(self) -> int:
+        """The greatest need of a step of the run so far, in cells."""
+        return self._machine.report()[2]
+
+    @property
+    def consumed(self) -> int:
+        """How many bytes of the input the run has read so far."""
+        return self._machine.report()[3]
+
+    @property
+    def unread(self) -> bytes:
+        """The input that wasn't read yet."""
+        return self._machine.unread()
+
+    @property
+    def neutral(self) -> tuple[int, ...]:
+        """The neutral string: the base text, and then for each open call its mark and its arguments with
+        comma marks between. 0 to 255 is a byte; the marks are ACTIVE_CALL, NEUTRAL_CALL and COMMA_MARK."""
+        return _codes(self._machine.neutral())
+
+    @property
+    def active(self) -> bytes:
+        """The active string, the next character first."""
+        return bytes(_codes(self._machine.active()))
+
+    @property
+    def rule(self) -> str:
+        """The rule that the next step follows, by its name in the manual: idling, layout, protection,
+        argument, active call, neutral call, number sign, end of call or character."""
+        return self._machine.rule()
+
+    @property
+    def awaits(self) -> str:
+        """What the next step reads: 'nothing', 'text' where it performs `rs`, 'byte' where it performs
+        `rc`."""
+        return _AWAITED[self._machine.awaits()]
+
+    @property
+    def meta(self) -> int:
+        """The meta character, which ends a string: a byte."""
+        return self._machine.meta()
+
+    @property
+    def parts(self) -> Parts:
+        """How the workspace is shared, in cells."""
+        return Parts(*self._machine.parts())
+
+    def forms(self) -> list[Form]:
+        """The forms, in the order of definition."""
+        return [Form(name, text, _codes(items), pointer) for name, text, items, pointer in self._machine.forms()]
