@@ -264,6 +264,14 @@ class Long(Lecture):
         self.press('call-back')
         self.assertEqual(self.steps()[0], there)
 
+    def test_the_largest_block(self):
+        self.run_script(LOOP.format(1000000), '', 16777216, 4000000)
+        for place in (3999999, 1500000):
+            self.go(place)
+            for name in ('back', 'call-back'):
+                with self.subTest(place=place, name=name):
+                    self.quick(name, 1000, 200, count=3)
+
     GAP = """
         const done = arguments[0];
         let [gap, last] = [0, performance.now()];

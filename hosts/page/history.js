@@ -312,6 +312,7 @@ export class History {
 
     /** Keeps the machine on the way to a step, so that those in front of it are near too. */
     keepNear() {
+        if (this.limits.cells > MOST_PEEKED) return;
         const saved = this.shown.save();
         if (saved.bytes > NEAR_BYTES) return;
         this.near.push(saved);

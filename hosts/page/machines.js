@@ -24,36 +24,9 @@ const LEAST_APART = 4096;
 const MOST_AT_ONCE = 1024;
 // The front of an active string in which the next call is looked for.
 const LOOKED_AT = 64;
-// Numbers of 32 bits in a page of a block, of which those without a number but 0 aren't kept.
-const PAGE_WORDS = 16384;
 const NOTHING = new Uint8Array(0);
 // The neutral string where the idling procedure reads: #(ps,#(rs
 const READING = [256, 112, 115, 258, 256, 114, 115];
-
-/**
- * The pages of a block that hold anything.
- * @param {Uint8Array} block
- */
-function pagesOf(block) {
-    const words = new Uint32Array(block.buffer, block.byteOffset, block.length / 4);
-    const pages = [];
-    for (let from = 0; from < words.length; from += PAGE_WORDS) {
-        const page = words.subarray(from, from + PAGE_WORDS);
-        if (page.some((word) => word !== 0)) pages.push({ from, page: page.slice() });
-    }
-    return pages;
-}
-
-/**
- * The block of these pages.
- * @param {{from: number, page: Uint32Array}[]} pages
- * @param {number} length its bytes
- */
-function blockOf(pages, length) {
-    const words = new Uint32Array(length / 4);
-    for (const { from, page } of pages) words.set(page, from);
-    return new Uint8Array(words.buffer);
-}
 
 /**
  * How far a walker has come.
@@ -160,17 +133,16 @@ export class Walker {
         return seen;
     }
 
-    /** All that it takes to come back here. */
+    /** All that it takes to come back here, and how many bytes that is. */
     save() {
-        const { block, ...machine } = this.session.save();
-        const pages = block && pagesOf(block);
-        const bytes = pages ? pages.reduce((sum, { page }) => sum + page.byteLength, 0) : 0;
-        return { state: { ...this.state }, machine, pages, length: block ? block.length : 0, bytes };
+        const machine = this.session.save();
+        const bytes = (machine.pages ?? []).reduce((sum, { words }) => sum + words.byteLength, 0);
+        return { state: { ...this.state }, machine, bytes };
     }
 
     /** @param {ReturnType<Walker['save']>} saved */
-    restore({ state, machine, pages, length }) {
-        this.session.restore({ ...machine, block: pages && blockOf(pages, length) });
+    restore({ state, machine }) {
+        this.session.restore(machine);
         this.state = { ...state };
     }
 }
@@ -218,7 +190,7 @@ export class Kept {
     constructor(first, cells) {
         this.all = [first];
         this.bytes = 0;
-        this.apart = Math.max(LEAST_APART, Math.ceil(cells / 8));
+        this.apart = Math.max(LEAST_APART, Math.ceil(cells / 16));
     }
 
     /** The step at which the next one is to be kept. */

@@ -11,6 +11,9 @@ import { SLICE, pause } from './machines.js';
 
 /** @typedef {import('./history.js').History} History */
 
+const LEAST_BACK = 256;
+const MOST_AT_A_TIME = 2 ** 16;
+
 /**
  * Goes from call to call up to a step.
  * @param {History} history
@@ -59,24 +62,38 @@ export function nextCall(history, isWanted, signal) {
 }
 
 /**
- * The last step in front of one that performs a call.
+ * Goes to a step in slices; whether it is reached, and the search wasn't stopped.
+ * @param {History} history
+ * @param {number} step
+ * @param {AbortSignal} signal
+ */
+async function goTo(history, step, signal) {
+    while (!history.approach(step)) {
+        await pause();
+        if (signal.aborted) return false;
+    }
+    return true;
+}
+
+/**
+ * The last step in front of one that performs a call: looked for in more and more steps before it.
  * @param {History} history
  * @param {number} step
  * @param {AbortSignal} signal
  */
 export async function callBefore(history, step, signal) {
-    let to = step;
-    while (to > 0 && !signal.aborted) {
-        const from = history.nearest(to - 1);
+    for (let [to, distance] = [step, LEAST_BACK]; to > 0; distance *= 16) {
+        const from = Math.max(0, step - distance);
+        if (!await goTo(history, from, signal)) return null;
         /** @type {number | null} */
         let last = null;
-        history.shown.restore(from);
         await alongCalls(history, to, () => {
             last = history.step;
             return false;
         }, signal);
-        if (last !== null) return signal.aborted ? null : last;
-        to = from.state.step;
+        if (signal.aborted) return null;
+        if (last !== null) return last;
+        to = from;
     }
     return null;
 }
@@ -144,23 +161,20 @@ export async function nextPrinting(history, signal) {
     const { printed } = shown.state;
     if (printed === end.printed) return null;
     const start = history.printings.before(printed);
-    while (start > history.step && !history.approach(start)) {
+    if (start > history.step && !await goTo(history, start, signal)) return null;
+    for (let most = 1024; !signal.aborted;) {
+        const until = performance.now() + SLICE;
+        while (performance.now() < until) {
+            const before = shown.save();
+            shown.advance(Math.min(most, end.step - history.step));
+            if (shown.state.printed === printed) most = Math.min(most * 2, MOST_AT_A_TIME);
+            else if (most === 1) return history.step;
+            else {
+                shown.restore(before);
+                most /= 2;
+            }
+        }
         await pause();
-        if (signal.aborted) return null;
     }
-    for (let most = 1024; ;) {
-        const before = shown.save();
-        shown.advance(Math.min(most, end.step - history.step));
-        if (shown.state.printed === printed) most *= 2;
-        else if (most === 1) return history.step;
-        else {
-            shown.restore(before);
-            most = Math.floor(most / 2);
-        }
-        if (most > 2 ** 18) {
-            most = 2 ** 18;
-            await pause();
-            if (signal.aborted) return null;
-        }
-    }
+    return null;
 }
