@@ -299,7 +299,7 @@ class Links(Page):
             self.put(name, value)
         self.script("document.getElementById('settings').open = true")
         self.find('link').click()
-        self.wait(lambda: '#' in browser.current_url)
+        self.wait(lambda: 'carries the script' in self.text('told'))
         link = browser.current_url
         self.assertRegex(link, r'#script=[\w-]+&input=[\w-]+&cells=123&steps=4567$')
         self.assertIn('carries the script', self.text('told'))

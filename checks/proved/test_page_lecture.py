@@ -595,9 +595,9 @@ class Files(Lecture):
         self.go(12)
         self.script("document.getElementById('settings').open = true")
         self.find('link').click()
-        self.wait(lambda: 'step=12' in browser.current_url)
+        self.wait(lambda: 'carries the script and the step' in self.text('told'))
         link = browser.current_url
-        self.assertIn('carries the script and the step', self.text('told'))
+        self.assertIn('step=12', link)
         for place in (link, link.replace('#', '?embed#')):
             self.open(place)
             self.wait(self.is_at_rest)

@@ -6,7 +6,7 @@
 /** The marks in the neutral string. */
 export const ACTIVE_CALL = 256;
 export const NEUTRAL_CALL = 257;
-export const COMMA = 258;
+const COMMA = 258;
 
 /**
  * What each rule of scanning does, and how many characters it looks at.

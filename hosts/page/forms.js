@@ -8,7 +8,7 @@ import { counted, piecesOf, several } from './codes.js';
 import { button, element, find, nodes, nodesOf, reveal } from './dom.js';
 
 /** How many forms are shown at once. */
-export const MOST_SHOWN = 50;
+const MOST_SHOWN = 50;
 const MOST_ITEMS = 1200;
 const letters = new TextDecoder('latin1');
 

@@ -22,7 +22,7 @@ const MOST_PEEKED = 2 ** 20;
 const GIVES_VALUES = new Set(['going', 'steps']);
 
 /** A list of growing numbers, in one row of memory. */
-export class Numbers {
+class Numbers {
     constructor() {
         this.row = new Float64Array(1024);
         this.length = 0;

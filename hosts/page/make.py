@@ -15,7 +15,7 @@ CODE = ['hosts/js/trac.mjs'] + [f'hosts/page/{name}.js' for name in (
     'codes', 'functions', 'machines', 'history', 'dom', 'block', 'strings', 'forms', 'output', 'boxes', 'search',
     'view', 'stepper', 'tree', 'trace', 'lessons', 'links', 'page')]
 IMPORT = re.compile(r"^import [^;]*? from '\.{1,2}/[^']*';\n", re.MULTILINE | re.DOTALL)
-NAME = re.compile(r'^(?:export )?(?:async )?(?:function|class|const|let) (\w+)', re.MULTILINE)
+NAME = re.compile(r'^(?:export )?(?:async )?(?:function\*?|class|const|let) (\w+)', re.MULTILINE)
 PART = re.compile('@([A-Z]+)@')
 
 

@@ -3,7 +3,7 @@
  * @module
  */
 
-import { counted, several } from './codes.js';
+import { counted } from './codes.js';
 import { find } from './dom.js';
 import { MOST_LISTED } from './history.js';
 import { pause } from './machines.js';
@@ -208,6 +208,7 @@ export class Stepper {
         for (const id of ['first', 'back']) turnOff(id, at === 0);
         for (const id of ['step', 'last']) turnOff(id, at === end.step);
         this.showCall();
+        if (this.timer && (at === end.step || this.isStop())) this.halt();
         this.onStep();
     }
 
@@ -263,6 +264,7 @@ export class Stepper {
     play() {
         if (!this.history) return;
         if (this.at === this.history.end.step) this.go(0);
+        window.clearInterval(this.timer);
         this.timer = window.setInterval(() => this.tick(), 1000 / Number(find('speed').value));
         find('rule').setAttribute('aria-live', 'off');
         this.showPlaying();
@@ -280,12 +282,11 @@ export class Stepper {
         find('play').textContent = this.timer ? 'Pause' : 'Play';
     }
 
-    /** Goes on by a step or a call, unless the last one is still gone to, and stops where it is wanted. */
+    /** Goes on by a step or a call, unless the last one is still gone to. */
     tick() {
         if (find('machine').getAttribute('aria-busy') === 'true') return;
         if (find('pace').value === 'calls') this.goNextCall(1);
         else this.go(this.at + 1);
-        if (this.at === this.history.end.step || this.isStop()) this.halt();
     }
 
     /** Whether the last step is one to stop at. */
@@ -294,10 +295,5 @@ export class Stepper {
         if (where === 'change') return this.view.changes;
         const name = find('stop-name').value.toLowerCase();
         return where === 'name' && this.history.performed?.words[0].toLowerCase() === name;
-    }
-
-    /** How many steps there are, in words. */
-    get length() {
-        return several(this.history.end.step, 'step');
     }
 }
