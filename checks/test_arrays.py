@@ -24,6 +24,8 @@ CONTRACT = re.compile(r'^ *(?:requires|ensures|ghost)\b.*?^(?= *(?:requires|ensu
                       re.MULTILINE | re.DOTALL)
 # What is no array: an index, an attribute, a slice behind a pointer, an array of no elements.
 NONE = re.compile(r"""(?<=[\w)\]?])\[|\[\]|\#!?\[[^\n]*|(?:&|->)\s*(?:'\w+\s+)?(?:mut\s+)?\[\w+\]|"(?:\\.|[^"\\])*"|//[^\n]*""")
+# A constant that is written over cells which are lent.
+WRITTEN = re.compile(r'^ *\*\w+ = \w+;$', re.MULTILINE)
 CONSTANT = re.compile(r'^ *(?:pub(?:\(\w+\))? )?(?:const|static) (\w+): ([^=;]*(?:;[^=]*)?)=[^;]*;', re.MULTILINE)
 
 
@@ -37,7 +39,7 @@ def copies(text):
     """The places where a constant array is used other than by an index, a method or a reference."""
     arrays = [name for name, kind in CONSTANT.findall(text) if kind.startswith('[')]
     return [found[0] for name in arrays for found in
-            re.finditer(rf'(?<!&)\b{name}\b(?![\[.:])[^\n]*', CONSTANT.sub('', text))]
+            re.finditer(rf'(?<!&)\b{name}\b(?![\[.:])[^\n]*', WRITTEN.sub('', CONSTANT.sub('', text)))]
 
 
 def sources():
@@ -66,7 +68,7 @@ class Arrays(unittest.TestCase):
             self.assertEqual(len(brackets(f'fn g() {{\n    {body}\n}}\n')), 1, body)
 
     def test_a_copy_of_a_constant_is_found(self):
-        text = 'const T: [u8; 2] = [1, 2];\nfn f() {\n    let copy = T;\n    let one = T[0];\n    g(&T);\n}\n'
+        text = 'const T: [u8; 2] = [1, 2];\nfn f() {\n    let copy = T;\n    let one = T[0];\n    g(&T);\n    *lent = T;\n}\n'
         self.assertEqual(copies(text), ['T;'])
 
 
