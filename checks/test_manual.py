@@ -1,4 +1,5 @@
-"""Each script of the manual, through the built program: it writes what the manual prints after it."""
+"""Each script of the manual, of the idioms and of the lesson, through the built program: it writes what the page
+prints after it."""
 import os
 import re
 import subprocess
@@ -18,18 +19,25 @@ def read(page='LANGUAGE.md'):
         return manual.read()
 
 
+# The pages, and the least number of scripts on them whose output is shown.
+PAGES = {'LANGUAGE.md': 41, 'IDIOMS.md': 8}
+
+
 class Manual(unittest.TestCase):
     def test_all_scripts_are_compared(self):
-        text = read()
-        compared = {found.start() for kind in (PAIR, TRACE) for found in kind.finditer(text)}
-        self.assertEqual(len(compared), text.count('```trac\n'))
+        for page in PAGES:
+            with self.subTest(page=page):
+                text = read(page)
+                compared = {found.start() for kind in (PAIR, TRACE) for found in kind.finditer(text)}
+                self.assertEqual(len(compared), text.count('```trac\n'))
 
     def test_examples(self):
-        pairs = PAIR.findall(read())
-        self.assertGreater(len(pairs), 40)
-        for script, output in pairs:
-            with self.subTest(script=script):
-                self.assertEqual(run(script[:-1]), (output[:-1].encode(), '', 0))
+        for page, least in PAGES.items():
+            pairs = PAIR.findall(read(page))
+            self.assertGreaterEqual(len(pairs), least)
+            for script, output in pairs:
+                with self.subTest(page=page, script=script):
+                    self.assertEqual(run(script[:-1]), (output[:-1].encode(), '', 0))
 
 
 class StrangersScript(unittest.TestCase):
