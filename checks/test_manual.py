@@ -20,7 +20,7 @@ def read(page='LANGUAGE.md'):
 
 
 # The pages, and the least number of scripts on them whose output is shown.
-PAGES = {'LANGUAGE.md': 41, 'IDIOMS.md': 8}
+PAGES = {'LANGUAGE.md': 41, 'IDIOMS.md': 8, 'LESSON.md': 10}
 
 
 class Manual(unittest.TestCase):
@@ -38,6 +38,21 @@ class Manual(unittest.TestCase):
             for script, output in pairs:
                 with self.subTest(page=page, script=script):
                     self.assertEqual(run(script[:-1]), (output[:-1].encode(), '', 0))
+
+
+class Lesson(unittest.TestCase):
+    def test_it_takes_ninety_minutes_in_ten_parts(self):
+        text = read('LESSON.md')
+        rows = re.findall(r'^\| (\d+) \| (?:\[(.*)\])?', text, re.MULTILINE)
+        self.assertEqual(sum(int(minutes) for minutes, _ in rows), 90)
+        self.assertEqual([part for _, part in rows if part], re.findall(r'^## (.*)$', text, re.MULTILINE))
+
+    def test_the_buttons_that_it_names_are_on_the_page(self):
+        with open(os.path.join(TOP, 'hosts', 'page', 'index.html'), encoding='utf-8') as page:
+            buttons = re.findall(r'<button[^>]*>(.*?)</button>', page.read())
+        named = set(re.findall(r'\*\*(.*?)\*\*', read('LESSON.md')))
+        self.assertGreaterEqual(len(named), 6)
+        self.assertLessEqual(named, set(buttons))
 
 
 class StrangersScript(unittest.TestCase):
