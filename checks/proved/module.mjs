@@ -34,6 +34,10 @@ for (const [name, call] of Object.entries({
         const session = await Session.open({ cells: 10 });
         session.restore({ ...session.save(), machine: new Uint8Array(3) });
     },
+    savedPages: async () => {
+        const session = await Session.open({ cells: 10 });
+        session.restore({ ...session.save(), pages: [{ place: 1, words: new Uint32Array(20) }] });
+    },
 })) {
     errors[name] = await errorOf(call);
 }

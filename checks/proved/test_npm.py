@@ -31,7 +31,7 @@ class Npm(unittest.TestCase):
             'stepsRange': 'RangeError: steps', 'option': 'TypeError: there is no option cell',
             'bytes': 'TypeError: bytes', 'input': 'TypeError: input',
             'how': 'TypeError: there is no option end', 'most': 'RangeError: most',
-            'saved': 'TypeError: saved'}
+            'saved': 'TypeError: saved', 'savedPages': 'TypeError: saved'}
         self.assertEqual(set(self.told['errors']), set(wanted))
         for name, begin in wanted.items():
             self.assertTrue((self.told['errors'][name] or '').startswith(begin),

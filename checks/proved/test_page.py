@@ -4,38 +4,15 @@ import glob
 import json
 import os
 import re
-import sys
 import unittest
 
+import page
+from page import LOOP, PLACE, By, Page, example
 from test_trace import rows as traced
-from trac import TOP, make, report, run, trace
+from trac import TOP, report, trace
+from selenium.webdriver.common.keys import Keys
 
-# Where Debian puts what belongs to no Python of one's own.
-sys.path.append('/usr/lib/python3/dist-packages')
-from selenium import webdriver  # noqa: E402
-from selenium.webdriver.common.by import By  # noqa: E402
-from selenium.webdriver.common.keys import Keys  # noqa: E402
-from selenium.webdriver.support.ui import WebDriverWait  # noqa: E402
-
-PAGE = os.path.join(TOP, 'dist', 'trac.html')
-PLACE = 'file://' + PAGE
 PICTURES = os.path.join(TOP, 'checks', 'pictures')
-MARKS = {256: '<#>', 257: '<##>', 258: '<,>'}
-ESCAPES = {9: '\\t', 10: '\\n', 13: '\\r', 92: '\\\\'}
-LOOP = "#(ds,loop,(#(gr,N,0,(#(cl,loop,#(su,N,1))))))#(ss,loop,N)#(cl,loop,{})'"
-
-# What a box shows, as codes: marks and escaped bytes by their own, text as UTF-8.
-CODES = """
-    const found = [];
-    const walk = (node) => {
-        if (node.nodeType === 3) found.push(...new TextEncoder().encode(node.data));
-        else if (node.matches('.depth, .nothing, .unseen')) return;
-        else if (node.dataset.code) found.push(Number(node.dataset.code));
-        else node.childNodes.forEach(walk);
-    };
-    document.getElementById(arguments[0]).childNodes.forEach(walk);
-    return found;
-"""
 
 # The texts of the page that can be seen, with the contrast to what lies behind each.
 CONTRAST = """
@@ -63,106 +40,14 @@ CONTRAST = """
 
 def setUpModule():
     global browser
-    make('dist/trac.html')
-    options = webdriver.ChromeOptions()
-    options.binary_location = '/usr/bin/chromium'
-    for word in ('--headless=new', '--no-sandbox', '--disable-gpu', '--disable-dev-shm-usage'):
-        options.add_argument(word)
-    options.set_capability('goog:loggingPrefs', {'browser': 'ALL', 'performance': 'ALL'})
-    service = webdriver.chrome.service.Service('/usr/bin/chromedriver')
-    browser = webdriver.Chrome(service=service, options=options)
-    browser.set_script_timeout(300)
-    unittest.addModuleCleanup(browser.quit)
-
-
-def shown(codes):
-    """Codes as trac_trace shows them."""
-    return ''.join(MARKS.get(code) or ESCAPES.get(code) or (
-        chr(code) if 32 <= code < 127 else f'\\x{code:02x}') for code in codes)
-
-
-def example(name):
-    with open(os.path.join(TOP, 'examples', name), 'rb') as file:
-        return file.read()
-
-
-class Page(unittest.TestCase):
-    """A page that was just opened."""
-
-    def setUp(self):
-        self.open(PLACE)
-
-    def open(self, place):
-        browser.get('about:blank')
-        browser.get(place)
-        self.wait(lambda: self.script('return document.readyState') == 'complete')
-        self.assertGreater(self.script("return document.getElementById('example').length"), 1)
-
-    def script(self, text, *words):
-        return browser.execute_script(text, *words)
-
-    def wait(self, condition, seconds=120):
-        WebDriverWait(browser, seconds, poll_frequency=0.02).until(lambda _: condition())
-
-    def find(self, name):
-        return browser.find_element(By.ID, name)
-
-    def text(self, name):
-        return self.script('return document.getElementById(arguments[0]).textContent', name)
-
-    def put(self, name, text):
-        self.script('const box = document.getElementById(arguments[0]); box.value = arguments[1];'
-                    "box.dispatchEvent(new Event('input'))", name, text)
-
-    def run_script(self, script, more='', cells=65536, steps=1000000):
-        for name, value in (('script', script), ('input', more), ('cells', cells),
-                            ('steps', steps)):
-            self.put(name, value)
-        self.run_it()
-
-    def run_it(self):
-        self.find('run').click()
-        self.wait(lambda: self.script("return document.getElementById('main').ariaBusy") == 'false')
-
-    def wait_for_calls(self):
-        self.wait(lambda: self.script(
-            "return document.getElementById('calls').dataset.listed") == 'all')
-
-    def steps(self):
-        """The steps done, and those of the whole run."""
-        return tuple(int(number.replace(',', ''))
-                     for number in re.findall(r'[\d,]+', self.text('count')))
-
-    def go(self, step):
-        self.put('slider', step)
-        self.assertEqual(self.steps()[0], step)
-
-    def walk(self, text):
-        """What a piece of JavaScript gives at each step from the first to the last."""
-        return self.script("""
-            const find = (id) => document.getElementById(id);
-            const look = new Function('find', `return ${arguments[0]}`);
-            find('first').click();
-            const found = [look(find)];
-            while (!find('step').disabled) {
-                find('step').click();
-                found.push(look(find));
-            }
-            return found;
-        """, text)
-
-    def strings(self):
-        return tuple(shown(self.script(CODES, name)) for name in ('neutral', 'active'))
-
-    def rule(self):
-        return self.text('rule-name').rstrip('.')
+    browser = page.start(watches=True)
 
 
 class Runs(Page):
     def test_examples(self):
         names = sorted(glob.glob('*.trac', root_dir=os.path.join(TOP, 'examples')))
-        options = self.find('example').find_elements(By.TAG_NAME, 'option')
-        self.assertEqual([option.text for option in options[1:]], [name[:-5] for name in names])
+        options = self.find('example').find_elements(By.CSS_SELECTOR, 'optgroup:last-child option')
+        self.assertEqual([option.text for option in options], [name[:-5] for name in names])
         for name in names:
             with self.subTest(example=name):
                 self.script("const choice = document.getElementById('example');"
@@ -260,7 +145,7 @@ class Steps(Page):
             self.put('calls', index)
             self.assertEqual((self.steps()[0], self.rule()), (calls[index], 'end of call'))
         self.find('first').click()
-        self.assertFalse(self.find('back').is_enabled() or self.find('call-back').is_enabled())
+        self.assertFalse(self.is_on('back') or self.is_on('call-back'))
 
     def test_output_so_far(self):
         self.run_script("#(ps,one)#(ps,two)'")
@@ -327,14 +212,18 @@ class Faults(Page):
             'return [document.activeElement.id,'
             ' box.value.slice(box.selectionStart, box.selectionEnd)]'), ['script', "#(cl,é)'"])
         self.find('script').send_keys('x')
-        self.assertEqual(self.text('script-marks'), '')
+        self.assertEqual(self.marks('script'), [])
+
+    def marks(self, name):
+        """The marked parts of a box."""
+        return self.script("return [...document.querySelectorAll(`#${arguments[0]}-marks mark`)]"
+                           '.map((mark) => mark.textContent)', name)
 
     def test_a_fault_in_the_further_input(self):
         self.run_script("#(ps,a)'", "\n#(ds,a,(#(cl,a)b))#(cl,a)'", 100)
         self.assertIn('begins in line 2, column 1 of the further input.', self.text('fate'))
-        self.assertEqual(self.text('script-marks'), '')
-        self.assertIn('#(ds,a', self.script(
-            "return document.querySelector('#input-marks mark').textContent"))
+        self.assertEqual(self.marks('script'), [])
+        self.assertIn('#(ds,a', self.marks('input')[0])
 
     def test_the_string_of_a_step(self):
         self.run_script("#(ps,one)'\n#(ps,two)'")
@@ -372,6 +261,9 @@ class Safety(Page):
         self.assertEqual([place for place in asked if place != 'about:blank'], [PLACE])
         self.assertEqual(self.script("return performance.getEntriesByType('resource').length"), 0)
 
+    def test_its_size(self):
+        self.assertLess(os.path.getsize(page.PAGE), 400000)
+
     def test_its_policy(self):
         broken = browser.execute_async_script("""
             const done = arguments[0];
@@ -405,8 +297,9 @@ class Links(Page):
         texts = ("#(ps,é \U0001f600 <b>+/=&#%)'", "more\n'")
         for name, value in zip(('script', 'input', 'cells', 'steps'), (*texts, '123', '4567')):
             self.put(name, value)
+        self.script("document.getElementById('settings').open = true")
         self.find('link').click()
-        self.wait(lambda: '#' in browser.current_url)
+        self.wait(lambda: 'carries the script' in self.text('told'))
         link = browser.current_url
         self.assertRegex(link, r'#script=[\w-]+&input=[\w-]+&cells=123&steps=4567$')
         self.assertIn('carries the script', self.text('told'))
@@ -418,7 +311,7 @@ class Links(Page):
         self.assertTrue(self.find('input').is_displayed())
 
     def test_a_link_that_is_broken(self):
-        for part in ('script=%%%', 'script=_w', 'script=a'):
+        for part in ('script=%%%', 'script=_w&input=a', 'script=a'):
             self.open(f'{PLACE}#{part}')
             self.assertIn('can’t be read', self.text('told'))
         self.open(f'{PLACE}#script=&cells=<b>')
@@ -448,20 +341,22 @@ class Hands(Page):
         self.run_script("#(ps,a)'")
         self.wait_for_calls()
         self.go(12)
+        self.script("document.getElementById('settings').open = true")
         self.find('example').send_keys(Keys.TAB)
         met = []
-        for _ in range(24):
+        for _ in range(34):
             at = browser.switch_to.active_element
             met.append(at.get_attribute('id') or at.tag_name)
             at.send_keys(Keys.TAB)
-        wanted = ['script', 'summary', 'cells', 'steps', 'run', 'link', 'output', 'first',
-                  'call-back', 'back', 'step', 'call-step', 'last', 'slider', 'calls', 'neutral',
-                  'active', 'forms', 'summary']
+        wanted = ['script', 'summary', 'through', 'run', 'summary', 'cells', 'steps', 'link', 'open', 'save',
+                  'output', 'save-output', 'save-trace', 'summary', 'summary', 'slider', 'first', 'call-back', 'back',
+                  'step', 'call-step', 'last', 'neutral', 'active', 'forms', 'calls', 'jump', 'jump-go', 'play',
+                  'speed', 'pace', 'stop-at', 'summary', 'summary']
         self.assertEqual(met[:len(wanted)], wanted)
 
     def test_names(self):
         self.run_script("#(ps,a)'")
-        self.script("document.getElementById('more').open = true")
+        self.script("document.querySelectorAll('details').forEach((part) => { part.open = true; })")
         found = browser.find_elements(By.CSS_SELECTOR, 'button, input, select, textarea, '
                                       '[tabindex], [role=img]')
         self.assertGreaterEqual(len(found), 20)

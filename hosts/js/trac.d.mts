@@ -62,7 +62,9 @@ export const MOST_CELLS: 16777216;
  * @typedef {object} Saved
  * @property {number} cells
  * @property {Uint8Array} machine
- * @property {Uint8Array | null} block null where there was no turn yet: what it holds is nothing then
+ * @property {{place: number, words: Uint32Array}[] | null} pages those pages of the block in which some
+ * word isn't 0, and in front of how many words each stands; null where there was no turn yet: what the
+ * block holds is nothing then
  * @property {bigint} steps
  * @property {Uint8Array} cut the bytes of a character that the last turn cut
  */
@@ -265,9 +267,14 @@ export type Saved = {
     cells: number;
     machine: Uint8Array;
     /**
-     * null where there was no turn yet: what it holds is nothing then
+     * those pages of the block in which some
+     * word isn't 0, and in front of how many words each stands; null where there was no turn yet: what the
+     * block holds is nothing then
      */
-    block: Uint8Array | null;
+    pages: {
+        place: number;
+        words: Uint32Array;
+    }[] | null;
     steps: bigint;
     /**
      * the bytes of a character that the last turn cut

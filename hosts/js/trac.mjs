@@ -14,6 +14,9 @@ export const MOST_CELLS = 16777216;
 
 const CELL_SIZE = 8;
 const CODE_SIZE = 4;
+const WORDS_IN_CELL = 2;
+/** The words of 32 bits in a page of a block. */
+const PAGE_WORDS = 16384;
 const REPORT_SIZE = 40;
 const LARGEST = 2n ** 64n - 1n;
 const REFUSED = 9;
@@ -308,6 +311,55 @@ function joined(rows) {
 }
 
 /**
+ * Whether all words are 0.
+ * @param {Uint32Array} words
+ */
+function areZero(words) {
+    let place = 0;
+    while (place < words.length && words[place] === 0) place += 1;
+    return place === words.length;
+}
+
+/**
+ * Copies of those pages of a block in which some word isn't 0.
+ * @param {Uint32Array} block
+ */
+function pagesOf(block) {
+    const pages = [];
+    for (let place = 0; place < block.length; place += PAGE_WORDS) {
+        const page = block.subarray(place, place + PAGE_WORDS);
+        if (!areZero(page)) pages.push({ place, words: page.slice() });
+    }
+    return pages;
+}
+
+/**
+ * Whether something is what `pagesOf` gives for a block of so many words, or null.
+ * @param {unknown} pages
+ * @param {number} length
+ */
+function arePages(pages, length) {
+    return pages === null || (Array.isArray(pages) && pages.every((page) => (
+        page?.words instanceof Uint32Array && Number.isInteger(page.place) && page.place >= 0
+        && page.place + page.words.length <= length)));
+}
+
+/**
+ * Makes a block what it was when its pages were taken.
+ * @param {Uint32Array} block
+ * @param {{place: number, words: Uint32Array}[]} pages
+ */
+function layPages(block, pages) {
+    let from = 0;
+    for (const { place, words } of pages) {
+        block.fill(0, from, place);
+        block.set(words, place);
+        from = place + words.length;
+    }
+    block.fill(0, from);
+}
+
+/**
  * What a turn came to.
  * @typedef {object} TurnReport
  * @property {'going' | 'wants input' | 'wants output' | 'halted' | 'input ended' | 'workspace' |
@@ -339,7 +391,9 @@ function joined(rows) {
  * @typedef {object} Saved
  * @property {number} cells
  * @property {Uint8Array} machine
- * @property {Uint8Array | null} block null where there was no turn yet: what it holds is nothing then
+ * @property {{place: number, words: Uint32Array}[] | null} pages those pages of the block in which some
+ * word isn't 0, and in front of how many words each stands; null where there was no turn yet: what the
+ * block holds is nothing then
  * @property {bigint} steps
  * @property {Uint8Array} cut the bytes of a character that the last turn cut
  */
@@ -539,11 +593,10 @@ export class Session {
      * @returns {Saved}
      */
     save() {
-        const block = this.#bytes(this.#block, this.#cells * CELL_SIZE);
         return {
             cells: this.#cells,
             machine: this.#bytes(this.#machine, this.#machineSize).slice(),
-            block: this.#used ? block.slice() : null,
+            pages: this.#used ? pagesOf(this.#words()) : null,
             steps: this.#steps,
             cut: this.#cut.slice(),
         };
@@ -557,17 +610,15 @@ export class Session {
      * @throws {RangeError} where that one had another number of cells; this one is as before then
      */
     restore(saved) {
-        const { cells, machine, block, steps, cut } = saved;
+        const { cells, machine, pages, steps, cut } = saved;
         if (cells !== this.#cells) throw new RangeError('saved with another number of cells');
         const isMachine = machine instanceof Uint8Array && machine.length === this.#machineSize;
-        const isBlock = block === null
-            || (block instanceof Uint8Array && block.length === this.#cells * CELL_SIZE);
-        if (!isMachine || !isBlock || typeof steps !== 'bigint' || !(cut instanceof Uint8Array)) {
+        if (!isMachine || !arePages(pages, this.#words().length) || typeof steps !== 'bigint' || !(cut instanceof Uint8Array)) {
             throw new TypeError('saved must be what save gives');
         }
         this.#bytes(this.#machine, this.#machineSize).set(machine);
-        if (block) this.#bytes(this.#block, this.#cells * CELL_SIZE).set(block);
-        this.#used = block !== null;
+        if (pages) layPages(this.#words(), pages);
+        this.#used = pages !== null;
         this.#steps = steps;
         this.#cut = cut.slice();
     }
@@ -611,6 +662,12 @@ export class Session {
      */
     #bytes(place, length) {
         return new Uint8Array(this.#engine.memory.buffer, Number(place), length);
+    }
+
+    /** The block, as words of 32 bits; good until the memory grows. */
+    #words() {
+        return new Uint32Array(
+            this.#engine.memory.buffer, Number(this.#block), this.#cells * WORDS_IN_CELL);
     }
 
     /**

@@ -6,9 +6,12 @@
 /** The marks in the neutral string. */
 export const ACTIVE_CALL = 256;
 export const NEUTRAL_CALL = 257;
-export const COMMA = 258;
+const COMMA = 258;
 
-/** What each rule of scanning does, and how many characters it looks at. */
+/**
+ * What each rule of scanning does, and how many characters it looks at.
+ * @type {Record<string, {taken: number, says: string}>}
+ */
 export const RULES = {
     idling: {
         taken: 0,
@@ -38,6 +41,9 @@ export const RULES = {
     character: { taken: 1, says: 'The character is taken over as it stands.' },
 };
 
+const LONGEST_RUN = 4096;
+/** Of how many characters a line is made at most. */
+export const MOST_IN_LINE = 400;
 const NAMED = new Map([[9, '\\t'], [10, '\\n'], [13, '\\r']]);
 const HIDDEN = /[\p{Cc}\p{Cf}\p{Co}\p{Cn}\p{Cs}\p{Zl}\p{Zp}]/u;
 const decoder = new TextDecoder('utf-8', { fatal: true, ignoreBOM: true });
@@ -54,14 +60,14 @@ function widthOf(byte) {
 
 /**
  * The visible character that begins at a place, or null where none does.
- * @param {ArrayLike<number>} codes
+ * @param {Codes} codes
  * @param {number} place
  * @param {Set<number>} stops places that it may not reach over
  */
 function characterAt(codes, place, stops) {
     const width = widthOf(codes[place]);
-    const bytes = Array.prototype.slice.call(codes, place, place + width);
-    if (bytes.some((code, at) => code > 255 || (at && stops.has(place + at)))) return null;
+    const bytes = Array.from(codes.subarray(place, place + width));
+    if (bytes.some((code, at) => code > 255 || (at > 0 && stops.has(place + at)))) return null;
     try {
         const text = decoder.decode(Uint8Array.from(bytes));
         return HIDDEN.test(text) ? null : { text, width };
@@ -79,27 +85,58 @@ function escaped(byte) {
 }
 
 /**
+ * How many characters of plain ASCII there are from a place on, up to a stop.
+ * @param {Codes} codes
+ * @param {number} place
+ * @param {Set<number>} stops
+ */
+function plainLength(codes, place, stops) {
+    let to = place;
+    const end = Math.min(codes.length, place + LONGEST_RUN);
+    while (to < end && codes[to] >= 32 && codes[to] < 127 && !(to > place && stops.has(to))) to += 1;
+    return to - place;
+}
+
+/**
+ * What is visible at a place, or null where that is no visible character.
+ * @param {Codes} codes
+ * @param {number} place
+ * @param {Set<number>} stops
+ */
+function visibleAt(codes, place, stops) {
+    const width = plainLength(codes, place, stops);
+    if (!width) return codes[place] > 255 ? null : characterAt(codes, place, stops);
+    return { text: String.fromCharCode(...codes.subarray(place, place + width)), width };
+}
+
+/**
+ * A row of bytes, or of codes.
+ * @typedef {Uint8Array | Uint32Array} Codes
+ */
+
+/**
  * A part of what is shown: plain text, an escaped byte, or a code above 255.
  * @typedef {{kind: 'text' | 'escape' | 'mark', text: string, code: number, at: number}} Piece
  */
 
 /**
  * The pieces of a row of codes: what is visible in one piece, other bytes escaped, UTF-8 as such.
- * @param {ArrayLike<number>} codes
+ * @param {Codes} codes
  * @param {Iterable<number>} [breaks] places at which a piece must begin, in order
  * @returns {Piece[]}
  */
 export function piecesOf(codes, breaks = []) {
+    /** @type {Piece[]} */
     const pieces = [];
     const stops = new Set(breaks);
     let open = null;
     for (let at = 0; at < codes.length;) {
         const code = codes[at];
-        const found = code > 255 ? null : characterAt(codes, at, stops);
+        const found = visibleAt(codes, at, stops);
         if (found && open && !stops.has(at)) {
             open.text += found.text;
         } else if (found) {
-            open = { kind: 'text', text: found.text, code, at };
+            open = /** @type {Piece} */ ({ kind: 'text', text: found.text, code, at });
             pieces.push(open);
         } else {
             open = null;
@@ -129,11 +166,13 @@ export function plainText(bytes) {
  */
 export function openCalls(codes) {
     const rows = [{ mark: 0, from: 0, to: codes.length }];
-    codes.forEach((code, place) => {
-        if (code !== ACTIVE_CALL && code !== NEUTRAL_CALL) return;
-        rows[rows.length - 1].to = place;
-        rows.push({ mark: code, from: place + 1, to: codes.length });
-    });
+    for (let place = 0; place < codes.length; place += 1) {
+        const code = codes[place];
+        if (code === ACTIVE_CALL || code === NEUTRAL_CALL) {
+            rows[rows.length - 1].to = place;
+            rows.push({ mark: code, from: place + 1, to: codes.length });
+        }
+    }
     return rows;
 }
 
@@ -182,18 +221,87 @@ export function stepsToCall(codes) {
 }
 
 /**
- * The arguments of the innermost open call, each as plain text; the first is the function's name.
- * @param {Uint32Array} codes the neutral string
+ * The innermost open call of a neutral string: its mark, the place of that, and its arguments as plain
+ * text, the function's name first. Null where no call is open.
+ * @param {Uint32Array} codes
  */
 export function innermostCall(codes) {
-    const { mark, from, to } = openCalls(codes).at(-1);
-    if (!mark) return null;
-    const words = [[]];
-    for (const code of codes.subarray(from, to)) {
-        if (code === COMMA) words.push([]);
-        else words.at(-1).push(code);
+    let place = codes.length - 1;
+    while (place >= 0 && codes[place] !== ACTIVE_CALL && codes[place] !== NEUTRAL_CALL) place -= 1;
+    if (place < 0) return null;
+    /** @type {string[]} */
+    const words = [];
+    for (let from = place + 1; from <= codes.length;) {
+        const comma = codes.indexOf(COMMA, from);
+        const to = comma < 0 ? codes.length : comma;
+        words.push(lineOf(codes.subarray(from, to)));
+        from = to + 1;
     }
-    return words.map((word) => piecesOf(word).map(({ text }) => text).join(''));
+    return { mark: codes[place], place, words };
+}
+
+/**
+ * The front of a row of codes as one line, with what is no visible character escaped.
+ * @param {Codes} codes
+ */
+export function lineOf(codes) {
+    const line = piecesOf(codes.subarray(0, MOST_IN_LINE)).map(({ text }) => text).join('');
+    return codes.length > MOST_IN_LINE ? `${line}…` : line;
+}
+
+/**
+ * A text, or its front where it is long.
+ * @param {string} text
+ */
+export function shortName(text) {
+    return text.length > 40 ? `${text.slice(0, 40)}…` : text;
+}
+
+/**
+ * Whether a string that begins with a left parenthesis has none that matches it.
+ * @param {Uint32Array} codes
+ */
+export function isUnmatched(codes) {
+    let depth = 0;
+    for (let place = 0; place < codes.length; place += 1) {
+        if (codes[place] === 40) depth += 1;
+        if (codes[place] === 41) depth -= 1;
+        if (!depth) return false;
+    }
+    return true;
+}
+
+/**
+ * A text parted at its parentheses, each of which has the depth of the call or the text it belongs to.
+ * @param {string} text
+ * @param {number} [open] how many are open in front of it
+ * @returns {{text: string, depth: number, at: number}[]} the depth is 0 of what is no parenthesis
+ */
+export function byDepth(text, open = 0) {
+    const parts = [];
+    let depth = open;
+    for (const { 0: part, index } of text.matchAll(/[()]|[^()]+/g)) {
+        if (part === '(') depth += 1;
+        parts.push({ text: part, depth: part === '(' || part === ')' ? Math.max(0, depth) : 0, at: index });
+        if (part === ')') depth = Math.max(0, depth - 1);
+    }
+    return parts;
+}
+
+/**
+ * The place of the parenthesis that belongs to the one at a place, or -1.
+ * @param {string} text
+ * @param {number} place
+ */
+export function partnerOf(text, place) {
+    const way = text[place] === '(' ? 1 : -1;
+    let depth = 0;
+    for (let at = place; at >= 0 && at < text.length; at += way) {
+        if (text[at] === '(') depth += way;
+        if (text[at] === ')') depth -= way;
+        if (depth === 0) return at;
+    }
+    return -1;
 }
 
 /**

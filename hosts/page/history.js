@@ -1,112 +1,25 @@
 /**
  * The steps of one run, each of which can be gone to. A run is wholly determined by its script, so a
- * step is reached from the nearest place that was kept, by making the steps from there again.
+ * step is reached from the nearest machine that was kept, by making the steps from there again.
  * Nothing here touches the document.
  * @module
  */
 
 import { Session } from '../js/trac.mjs';
-import { stepsToCall } from './codes.js';
+import { ACTIVE_CALL, innermostCall } from './codes.js';
+import { changesForms } from './functions.js';
+import {
+    Kept, Pace, SLICE, Walker, pause,
+} from './machines.js';
 
-/** Of how many steps at most the calls are listed. */
+/** Of how many steps at most the calls are listed. Later ones are looked for when they are wanted. */
 export const MOST_LISTED = 5000000;
 
-const KEPT_BYTES = 2 ** 26;
-const MOST_KEPT = 64;
-const STEPS_AT_ONCE = 50000;
-const LOOKED_AT = 64;
-const MILLISECONDS = 12;
-const NOTHING = new Uint8Array(0);
-// The neutral string where the idling procedure reads: #(ps,#(rs
-const READING = [256, 112, 115, 258, 256, 114, 115];
-
-/** Lets the page do its other work. */
-function pause() {
-    return new Promise((resolve) => {
-        setTimeout(resolve);
-    });
-}
-
-/**
- * A machine that makes the steps of a run, over input of which it takes pieces as it wants them.
- */
-class Walker {
-    /**
-     * @param {Session} session
-     * @param {Uint8Array} input
-     */
-    constructor(session, input) {
-        this.session = session;
-        this.input = input;
-        this.state = { step: 0, consumed: 0, printed: 0, peak: 0, fate: 'going' };
-        /** Called with each text that is printed. */
-        this.onPrinted = () => {};
-        /** Called with the place of each string that the idling procedure has read. */
-        this.onString = () => {};
-    }
-
-    /**
-     * Makes so many steps, or those up to the end of the run.
-     * @param {number} most
-     */
-    advance(most) {
-        const goal = this.state.step + most;
-        while (this.state.step < goal) {
-            this.note(this.session.turn(NOTHING, { most: goal - this.state.step }));
-            if (this.state.fate === 'going') return;
-            if (this.state.fate !== 'wants input') return;
-            this.read();
-        }
-    }
-
-    /** Makes the step that reads. */
-    read() {
-        const { consumed } = this.state;
-        const idles = this.isIdlingRead();
-        for (let size = 4096; ; size *= 8) {
-            const piece = this.input.subarray(consumed, consumed + size);
-            const ended = consumed + size >= this.input.length;
-            this.note(this.session.turn(piece, { ended, most: 1 }));
-            if (this.state.fate !== 'wants input') break;
-        }
-        if (idles && this.state.fate === 'going') {
-            this.onString({ step: this.state.step, from: consumed, to: this.state.consumed });
-        }
-    }
-
-    /** Whether the next step reads a string for the idling procedure. */
-    isIdlingRead() {
-        if (this.session.rule() !== 'end of call') return false;
-        const { neutral } = this.session.parts();
-        if (neutral !== READING.length) return false;
-        const codes = this.session.neutral();
-        return READING.every((code, place) => codes[place] === code);
-    }
-
-    /**
-     * Takes over what a turn came to.
-     * @param {import('../js/trac.mjs').TurnReport} told
-     */
-    note({ fate, steps, peak, output, consumed }) {
-        this.state.step = Number(steps);
-        this.state.peak = peak;
-        this.state.fate = fate;
-        this.state.consumed += consumed;
-        this.state.printed += output.length;
-        if (output.length) this.onPrinted(output);
-    }
-
-    /** All that it takes to come back here. */
-    save() {
-        return { state: { ...this.state }, machine: this.session.save() };
-    }
-
-    /** @param {ReturnType<Walker['save']>} saved */
-    restore({ state, machine }) {
-        this.session.restore(machine);
-        this.state = { ...state };
-    }
-}
+const MOST_NEAR = 8;
+const NEAR_BYTES = 2 ** 23;
+const NEAREST = 256;
+const MOST_PEEKED = 2 ** 20;
+const GIVES_VALUES = new Set(['going', 'steps']);
 
 /** A list of growing numbers, in one row of memory. */
 class Numbers {
@@ -146,6 +59,95 @@ class Numbers {
     }
 }
 
+/** The strings that the idling procedure reads: after which step, and which part of the input. */
+class Strings {
+    constructor() {
+        this.steps = new Numbers();
+        this.from = new Numbers();
+        this.to = new Numbers();
+    }
+
+    /** @param {{step: number, from: number, to: number}} place */
+    push({ step, from, to }) {
+        this.steps.push(step);
+        this.from.push(from);
+        this.to.push(to);
+    }
+
+    /**
+     * The one that is being scanned after a step, or null.
+     * @param {number} step
+     */
+    at(step) {
+        const index = this.steps.upTo(step) - 1;
+        if (index < 0) return null;
+        return {
+            step: this.steps.at(index), from: this.from.at(index), to: this.to.at(index),
+        };
+    }
+
+    /**
+     * The step after which the next one is read, or null.
+     * @param {number} step
+     */
+    after(step) {
+        const index = this.steps.upTo(step);
+        return index < this.steps.length ? this.steps.at(index) : null;
+    }
+}
+
+/** What was printed up to which step, told from time to time. */
+class Printings {
+    constructor() {
+        this.steps = new Numbers();
+        this.printed = new Numbers();
+    }
+
+    /**
+     * @param {number} step
+     * @param {number} printed bytes up to there
+     */
+    note(step, printed) {
+        const last = this.printed.length - 1;
+        if (last >= 0 && this.printed.at(last) === printed) this.steps.row[last] = step;
+        else {
+            this.steps.push(step);
+            this.printed.push(printed);
+        }
+    }
+
+    /**
+     * A step up to which no more than so many bytes are printed, as far on as is known.
+     * @param {number} printed
+     */
+    before(printed) {
+        const count = this.printed.upTo(printed);
+        return count ? this.steps.at(count - 1) : 0;
+    }
+}
+
+/**
+ * A call that a step performs.
+ * @typedef {object} Call
+ * @property {number} mark its mark in the neutral string
+ * @property {number} place where that stands
+ * @property {string[]} words its arguments, the name of the function first
+ * @property {number} active how many characters the active string has
+ */
+
+/**
+ * A call that was performed, and the forms before, if it may have changed one.
+ * @typedef {Call & {forms: import('../js/trac.mjs').StoredForm[] | null}} Performed
+ */
+
+/**
+ * What a call gave.
+ * @typedef {object} Value
+ * @property {boolean} isActive whether it stands in front of the active string, to be scanned again
+ * @property {Uint32Array} codes
+ * @property {string[]} words the arguments of the call, the name of the function first
+ */
+
 /** A run of a script, and the step that is looked at. */
 export class History {
     /**
@@ -167,65 +169,70 @@ export class History {
         this.shown = shown;
         this.lister = lister;
         this.limits = limits;
+        this.pace = new Pace();
         /** The steps after which a call is performed by the next step, as far as they are listed. */
         this.calls = new Numbers();
         /** Up to which step they are listed. */
         this.listed = 0;
-        this.strings = [];
-        this.kept = [shown.save()];
+        this.strings = new Strings();
+        this.printings = new Printings();
+        this.kept = new Kept(shown.save(), limits.cells);
+        /** @type {ReturnType<Walker['save']>[]} */
+        this.near = [];
+        /** @type {Uint8Array[]} */
         this.output = [];
+        /** @type {import('./machines.js').Progress} */
         this.end = null;
-        this.stopped = false;
-        this.left = false;
+        /**
+         * The call that the last step performed, or null.
+         * @type {Performed | null}
+         */
+        this.performed = null;
+        /** The step for which that is known. */
+        this.noted = 0;
         shown.onPrinted = (text) => this.end || this.output.push(text);
         shown.onString = (place) => this.end || this.strings.push(place);
     }
 
-    /** Ends `run` as soon as may be. */
-    stop() {
-        this.stopped = true;
-    }
-
-    /** Ends `list` too. */
-    leave() {
-        this.stopped = true;
-        this.left = true;
-    }
-
     /**
      * Runs to the end, or until it is stopped.
+     * @param {AbortSignal} signal
      * @param {(step: number) => void} onStep told of the step from time to time
      */
-    async run(onStep) {
+    async run(signal, onStep) {
         const { shown } = this;
-        while (!this.stopped && !this.isOver()) {
-            const start = performance.now();
-            while (performance.now() - start < MILLISECONDS && !this.isOver()) {
-                shown.advance(STEPS_AT_ONCE);
-            }
+        while (!signal.aborted && !shown.isOver) {
+            const until = performance.now() + SLICE;
+            while (performance.now() < until && !shown.isOver) this.runSome(until);
             onStep(shown.state.step);
             await pause();
         }
         this.end = { ...shown.state };
     }
 
-    /** Whether the run that is made is over. */
-    isOver() {
-        return this.shown.state.fate !== 'going';
+    /**
+     * Runs up to the next place at which a machine is kept.
+     * @param {number} until a time of `performance.now`
+     */
+    runSome(until) {
+        const { shown, kept } = this;
+        const { due } = kept;
+        this.pace.advance(shown, due, until);
+        this.printings.note(shown.state.step, shown.state.printed);
+        if (shown.state.step === due && !shown.isOver) kept.add(shown.save());
     }
 
     /**
-     * Lists the calls, and keeps the machine at places that are not far from each other.
+     * Lists the calls.
+     * @param {AbortSignal} signal
      * @param {() => void} onMore told from time to time that there are more
      */
-    async list(onMore) {
+    async list(signal, onMore) {
         const last = Math.min(this.end.step, MOST_LISTED);
-        const count = Math.min(MOST_KEPT, Math.floor(KEPT_BYTES / (8 * this.limits.cells)));
-        const apart = Math.ceil((this.end.step + 1) / (count + 1));
-        while (!this.left && this.listed < last) {
+        while (!signal.aborted && this.listed < last) {
             const start = performance.now();
-            while (this.listed < last && performance.now() - start < MILLISECONDS) {
-                this.listSome(Math.min(last, this.listed + 2000), apart);
+            while (this.listed < last && performance.now() - start < SLICE / 2) {
+                this.listSome(Math.min(last, this.listed + 2000));
             }
             onMore();
             await pause();
@@ -233,46 +240,131 @@ export class History {
         this.lister = null;
     }
 
-    /**
-     * @param {number} goal the step up to which calls are listed
-     * @param {number} apart how many steps lie between two kept places at least
-     */
-    listSome(goal, apart) {
+    /** @param {number} goal the step up to which calls are listed */
+    listSome(goal) {
         const { lister } = this;
         while (lister.state.step < goal) {
             const { step } = lister.state;
-            const { steps, isCall } = stepsToCall(lister.session.active(LOOKED_AT));
+            const { steps, isCall } = lister.toCall();
             if (isCall && step + steps < goal) this.calls.push(step + steps);
             lister.advance(Math.min(isCall ? steps + 1 : steps, goal - step));
-            if (lister.state.step >= this.kept.at(-1).state.step + apart) {
-                this.kept.push(lister.save());
-            }
         }
         this.listed = goal;
     }
 
     /**
-     * Goes to a step.
+     * Goes on towards a step for some milliseconds at most.
      * @param {number} step
+     * @returns {boolean} whether it is reached; else the same is called again, with a pause between
      */
-    seek(step) {
+    approach(step) {
         const goal = Math.max(0, Math.min(step, this.end.step));
-        const here = this.shown.state.step;
-        const nearest = this.kept.findLast(({ state }) => state.step <= goal);
+        const until = performance.now() + SLICE;
+        this.comeNear(goal);
+        while (this.step < goal) {
+            const stop = this.stopBefore(goal);
+            if (stop === goal) this.notePerformed();
+            this.pace.advance(this.shown, stop, until);
+            if (this.step < stop) return false;
+            if (stop < goal - 1) this.keepNear();
+        }
+        return true;
+    }
+
+    /**
+     * Restores the nearest machine, unless the steps from this one are fewer.
+     * @param {number} goal
+     */
+    comeNear(goal) {
+        if (this.step === goal && this.noted === goal) return;
+        const nearest = this.nearest(Math.max(0, goal - 1));
         // a step for which there were too few cells has left its traces in the strings
         const isSpoiled = this.shown.state.fate === 'workspace';
-        if (goal < here || nearest.state.step > here || isSpoiled) this.shown.restore(nearest);
-        this.shown.advance(goal - this.shown.state.step);
+        if (this.step < goal && nearest.state.step <= this.step && !isSpoiled) return;
+        this.shown.restore(nearest);
+        this.performed = null;
+        this.noted = nearest.state.step;
+    }
+
+    /**
+     * The last machine that is kept and isn't behind a step.
+     * @param {number} step
+     */
+    nearest(step) {
+        return this.near.reduce(
+            (best, saved) => (saved.state.step <= step && saved.state.step > best.state.step
+                ? saved : best),
+            this.kept.before(step));
+    }
+
+    /**
+     * Where to stop next on the way to a step: the nearer it is, the shorter the way.
+     * @param {number} goal
+     */
+    stopBefore(goal) {
+        const left = goal - this.step;
+        if (left === 1) return goal;
+        if (left <= NEAREST) return goal - 1;
+        let distance = NEAREST;
+        while (distance * 4 < left) distance *= 4;
+        return goal - distance;
+    }
+
+    /** Keeps the machine on the way to a step, so that those in front of it are near too. */
+    keepNear() {
+        if (this.limits.cells > MOST_PEEKED) return;
+        const saved = this.shown.save();
+        if (saved.bytes > NEAR_BYTES) return;
+        this.near.push(saved);
+        if (this.near.length > MOST_NEAR) this.near.shift();
+    }
+
+    /** The call that the next step performs, or null. */
+    coming() {
+        const { machine } = this;
+        if (machine.rule() !== 'end of call') return null;
+        const call = innermostCall(machine.neutral());
+        return call && { ...call, active: machine.parts().active };
+    }
+
+    /** Notes what the next step performs, if it is a call, and the forms that it may change. */
+    notePerformed() {
+        const call = this.coming();
+        this.noted = this.step + 1;
+        this.performed = call && {
+            ...call, forms: changesForms(call.words[0]) ? this.machine.forms() : null,
+        };
+    }
+
+    /**
+     * What a call gave that the last step performed, or null where it performed none that is over.
+     * @param {Call | null} [call]
+     * @returns {Value | null}
+     */
+    value(call = this.performed) {
+        if (!call || !GIVES_VALUES.has(this.shown.state.fate)) return null;
+        const { machine } = this;
+        const grown = machine.parts().active - (call.active - 1);
+        if (grown > 0 || call.mark === ACTIVE_CALL) {
+            return { isActive: true, codes: machine.active(grown), words: call.words };
+        }
+        return { isActive: false, codes: machine.neutral().subarray(call.place), words: call.words };
+    }
+
+    /**
+     * What the call gives that the next step performs: the step is made, and taken back. Null where
+     * the block is so large that this takes long, and where the step gives nothing.
+     * @returns {Value | null}
+     */
+    comingValue() {
+        if (this.limits.cells > MOST_PEEKED || this.step >= this.end.step) return null;
+        const call = this.coming();
+        return this.shown.attempt(() => this.value(call));
     }
 
     /** The step that is looked at: so many steps are done. */
     get step() {
         return this.shown.state.step;
-    }
-
-    /** The place of the string that is being scanned, or null where none was read. */
-    get string() {
-        return this.strings.findLast(({ step }) => step <= this.step) ?? null;
     }
 
     /** The machine at the step that is looked at. */

@@ -1,5 +1,5 @@
 """Makes the page one file: make.py MODULE VERSION PAGE. The module for browsers, its JavaScript, the
-page's own and the examples stand inside; a policy in its head forbids every connection."""
+page's own, the examples and the exercises stand inside; a policy in its head forbids every connection."""
 import base64
 import glob
 import hashlib
@@ -11,10 +11,11 @@ import sys
 FOLDER = os.path.dirname(os.path.abspath(__file__))
 TOP = os.path.dirname(os.path.dirname(FOLDER))
 # Each file's imports name only files that stand before it here.
-CODE = ['hosts/js/trac.mjs', 'hosts/page/codes.js', 'hosts/page/history.js', 'hosts/page/view.js',
-        'hosts/page/page.js']
+CODE = ['hosts/js/trac.mjs'] + [f'hosts/page/{name}.js' for name in (
+    'codes', 'functions', 'machines', 'history', 'dom', 'block', 'strings', 'forms', 'output', 'boxes', 'search',
+    'view', 'stepper', 'tree', 'trace', 'lessons', 'links', 'page')]
 IMPORT = re.compile(r"^import [^;]*? from '\.{1,2}/[^']*';\n", re.MULTILINE | re.DOTALL)
-NAME = re.compile(r'^(?:export )?(?:async )?(?:function|class|const|let) (\w+)', re.MULTILINE)
+NAME = re.compile(r'^(?:export )?(?:async )?(?:function\*?|class|const|let) (\w+)', re.MULTILINE)
 PART = re.compile('@([A-Z]+)@')
 
 
@@ -36,11 +37,45 @@ def code(version):
 
 
 def examples():
-    """The examples as JSON that can stand in an element."""
-    found = []
+    """The examples, the larger scripts behind those of the lesson."""
     for path in sorted(glob.glob(os.path.join(TOP, 'examples', '*.trac'))):
         with open(path, encoding='utf-8', newline='') as file:
-            found.append({'name': os.path.basename(path)[:-5], 'script': file.read()})
+            yield {'name': os.path.basename(path)[:-5], 'script': file.read()}
+
+
+def lesson():
+    """The scripts of lesson.md: each with its sentence and what it prints."""
+    for name, says, script, output in re.findall(
+            r'^### ([^\n]*)\n\n(.*?)\n\n```trac\n(.*?)\n```\n```output\n(.*?)\n```$',
+            read('hosts', 'page', 'lesson.md'), re.MULTILINE | re.DOTALL):
+        yield {'name': name, 'says': says.replace('\n', ' '), 'script': script, 'output': output}
+
+
+def exercises():
+    """The exercises of docs/EXERCISES.md: each with its words, its input and what is to be printed."""
+    for name, text in re.findall(r'^### (\d+\. [^\n]*)\n(.*?)(?=^##)', read('docs', 'EXERCISES.md') + '##',
+                                 re.MULTILINE | re.DOTALL):
+        blocks = dict(re.findall(r'^```(input|output)\n(.*?)^```$', text, re.MULTILINE | re.DOTALL))
+        words = re.sub(r'^```(?:input|output)\n.*?^```$|\[A solution\].*', '', text, flags=re.MULTILINE | re.DOTALL)
+        parts = [part.strip() for part in re.split(r'```(?:trac)?\n|\n\n', words) if part.strip()]
+        yield {'name': name, 'task': [part if part.startswith('#(') else part.replace('\n', ' ') for part in parts],
+               'input': blocks.get('input', ''), 'output': blocks['output']}
+
+
+def functions():
+    """The table of functions of docs/LANGUAGE.md, each row with the first script of the function's section."""
+    text = read('docs', 'LANGUAGE.md')
+    sections = dict(re.findall(r'^#### `(\w\w)[^\n]*\n.*?^```trac\n(.*?)\n```$', text, re.MULTILINE | re.DOTALL))
+    table = text.split('## All functions on one page')[1].split('\n## ')[0]
+    for row in re.findall(r'^\| (`.*) \|$', table, re.MULTILINE):
+        calls, value, effect, needs = row.split(' | ')
+        yield {'calls': calls, 'value': value, 'effect': effect, 'needs': needs, 'script': sections[calls[1:3]]}
+
+
+def lessons():
+    """All that there is to try, as JSON that can stand in an element."""
+    found = {'lesson': list(lesson()), 'examples': list(examples()), 'exercises': list(exercises()),
+             'functions': list(functions())}
     return json.dumps(found, ensure_ascii=False).replace('<', '\\u003c')
 
 
@@ -53,7 +88,7 @@ def page(module, version):
     """The whole page."""
     style, script = read('hosts', 'page', 'style.css'), code(version)
     parts = {
-        'STYLE': style, 'CODE': script, 'EXAMPLES': examples(), 'VERSION': version,
+        'STYLE': style, 'CODE': script, 'LESSONS': lessons(), 'VERSION': version,
         'ENGINE': base64.b64encode(module).decode(),
         'POLICY': "default-src 'none'; base-uri 'none'; form-action 'none'; "
                   f"script-src {hashed(script)} 'wasm-unsafe-eval'; style-src {hashed(style)}",

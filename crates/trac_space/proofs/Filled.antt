@@ -5,7 +5,7 @@ use Rattle.std.proofs.lemmas.List.Edits.{get_or-between}
 use Rattle.std.proofs.lemmas.List.{take-append-drop}
 use Rattle.trac_space.proofs.Words.{⊎_elim, ◌⊎◌, put_mid, drop_all, get_or_default, take-map, drop-map, drop-drop, map-append, take-take, append-nil, length-append, length-map, length-take-le, drop_more, get_or-take, All-head, All-tail, length-between, Cell, Byte, Comma, IsByte, is_byte_cell, is_comma}
 use Rattle.trac_space.proofs.Words.{filling, filled, ordinal_of, IsPut, HaveCommas, parts_at, numbered_part, part_between}
-use Rattle.trac_space.specs.Overlay.{under, over}
+use Rattle.trac_space.specs.Overlay.{has_number, under, over}
 use Rattle.std.proofs.lemmas.List.{get_or_past}
 
 -- what a copy to a place behind leaves
@@ -276,6 +276,10 @@ others-less part n k m size which others =
     let none : drop m part ≡ [] = drop_all m part (omega (arith, all, size)) in
     ap (map under) none ∙ sym none)
     which
+
+pub numbered-in : (cells : List Cell) (start len k : ℕ) → start + len ≤ length cells → k < len → has_number (get_or (slice_range cells start (start + len)) k Comma) ≡ true → has_number (get_or cells (start + k) (Byte 0)) ≡ true
+numbered-in cells start len k inside less is =
+    ap has_number (get_or_default cells (start + k) (Byte 0) Comma (omega (arith, less, inside)) ∙ sym (get_or-between cells start (start + len) k Comma (omega (arith, less)))) ∙ is
 
 -- the number over one of the cells
 pub number-in : (cells : List Cell) (start len k : ℕ) → start + len ≤ length cells → k < len → over (get_or cells (start + k) (Byte 0)) ≡ over (get_or (slice_range cells start (start + len)) k Comma)

@@ -2,7 +2,7 @@
 use Rattle.trac_space.proofs.Words.{◌≡◌, ℕ, ◌+◌, ◌-◌, ◌<◌, ◌≤◌, true, false, cond, All, List, [], ◌∷◌, ◌++◌, length, drop, map, get_or, set, refl, sym, ap, ◌∙◌, arith, subst, ⊎_elim, IsTrue}
 use Rattle.trac_space.proofs.Words.{append_assoc, drop-drop, drop-set-lt, drop-map, drop_all, drop_more, get_or-drop, get_or-append_seam, get_or_append_left, get_or-set_same, get_or-set_other, get_or_default, length-append, length-map, All-head, All-tail, All-get_or, cases_eq, Cell, Byte, Call, Comma, Gap, Head, is_comma, HaveCommas, parts_at}
 use Rattle.std.proofs.Math.Seq.{map-set_same}
-use Rattle.trac_space.specs.Overlay.{takes_number, under, over}
+use Rattle.trac_space.specs.Overlay.{takes_number, under, over, has_number}
 
 abbrev pub Takes : Cell → Type 0
 Takes cell = IsTrue (takes_number cell)
@@ -28,6 +28,7 @@ pub record LaidSoFar (was now : List Cell) (at count : ℕ) : Type 0 where
   pub done : List (ℕ × ℕ)
   pub split : parts_at 0 0 was ≡ done ++ parts_at from at (drop at was)
   pub size : length done ≡ count
+  pub laid : (k : ℕ) → k < count → has_number (get_or now k Comma) ≡ true
   pub ends : (k : ℕ) → k < count → over (get_or now k Comma) ≡ (get_or done k (0, 0)).1
 
 pub laid-none : (was : List Cell) → All Takes was → LaidSoFar was was 0 0
@@ -40,6 +41,7 @@ laid-none was takes = record {
   done = [];
   split = refl;
   size = refl;
+  laid = λ k less. absurd (omega (arith, less));
   ends = λ k less. absurd (omega (arith, less));
 }
 
@@ -80,12 +82,13 @@ module _ (was now : List Cell) (at count : ℕ) (h : LaidSoFar was now at count)
         done = h.done;
         split = h.split ∙ ap (λ l. h.done ++ l) (ap (parts_at h.from at) next-cell ∙ ap (λ b. cond b ((h.from, at) ∷ parts_at (at + 1) (at + 1) (drop (at + 1) was)) (parts_at h.from (at + 1) (drop (at + 1) was))) is);
         size = h.size;
+        laid = h.laid;
         ends = h.ends;
       }
 
   -- one does
-  pub laid-comma : (cell : Cell) → is_comma (get_or now at (Byte 0)) ≡ true → under cell ≡ under (get_or now count (Byte 0)) → over cell ≡ at → LaidSoFar was (set now count cell) (at + 1) (count + 1)
-  laid-comma cell comma under_is over_is =
+  pub laid-comma : (cell : Cell) → is_comma (get_or now at (Byte 0)) ≡ true → under cell ≡ under (get_or now count (Byte 0)) → over cell ≡ at → has_number cell ≡ true → LaidSoFar was (set now count cell) (at + 1) (count + 1)
+  laid-comma cell comma under_is over_is numbered =
       let is = ap is_comma here-is ∙ comma in
       let rest = parts_at (at + 1) (at + 1) (drop (at + 1) was) in
       let inside : count < length now = omega (arith, h.few, less, laid-long) in
@@ -98,6 +101,11 @@ module _ (was now : List Cell) (at count : ℕ) (h : LaidSoFar was now at count)
         done = h.done ++ (h.from, at) ∷ [];
         split = h.split ∙ ap (λ l. h.done ++ l) (ap (parts_at h.from at) next-cell ∙ ap (λ b. cond b ((h.from, at) ∷ rest) (parts_at h.from (at + 1) (drop (at + 1) was))) is) ∙ sym (append_assoc h.done ((h.from, at) ∷ []) rest);
         size = omega (arith, length-append h.done ((h.from, at) ∷ []), h.size);
+        laid = λ k below.
+            ⊎_elim
+            (λ last. ap (λ i. has_number (get_or (set now count cell) i Comma)) last ∙ ap has_number (get_or-set_same now count cell Comma inside) ∙ numbered)
+            (λ other. ap has_number (get_or-set_other now count k cell Comma other) ∙ h.laid k (omega (arith, below, other)))
+            (cases_eq k count);
         ends = λ k below.
             ⊎_elim
             (λ last.
@@ -119,5 +127,6 @@ laid-commas was now at count h end takes =
       within = omega (arith, h.few, h.within, long);
       others = ap (map under) h.behind ∙ sym (drop-map under count was) ∙ ap (drop count) (takes-all was takes) ∙ sym h.behind;
       all = ap length parts ∙ length-append h.done ((h.from, at) ∷ []) ∙ omega (arith, h.size);
+      laid = h.laid;
       ends = λ k less. h.ends k less ∙ ap (λ (p : ℕ × ℕ). p.1) (sym (get_or_append_left h.done ((h.from, at) ∷ []) (0, 0) k (omega (arith, less, h.size))) ∙ ap (λ l. get_or l k (0, 0)) (sym parts));
     }

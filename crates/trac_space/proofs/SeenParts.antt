@@ -2,7 +2,7 @@
 use Rattle.trac_space.proofs.Words.{◌≡◌, ℕ, suc, ◌+◌, ◌-◌, All, List, [], ◌∷◌, ◌++◌, length, take, drop, map, get_or, slice_range, refl, sym, ap, ◌∙◌, arith, subst}
 use Rattle.trac_space.proofs.Words.{take-map, drop-map, map-append, length-map, All-head, All-tail, All-cons, All-nil, Cell, Byte, Call, Comma, Gap, Head, seen, is_comma, HaveCommas, parts_at, numbered_part, part_between, filling, filled}
 use Rattle.std.proofs.Math.ListN.{get_or-map as get_or-map-same}
-use Rattle.trac_space.specs.Overlay.{under, over}
+use Rattle.trac_space.specs.Overlay.{has_number, under, over}
 use Rattle.trac_space.proofs.LaidCommas.{Takes}
 use Rattle.trac_space.proofs.Lifted.{seen-under}
 
@@ -13,6 +13,10 @@ comma-seen cell = refl
 over-seen : (cell : Cell) → over (seen cell) ≡ over cell
 over-seen (Byte b) = refl
 over-seen cell = refl
+
+number-seen : (cell : Cell) → has_number (seen cell) ≡ has_number cell
+number-seen (Byte b) = refl
+number-seen cell = refl
 
 parts-seen : (from at : ℕ) (cells : List Cell) → parts_at from at (map seen cells) ≡ parts_at from at cells
 parts-seen from at [] = refl
@@ -41,6 +45,9 @@ commas-from-seen cells part count shown have =
       within = omega (arith, have.within, ap length shown, length-map cells seen);
       others = plain-seen (drop count cells) (ap (map under) rest ∙ have.others ∙ sym rest);
       all = ap length (sym parts) ∙ have.all;
+      laid = λ k less.
+          let read : has_number (get_or part k Comma) ≡ has_number (get_or cells k Comma) = ap (λ l. has_number (get_or l k Comma)) (sym shown) ∙ ap has_number (get_or-map-same seen cells k Comma) ∙ number-seen (get_or cells k Comma) in
+          sym read ∙ have.laid k less;
       ends = λ k less.
           let read : over (get_or part k Comma) ≡ over (get_or cells k Comma) = ap (λ l. over (get_or l k Comma)) (sym shown) ∙ ap over (get_or-map-same seen cells k Comma) ∙ over-seen (get_or cells k Comma) in
           sym read ∙ have.ends k less ∙ ap (λ p. (numbered_part p (suc k)).1) parts;

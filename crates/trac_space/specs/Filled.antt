@@ -1,10 +1,10 @@
 -- Cells whose gaps are filled by what stands between the comma marks of others.
-use Rattle.std.specs.Prelude.{◌≡◌, ℕ, suc, ◌+◌, ◌<◌, ◌≤◌, List, [], ◌∷◌, ◌++◌, length, take, drop, map}
+use Rattle.std.specs.Prelude.{◌≡◌, ℕ, suc, true, ◌+◌, ◌<◌, ◌≤◌, List, [], ◌∷◌, ◌++◌, length, take, drop, map}
 use Rattle.std.specs.Prelude.{slice_range, slice_index_or, if◌then◌else◌, Option, MatchOption}
 use Rattle.trac_space.specs.declared.cell.Cell.{Cell}
 use Rattle.trac_space.specs.declared.cell.Cell.TheVariants.{Byte, Call, Comma, Gap, Head}
 use Rattle.trac_space.specs.Cells.{is_comma}
-use Rattle.trac_space.specs.Overlay.{under, over}
+use Rattle.trac_space.specs.Overlay.{under, over, has_number}
 use Rattle.trac_space.specs.Texts.{is_byte_cell}
 
 -- the ordinal of a gap, 0 of any other cell
@@ -46,6 +46,7 @@ pub record HaveCommas (cells : List Cell) (count : ℕ) : Type 0 where
   pub within : count ≤ length cells
   pub others : map under (drop count cells) ≡ drop count cells
   pub all : length (parts_at 0 0 (map under cells)) ≡ suc count
+  pub laid : (k : ℕ) → k < count → has_number (slice_index_or cells k Comma) ≡ true
   pub ends : (k : ℕ) → k < count →
       over (slice_index_or cells k Comma) ≡ (numbered_part (parts_at 0 0 (map under cells)) (suc k)).1
 

@@ -24,8 +24,16 @@ abbrev pub over : Cell → ℕ
 over (Byte _) = 0
 over (Call _ _) = 0
 over Comma = 0
-over (Gap n) = n
+over (Gap x) = x / 256
 over (Head x) = x / 256
+
+-- a number lies over the cell
+abbrev pub has_number : Cell → Bool
+has_number (Byte _) = false
+has_number (Call _ _) = false
+has_number Comma = false
+has_number (Gap _) = true
+has_number (Head _) = true
 
 -- numbers lie over the cells from a up to b, and nothing else has changed
 abbrev pub HaveNumbers : List Cell → List Cell → ℕ → ℕ → Type 0

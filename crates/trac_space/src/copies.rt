@@ -39,7 +39,6 @@ pub(crate) fn copy_cells(cells: &mut [Cell], start: usize, end: usize, to: usize
 
 // The same, for moves of few cells.
 #[inline]
-#[tactic(auto, using(crate::proofs::Moves::move_one))]
 pub(crate) fn copy_few(cells: &mut [Cell], start: usize, end: usize, to: usize)
     requires order { start ≤ end }
     requires within { end ≤ length cells.old }
@@ -48,7 +47,7 @@ pub(crate) fn copy_few(cells: &mut [Cell], start: usize, end: usize, to: usize)
     ensures after { cells.new ≡ copy_within cells.old start end to }
 {
     if end - start == 1 {
-        cells[to] = cells[start];
+        cells.copy_within(start..start + 1, to);
     } else {
         copy_cells(cells, start, end, to);
     }
@@ -56,7 +55,6 @@ pub(crate) fn copy_few(cells: &mut [Cell], start: usize, end: usize, to: usize)
 
 // The same, for moves that mostly are of one cell.
 #[inline]
-#[tactic(auto, using(crate::proofs::Moves::move_one))]
 pub(crate) fn copy_one_or_more(cells: &mut [Cell], start: usize, end: usize, to: usize)
     requires order { start ≤ end }
     requires within { end ≤ length cells.old }
@@ -65,7 +63,7 @@ pub(crate) fn copy_one_or_more(cells: &mut [Cell], start: usize, end: usize, to:
     ensures after { cells.new ≡ copy_within cells.old start end to }
 {
     if end - start == 1 {
-        cells[to] = cells[start];
+        cells.copy_within(start..start + 1, to);
     } else {
         copy_more(cells, start, end, to);
     }

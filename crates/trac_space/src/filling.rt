@@ -2,6 +2,7 @@
 //! marks. Where these stand lies meanwhile over the cells themselves.
 ghost use Rattle.std.specs.Prelude.{◌≡◌, ◌+◌, ◌-◌, ◌≤◌, ◌<◌, ◌++◌, IsTrue, All, length, take, drop};
 ghost use Rattle.std.specs.Prelude.{map, slice_range, slice_index_or, suc};
+ghost use Rattle.std.specs.List.{copy_within};
 ghost use Rattle.trac_space.specs.declared.cell.Cell.TheVariants.{Comma};
 ghost use Rattle.trac_space.specs.Filled.{ordinal_of, part_between, filling, filled, HaveCommas};
 ghost use Rattle.trac_space.specs.Filled.{IsPut, parts_at, numbered_part};
@@ -9,7 +10,7 @@ ghost use Rattle.trac_space.specs.Overlay.{takes_number, under};
 
 use crate::cell::{Cell, is_character, is_comma};
 use crate::copies::{BLOCK, characters_in_block, copy_behind, copy_block};
-use crate::overlay::{cell_under, laid, lift, number_over};
+use crate::overlay::{cell_under, laid, lift, number_over_laid};
 
 // The cells between whose comma marks the parts stand: where they begin, how many they are, and how
 // many comma marks there are, whose places lie over the first of them.
@@ -21,6 +22,7 @@ pub(crate) struct Given {
 }
 
 /// Lays where the comma marks stand over the first of the cells, and gives how many they are.
+#[inline(always)]
 pub(crate) fn lay_commas(cells: &mut [Cell]) -> usize
     requires takes { All (λ cell. IsTrue (takes_number cell)) cells.old }
     requires bounded { length cells.old ≤ 16777216 }
@@ -57,8 +59,7 @@ pub(crate) fn fill_cells(
     requires bounded { length cells.old ≤ 16777216 }
     requires commas { let parts = slice_range cells.old given.start (given.start + given.len) in
         HaveCommas parts given.commas }
-    ensures put {
-        let parts = map under (slice_range cells.old given.start (given.start + given.len)) in
+    ensures put { let parts = map under (slice_range cells.old given.start (given.start + given.len)) in
         let more = filled parts (slice_range cells.old from stop) in
         IsPut cells.old cells.new to last more result }
     ensures len { length cells.new ≡ length cells.old }
@@ -108,8 +109,7 @@ fn fill_each(
     requires bounded { length cells.old ≤ 16777216 }
     requires commas { let parts = slice_range cells.old given.start (given.start + given.len) in
         HaveCommas parts given.commas }
-    ensures put {
-        let parts = map under (slice_range cells.old given.start (given.start + given.len)) in
+    ensures put { let parts = map under (slice_range cells.old given.start (given.start + given.len)) in
         let more = filled parts (slice_range cells.old from stop) in
         IsPut cells.old cells.new to last more result }
     ensures len { length cells.new ≡ length cells.old }
@@ -128,29 +128,45 @@ fn fill_each(
     Some(to)
 }
 
-// Puts cells once more at a place behind them, without the numbers over them; often it is one.
+// Puts cells once more at a place behind them, without the numbers over them.
 #[inline(always)]
 fn put_part(cells: &mut [Cell], start: usize, to: usize, n: usize, given: Given)
     requires apart { start + n ≤ to }
     requires room { to + n ≤ length cells.old }
     requires bounded { length cells.old ≤ 16777216 }
     requires within { given.start + given.commas ≤ length cells.old }
-    requires others {
-        let rest = drop (given.start + given.commas - start) (slice_range cells.old start (start + n)) in
+    requires others { let rest = drop (given.start + given.commas - start) (slice_range cells.old start (start + n)) in
         map under rest ≡ rest }
     ensures len { length cells.new ≡ length cells.old }
-    ensures front {
-        take (to + n) cells.new ≡ take to cells.old ++ map under (slice_range cells.old start (start + n)) }
+    ensures front { take (to + n) cells.new ≡ take to cells.old ++ map under (slice_range cells.old start (start + n)) }
     ensures behind { drop (to + n) cells.new ≡ drop (to + n) cells.old }
 {
+    let laid = given.start + given.commas;
+    if start >= laid {
+        copy_part(cells, start, to, n);
+        return;
+    }
     if n == 1 {
         cells[to] = cell_under(cells[start]);
         return;
     }
     copy_behind(cells, start, distance(start, to), n);
-    let laid = given.start + given.commas;
-    if start < laid {
-        lift(&mut cells[to..to + n.min(laid - start)]);
+    lift(&mut cells[to..to + n.min(laid - start)]);
+}
+
+// Puts cells once more at a place behind them; often it is one.
+#[inline(always)]
+fn copy_part(cells: &mut [Cell], start: usize, to: usize, n: usize)
+    requires apart { start + n ≤ to }
+    requires room { to + n ≤ length cells.old }
+    requires bounded { length cells.old ≤ 16777216 }
+    ensures len { length cells.new ≡ length cells.old }
+    ensures after { cells.new ≡ copy_within cells.old start (start + n) to }
+{
+    if n == 1 {
+        cells.copy_within(start..start + 1, to);
+    } else {
+        copy_behind(cells, start, distance(start, to), n);
     }
 }
 
@@ -173,12 +189,10 @@ fn cells_for(cells: &[Cell], at: usize, given: Given) -> (usize, usize)
     requires commas { let parts = slice_range cells.now given.start (given.start + given.len) in
         HaveCommas parts given.commas }
     ensures within { result.0 + result.1 ≤ given.start + given.len }
-    ensures cells {
-        let parts = map under (slice_range cells.now given.start (given.start + given.len)) in
+    ensures cells { let parts = map under (slice_range cells.now given.start (given.start + given.len)) in
         map under (slice_range cells.now result.0 (result.0 + result.1)) ≡
         filling parts (slice_index_or cells.now at Comma) }
-    ensures others {
-        let laid = given.start + given.commas in
+    ensures others { let laid = given.start + given.commas in
         let rest = drop (laid - result.0) (slice_range cells.now result.0 (result.0 + result.1)) in
         map under rest ≡ rest }
 {
@@ -196,12 +210,10 @@ fn part_of(cells: &[Cell], number: u32, given: Given) -> (usize, usize)
     requires commas { let parts = slice_range cells.now given.start (given.start + given.len) in
         HaveCommas parts given.commas }
     ensures within { result.0 + result.1 ≤ given.start + given.len }
-    ensures cells {
-        let parts = map under (slice_range cells.now given.start (given.start + given.len)) in
+    ensures cells { let parts = map under (slice_range cells.now given.start (given.start + given.len)) in
         map under (slice_range cells.now result.0 (result.0 + result.1)) ≡
         part_between parts number }
-    ensures others {
-        let laid = given.start + given.commas in
+    ensures others { let laid = given.start + given.commas in
         let rest = drop (laid - result.0) (slice_range cells.now result.0 (result.0 + result.1)) in
         map under rest ≡ rest }
 {
@@ -228,7 +240,7 @@ fn begin_of(cells: &[Cell], place: usize, given: Given) -> usize
     if place == 0 {
         return 0;
     }
-    number_over(cells[given.start + place - 1]) as usize + 1
+    number_over_laid(cells[given.start + place - 1]) as usize + 1
 }
 
 // Where it ends.
@@ -245,7 +257,7 @@ fn end_of(cells: &[Cell], place: usize, given: Given) -> usize
     if place == given.commas {
         return given.len;
     }
-    number_over(cells[given.start + place]) as usize
+    number_over_laid(cells[given.start + place]) as usize
 }
 
 // The ordinal of a gap, 0 of any other cell.

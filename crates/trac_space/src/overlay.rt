@@ -3,9 +3,12 @@
 //! in the cells of the text itself, and takes no other.
 ghost use Rattle.std.specs.Prelude.{◌≡◌, ◌<◌, IsTrue, map};
 ghost use Rattle.trac_space.specs.Cells.{IsNoCall};
-ghost use Rattle.trac_space.specs.Overlay.{takes_number, under, over};
+ghost use Rattle.trac_space.specs.Overlay.{takes_number, under, over, has_number};
 
 use crate::cell::Cell;
+
+// What an arm reads that is never reached: nothing, so that the compiler makes no test for it.
+const NO_NUMBER: [u32; 0] = [];
 
 /// The character or the comma mark with a number over it.
 #[inline]
@@ -14,11 +17,12 @@ pub fn laid(cell: Cell, number: u32) -> Cell
     requires bounded { number < 16777216 }
     ensures under { under result ≡ under cell }
     ensures over { over result ≡ number }
+    ensures numbered { IsTrue (has_number result) }
     ensures no_call { IsNoCall result }
 {
     match cell {
         Cell::Byte(byte) => Cell::Head(number * 256 + byte as u32),
-        _ => Cell::Gap(number),
+        _ => Cell::Gap(number * 256),
     }
 }
 
@@ -40,13 +44,25 @@ pub fn number_over(cell: Cell) -> u32
     ensures { result ≡ over cell }
 {
     match cell {
-        Cell::Head(number) => number / 256,
-        Cell::Gap(number) => number,
+        Cell::Head(number) | Cell::Gap(number) => number / 256,
         _ => 0,
     }
 }
 
+// The number over a cell that has one.
+#[inline(always)]
+pub(crate) fn number_over_laid(cell: Cell) -> u32
+    requires { IsTrue (has_number cell) }
+    ensures { result ≡ over cell }
+{
+    match cell {
+        Cell::Head(number) | Cell::Gap(number) => number / 256,
+        _ => NO_NUMBER[0],
+    }
+}
+
 // Takes the numbers off the cells.
+#[inline(always)]
 pub(crate) fn lift(cells: &mut [Cell])
     ensures { cells.new ≡ map under cells.old }
 {

@@ -2,6 +2,7 @@
 use Rattle.trac_store.proofs.Words.{Bool, ◌≡◌, ℕ, zero, suc, ◌+◌, ◌-◌, ◌<◌, ◌≤◌, true, false, cond, All, List, [], ◌∷◌, ◌++◌, length, take, drop, map, get_or, nat_le, refl, sym, ap, ◌∙◌, arith, rules, subst, slice_range, ⊎_elim, cases_lt, length-map, map-append, get_or_past, get_or-map, length-between, drop_more, All-tail, All-cons, All-nil, All-get_or, places, same_lists, Cell, Byte}
 use Rattle.trac_store.proofs.Words.{Comma, Gap, Call, NoCall, IsByte, is_comma, filled, numbered_part, part_between, parts_at, flat_text, HaveNumbers, under, AreTextParts, IsTextPart, part_text, part_texts, parts_between, append_assoc, length-append, length-take-le, split_between}
 use Rattle.std.proofs.lemmas.List.{take-append-le, drop-append-le}
+use Rattle.trac_store.proofs.Words.{take-append-drop}
 use Rattle.trac_space.proofs.Filled.{parts-within}
 use Rattle.trac_space.proofs.LaidCommas.{Takes}
 use Rattle.trac_store.proofs.Filling.{filled as filled_text, part-there, part-text, text-no_call}
@@ -139,7 +140,7 @@ module _ (neutral : List Cell) (first end from : ℕ) (begin : IsBegin first end
       without lt zero = refl
       without lt (suc k) =
           let p = numbered_part (parts_at 0 0 given) (suc k) in
-          ap (λ l. slice_range l p.0 p.1) (none-given lt) ∙ slice-nil p.0 p.1 ∙ ap (λ parts. flat_text (get_or ([] ∷ part_texts neutral parts) (suc k) [])) (sym (none-between lt)) 
+          ap (λ l. slice_range l p.0 p.1) (none-given lt) ∙ slice-nil p.0 p.1 ∙ ap (λ parts. flat_text (get_or ([] ∷ part_texts neutral parts) (suc k) [])) (sym (none-between lt))
 
       with : first ≤ end → (number : ℕ) → part_between given number ≡ flat_text (get_or ([] ∷ part_texts neutral (parts_between neutral first end)) number [])
       with le zero = refl
@@ -207,3 +208,20 @@ module _ (was now : List Cell) (a b : ℕ) (order : a ≤ b) (within : b ≤ len
       let part : slice_range (now ++ more) a b ≡ slice_range now a b = part_of_longer now more a b order (omega (arith, within, size)) in
       let rest : drop b (now ++ more) ≡ drop b now ++ more = drop-append-le b now more (omega (arith, within, size)) in
       rw (front, part, rest) (sym (append_assoc (take a now ++ map under (slice_range now a b)) (drop b now) more) ∙ ap (λ l. l ++ more) numbers)
+
+-- only the first of the cells have numbers
+pub numbers-fewer : (was now : List Cell) (a b n : ℕ) → a ≤ b → b ≤ length was → HaveNumbers was now a b → n ≤ length (slice_range now a b) → map under (drop n (slice_range now a b)) ≡ drop n (slice_range now a b) → HaveNumbers was now a (a + n)
+numbers-fewer was now a b n order within numbers few others =
+    let size = numbers-long was now a b order within numbers in
+    let part = slice_range now a b in
+    let long : length part ≡ b - a = length-between now a b (omega (arith, within, size)) in
+    let some : n ≤ b - a = omega (arith, few, long) in
+    let inside : b ≤ length now = omega (arith, within, size) in
+    let front : slice_range now a (a + n) ≡ take n part = same_lists _ _ (search (rules, places)) (λ i d less. grind (arith, places)) in
+    let rest : drop (a + n) now ≡ drop n part ++ drop b now = same_lists _ _ (search (rules, places)) (λ i d less. grind (arith, places)) in
+    let whole : map under part ≡ map under (take n part) ++ drop n part = ap (map under) (sym (take-append-drop n part)) ∙ map-append under (take n part) (drop n part) ∙ ap (λ l. map under (take n part) ++ l) others in
+    ap (λ l. take a now ++ map under l ++ drop (a + n) now) front
+    ∙ ap (λ l. take a now ++ map under (take n part) ++ l) rest
+    ∙ sym (append_assoc (take a now ++ map under (take n part)) (drop n part) (drop b now))
+    ∙ ap (λ l. l ++ drop b now) (append_assoc (take a now) (map under (take n part)) (drop n part) ∙ ap (λ l. take a now ++ l) (sym whole))
+    ∙ numbers

@@ -141,7 +141,7 @@ fn fill_gaps(space: &mut Space, from: u32, stop: u32, first: u32, end: u32) -> b
     let first = first.min(end);
     let commas = space.lay_commas(first, end);
     let filled = put_filled(space, (from, stop), (first, end), commas);
-    space.lift_neutral(first, end);
+    space.lift_neutral(first, first + commas);
     filled
 }
 

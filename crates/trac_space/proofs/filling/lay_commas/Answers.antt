@@ -17,7 +17,7 @@ loop-at-preserved c =
     let h = c.loop-at.invariant in
     elim c.if-is_comma.branch [
       | then-is_comma w ↦
-          rw (w.cells-is, w.count-is) (laid-comma was now c.loop-at.at c.loop-at.count h c.loop-at-test.true w.laid.result (sym c.is_comma.ensures ∙ w.if-is_comma.true) w.laid.ensures.under w.laid.ensures.over)
+          rw (w.cells-is, w.count-is) (laid-comma was now c.loop-at.at c.loop-at.count h c.loop-at-test.true w.laid.result (sym c.is_comma.ensures ∙ w.if-is_comma.true) w.laid.ensures.under w.laid.ensures.over w.laid.ensures.numbered)
       | else-is_comma w ↦
           rw (w.cells-is, w.count-is) (laid-other was now c.loop-at.at c.loop-at.count h c.loop-at-test.true (sym c.is_comma.ensures ∙ w.if-is_comma.false))
     ]

@@ -1,6 +1,6 @@
-use Rattle.trac_store.proofs.Words.{◌≡◌, ℕ, ◌≤◌, ◌++◌, Bool, true, false, List, length, map, take, drop, slice_range, sym, ap, subst, ◌∙◌, arith, length-map, NoCall, Cell, Byte, Lists, OnTrue, HaveNumbers, filled, flat_text, filled_cells, under}
+use Rattle.trac_store.proofs.Words.{◌≡◌, ℕ, ◌+◌, ◌≤◌, ◌++◌, Bool, true, false, List, length, map, take, drop, slice_range, sym, ap, subst, ◌∙◌, arith, length-between, length-map, NoCall, Cell, Byte, Lists, OnTrue, HaveNumbers, filled, flat_text, filled_cells, under}
 use Rattle.std.specs.Bool.{OnFalse}
-use Rattle.trac_store.proofs.FilledParts.{IsBegin, given-takes, filled-flat, filled-no_call, numbers-long, under-numbers, lifted-longer}
+use Rattle.trac_store.proofs.FilledParts.{IsBegin, given-takes, filled-flat, filled-no_call, numbers-long, numbers-fewer, under-numbers, lifted-longer}
 use Rattle.trac_store.proofs.fill.fill_gaps.Goals as goal
 use Rattle.trac_store.proofs.fill.fill_gaps.Goals.{After-min-first, After-lay_commas-commas}
 
@@ -44,6 +44,20 @@ returns-clause-put c =
     let neutral = numbers-long c.args.space.now.neutral c.lay_commas-commas.new.self.neutral c.min-first.result c.args.end (omega (arith, c.min-first.ensures)) c.requires.arguments.within laid.numbers in
     (λ e. omega (arith, put.0 e, long, store, active, room, neutral), λ fits. put.1 (omega (arith, fits, long, store, active, room, neutral)))
 
+-- the cells over which numbers lie
+fewer : (c : After-lay_commas-commas) → HaveNumbers c.args.space.now.neutral c.lay_commas-commas.new.self.neutral c.min-first.result (c.min-first.result + c.lay_commas-commas.result)
+fewer c =
+    let laid = c.lay_commas-commas.ensures in
+    numbers-fewer c.args.space.now.neutral c.lay_commas-commas.new.self.neutral c.min-first.result c.args.end c.lay_commas-commas.result (omega (arith, c.min-first.ensures)) c.requires.arguments.within laid.numbers laid.commas.within laid.commas.others
+
+-- they are within
+few : (c : After-lay_commas-commas) → c.min-first.result + c.lay_commas-commas.result ≤ length c.args.space.now.neutral
+few c =
+    let laid = c.lay_commas-commas.ensures in
+    let neutral = numbers-long c.args.space.now.neutral c.lay_commas-commas.new.self.neutral c.min-first.result c.args.end (omega (arith, c.min-first.ensures)) c.requires.arguments.within laid.numbers in
+    let size = length-between c.lay_commas-commas.new.self.neutral c.min-first.result c.args.end (omega (arith, c.requires.arguments.within, neutral)) in
+    omega (arith, laid.commas.within, size, c.min-first.ensures, c.requires.arguments.within)
+
 -- the lists once the numbers are taken off again
 lifted : (done : Bool) (old mid put last : Lists) (a b : ℕ) (more : List Cell) → a ≤ b → b ≤ length old.neutral → HaveNumbers old.neutral mid.neutral a b → mid ≡ record old { neutral = mid.neutral } → OnTrue done (put ≡ record mid { neutral = mid.neutral ++ more; spare = put.spare }) → last ≡ record put { neutral = take a put.neutral ++ map under (slice_range put.neutral a b) ++ drop b put.neutral } → OnTrue done (last ≡ record old { neutral = old.neutral ++ more; spare = last.spare })
 lifted false old mid put last a b more order within numbers same put_is last_is = tt
@@ -62,7 +76,7 @@ returns-clause-last c =
     let old = c.args.space.now in
     let more = flat_text (filled_cells old c.args.from c.args.stop c.args.first c.args.end) in
     let is = same at.After-lay_commas-commas (begin at.After-min-first) in
-    lifted c.put_filled-filled.result old c.lay_commas-commas.new.self c.put_filled-filled.new.space c.lift_neutral.new.self c.min-first.result c.args.end more (omega (arith, c.min-first.ensures)) c.requires.arguments.within laid.numbers laid.same
+    lifted c.put_filled-filled.result old c.lay_commas-commas.new.self c.put_filled-filled.new.space c.lift_neutral.new.self c.min-first.result (c.min-first.result + c.lay_commas-commas.result) more (omega arith) (few at.After-lay_commas-commas) (fewer at.After-lay_commas-commas) laid.same
     (subst (λ cells. OnTrue c.put_filled-filled.result (c.put_filled-filled.new.space ≡ record c.lay_commas-commas.new.self { neutral = c.lay_commas-commas.new.self.neutral ++ cells; spare = c.put_filled-filled.new.space.spare })) is c.put_filled-filled.ensures.last)
     c.lift_neutral.ensures
 
@@ -78,4 +92,5 @@ gone false old mid put last a b numbers same put_is last_is =
 
 pub returns-clause-full : goal.returns-clause-full
 returns-clause-full c =
-    gone c.put_filled-filled.result c.args.space.now c.lay_commas-commas.new.self c.put_filled-filled.new.space c.lift_neutral.new.self c.min-first.result c.args.end c.lay_commas-commas.ensures.numbers c.lay_commas-commas.ensures.same c.put_filled-filled.ensures.full c.lift_neutral.ensures
+    let at = goal.at.returns-clause-full c in
+    gone c.put_filled-filled.result c.args.space.now c.lay_commas-commas.new.self c.put_filled-filled.new.space c.lift_neutral.new.self c.min-first.result (c.min-first.result + c.lay_commas-commas.result) (fewer at.After-lay_commas-commas) c.lay_commas-commas.ensures.same c.put_filled-filled.ensures.full c.lift_neutral.ensures

@@ -1,0 +1,52 @@
+/**
+ * Draws the cells of the block.
+ * @module
+ */
+
+import { counted, several } from './codes.js';
+import { element, find } from './dom.js';
+
+const PARTS = [
+    ['store', 'forms'], ['neutral', 'neutral string'], ['free', 'free'], ['active', 'active string'],
+];
+
+/**
+ * A bar of the parts, to scale.
+ * @param {HTMLElement} bar
+ * @param {Record<string, number>} parts
+ * @param {number} cells what the whole bar stands for
+ * @param {number} peak
+ */
+function showBar(bar, parts, cells, peak) {
+    const pieces = PARTS.map(([name]) => {
+        const piece = element('i', `part-${name}`);
+        piece.style.width = `${(100 * parts[name]) / cells}%`;
+        return piece;
+    });
+    const most = element('b', '');
+    most.style.left = `${(100 * peak) / cells}%`;
+    bar.className = 'bar';
+    bar.replaceChildren(...pieces, most);
+    const told = PARTS.map(([name, words]) => `${words} ${counted(parts[name])}`).join(', ');
+    bar.setAttribute('aria-label', `${several(cells, 'cell')}: ${told}; peak ${counted(peak)}`);
+}
+
+/**
+ * Shows the block to scale, and as it would be with no cell more than the run needs.
+ * @param {Record<string, number>} parts
+ * @param {{cells: number, peak: number, least: number}} sizes the peak up to here, and of the run
+ */
+export function showBlock(parts, { cells, peak, least }) {
+    const used = cells - parts.free;
+    find('cells-used').textContent = `${counted(used)} of ${counted(cells)} in use`;
+    showBar(find('block'), parts, cells, peak);
+    const room = Math.max(least, 1);
+    find('scale').textContent = 'The same in a block of '
+        + `${several(room, 'cell')}, the least in which this run ends so:`;
+    showBar(find('enlarged'), { ...parts, free: Math.max(0, room - used) }, room, peak);
+    /** @type {[string, string, number][]} */
+    const entries = PARTS.map(([name, words]) => [`part-${name}`, words, parts[name]]);
+    entries.push(['part-peak', 'peak so far', peak]);
+    find('legend').replaceChildren(...entries.map(([kind, words, number]) => element(
+        'li', '', element('i', kind), `${words} ${counted(number)}`)));
+}

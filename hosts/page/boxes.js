@@ -1,0 +1,361 @@
+/**
+ * The boxes of the script and of the input behind it: their texts as bytes, the marks in them, and that
+ * nothing typed is lost.
+ * @module
+ */
+
+import { byDepth, partnerOf } from './codes.js';
+import { depthClass, element, find } from './dom.js';
+
+const MOST_COLOURED = 20000;
+const MOST_ASIDE = 20;
+const PIECE_READ = 256;
+const STORE = 'trac-t64-page';
+const strict = new TextDecoder('utf-8', { fatal: true, ignoreBOM: true });
+
+/** @typedef {{script: string, input: string}} Texts */
+
+/**
+ * The bytes of a text of a box, in UTF-8. A byte that can't stand in a box, as it is no UTF-8 or a
+ * carriage return, stands there as a low surrogate by itself.
+ * @param {string} text
+ */
+export function bytesOfText(text) {
+    const encoder = new TextEncoder();
+    const parts = text.split(/([\udc00-\udcff])/u);
+    const rows = parts.map((part, index) => (index % 2
+        ? Uint8Array.of(part.charCodeAt(0) - 0xdc00) : encoder.encode(part)));
+    const bytes = new Uint8Array(rows.reduce((sum, { length }) => sum + length, 0));
+    let place = 0;
+    for (const row of rows) {
+        bytes.set(row, place);
+        place += row.length;
+    }
+    return bytes;
+}
+
+/**
+ * The text of a box that has these bytes.
+ * @param {Uint8Array} bytes
+ */
+export function textOfBytes(bytes) {
+    const text = wholeText(bytes) ?? [...partsOf(bytes)].join('');
+    return text.replaceAll('\r', '\udc0d');
+}
+
+/**
+ * Bytes read as UTF-8, or null where they aren't that.
+ * @param {Uint8Array} bytes
+ */
+function wholeText(bytes) {
+    try {
+        return strict.decode(bytes);
+    } catch {
+        return null;
+    }
+}
+
+/**
+ * Bytes in pieces that cut no character: those in UTF-8 at once, others by their characters.
+ * @param {Uint8Array} bytes
+ */
+function* partsOf(bytes) {
+    for (let from = 0; from < bytes.length;) {
+        let to = Math.min(bytes.length, from + PIECE_READ);
+        while (to < bytes.length && (bytes[to] & 0xc0) === 0x80) to += 1;
+        const piece = bytes.subarray(from, to);
+        const text = wholeText(piece);
+        if (text === null) yield* charactersOf(piece);
+        else yield text;
+        from = to;
+    }
+}
+
+/**
+ * The characters of bytes, and each byte that is part of none.
+ * @param {Uint8Array} bytes
+ */
+function* charactersOf(bytes) {
+    for (let at = 0; at < bytes.length;) {
+        const width = [1, 2, 3, 4].find((count) => wholeText(bytes.subarray(at, at + count)) !== null);
+        yield width ? wholeText(bytes.subarray(at, at + width)) : String.fromCharCode(0xdc00 + bytes[at]);
+        at += width ?? 1;
+    }
+}
+
+/** A box and the sheet under it, on which its parentheses are coloured and parts of it are marked. */
+class Box {
+    /** @param {string} id */
+    constructor(id) {
+        this.box = find(id);
+        this.sheet = find(`${id}-marks`);
+        /** @type {{from: number, to: number, isFault: boolean} | null} */
+        this.part = null;
+        /** @type {Map<number, HTMLElement>} */
+        this.parens = new Map();
+        this.box.addEventListener('scroll', () => this.scrollUnder());
+        document.addEventListener('selectionchange', () => this.showPair());
+    }
+
+    get text() {
+        return this.box.value;
+    }
+
+    /**
+     * Puts a text into the box, so that the browser's own undo brings the former one back; it tells of each line.
+     * @param {string} text
+     */
+    put(text) {
+        if (text === this.text) return;
+        const at = /** @type {HTMLElement} */ (document.activeElement);
+        this.box.focus({ preventScroll: true });
+        this.box.select();
+        if (text.length < MOST_COLOURED && document.activeElement === this.box) {
+            document.execCommand(text ? 'insertText' : 'delete', false, text);
+        }
+        if (this.text !== text) this.box.value = text;
+        this.box.setSelectionRange(0, 0);
+        this.box.scrollTop = 0;
+        this.box.blur();
+        at.focus({ preventScroll: true });
+        this.draw();
+    }
+
+    /**
+     * Marks a part of the text, and scrolls the box to it.
+     * @param {{from: number, to: number, isFault: boolean} | null} part
+     */
+    mark(part) {
+        this.part = part && part.from < part.to ? part : null;
+        this.draw();
+        const marked = this.sheet.querySelector('mark');
+        if (!marked) return;
+        const { scrollTop, clientHeight } = this.box;
+        const place = marked.offsetTop;
+        if (place < scrollTop || place > scrollTop + clientHeight - 48) {
+            this.box.scrollTop = place - clientHeight / 3;
+        }
+        this.scrollUnder();
+    }
+
+    /** @param {boolean} [isWhole] whether the sheet shows a long text too, as it does on paper */
+    draw(isWhole = false) {
+        const { text, part } = this;
+        const isColoured = text.length <= MOST_COLOURED;
+        this.parens.clear();
+        this.box.parentElement.classList.toggle('coloured', isColoured);
+        const [from, to] = part ? [part.from, part.to] : [text.length, text.length];
+        const parts = isColoured ? this.colouredParts(text) : [{ node: text, at: 0 }];
+        const pieces = isColoured ? null : [text.slice(0, from), text.slice(from, to), text.slice(to)];
+        const [front, middle, back] = pieces?.map((each) => [each]) ?? cut(parts, from, to);
+        const marked = part ? [element('mark', part.isFault ? 'fault' : '', ...middle)] : middle;
+        if (isColoured || part || isWhole) this.sheet.replaceChildren(...front, ...marked, ...back, '\n');
+        else this.sheet.replaceChildren();
+        this.showPair();
+        this.scrollUnder();
+    }
+
+    /**
+     * The parts of a text, parentheses in the colours of their depths.
+     * @param {string} text
+     */
+    colouredParts(text) {
+        return byDepth(text).map(({ text: part, depth, at }) => {
+            if (!depth) return { node: part, at };
+            const node = element('span', `paren ${depthClass(depth)}`, part);
+            this.parens.set(at, node);
+            return { node, at };
+        });
+    }
+
+    /** Shows the parenthesis at the cursor, and the one that belongs to it. */
+    showPair() {
+        for (const old of this.sheet.querySelectorAll('.pair, .single')) {
+            old.classList.remove('pair', 'single');
+        }
+        const { selectionStart, selectionEnd } = this.box;
+        if (document.activeElement !== this.box || selectionStart !== selectionEnd) return;
+        const place = [selectionStart - 1, selectionStart].find((at) => this.parens.has(at));
+        if (place === undefined) return;
+        const partner = partnerOf(this.text, place);
+        const kind = partner < 0 ? 'single' : 'pair';
+        for (const at of [place, partner]) this.parens.get(at)?.classList.add(kind);
+    }
+
+    scrollUnder() {
+        this.sheet.scrollTop = this.box.scrollTop;
+    }
+}
+
+/**
+ * Parts of a text as the nodes in front of a place, those up to another, and those behind.
+ * @param {{node: Node | string, at: number}[]} parts
+ * @param {number} from
+ * @param {number} to
+ * @returns {(Node | string)[][]}
+ */
+function cut(parts, from, to) {
+    /** @type {(Node | string)[][]} */
+    const three = [[], [], []];
+    for (const { node, at } of parts) {
+        if (typeof node !== 'string') {
+            three[at < from ? 0 : at < to ? 1 : 2].push(node);
+        } else {
+            const [first, second] = [Math.max(0, from - at), Math.max(0, to - at)];
+            three[0].push(node.slice(0, first));
+            three[1].push(node.slice(first, second));
+            three[2].push(node.slice(Math.max(first, second)));
+        }
+    }
+    return three.map((nodes) => nodes.filter((node) => node !== ''));
+}
+
+/** Both boxes. */
+export class Boxes {
+    /** @param {() => void} onChange told where a text changes, whoever changes it */
+    constructor(onChange) {
+        this.boxes = { script: new Box('script'), input: new Box('input') };
+        this.onChange = onChange;
+        /** @type {Texts[]} what was typed before other texts came */
+        this.aside = [];
+        /** @type {Texts} */
+        this.filled = { script: '', input: '' };
+        this.isFilling = false;
+        for (const { box } of Object.values(this.boxes)) {
+            box.addEventListener('input', () => this.isFilling || this.changed());
+        }
+        for (const name of ['cells', 'steps']) find(name).addEventListener('input', () => this.save());
+        find('bring-back').addEventListener('click', () => this.bringBack());
+        window.addEventListener('pagehide', () => this.save());
+    }
+
+    /** @returns {Texts} */
+    get texts() {
+        return { script: this.boxes.script.text, input: this.boxes.input.text };
+    }
+
+    /** @param {boolean} isWhole */
+    drawWhole(isWhole) {
+        for (const box of Object.values(this.boxes)) box.draw(isWhole);
+    }
+
+    /** Takes note of another text. */
+    changed() {
+        this.mark(null);
+        for (const box of Object.values(this.boxes)) box.draw();
+        this.onChange();
+        this.save();
+    }
+
+    /**
+     * Fills the boxes. What was typed is put aside.
+     * @param {Texts} texts
+     */
+    fill(texts) {
+        const { script, input } = this.texts;
+        const isTyped = script !== this.filled.script || input !== this.filled.input;
+        const isOther = script !== texts.script || input !== texts.input;
+        if (isTyped && isOther && (script || input)) this.putAside({ script, input });
+        this.filled = texts;
+        find('more').open = texts.input !== '' || find('more').open;
+        this.isFilling = true;
+        this.boxes.script.put(texts.script);
+        this.boxes.input.put(texts.input);
+        this.isFilling = false;
+        this.filled = this.texts;
+        this.changed();
+        find('more').open = texts.input !== '';
+    }
+
+    /** @param {Texts} texts */
+    putAside(texts) {
+        this.aside.push(texts);
+        if (this.aside.length > MOST_ASIDE) this.aside.shift();
+    }
+
+    /** Puts what was typed last into the boxes again; what stands there may be brought back in turn. */
+    bringBack() {
+        const texts = this.aside.pop();
+        if (!texts) return;
+        this.fill(texts);
+        this.filled = { script: '', input: '' };
+        this.save();
+        find('script').focus();
+    }
+
+    /** Keeps all texts over a reload, where the browser has a place for them. */
+    save() {
+        find('bring-back').hidden = !this.aside.length;
+        const { aside, filled, texts } = this;
+        const [cells, steps] = [find('cells').value, find('steps').value];
+        const isTyped = texts.script !== filled.script || texts.input !== filled.input;
+        try {
+            window.localStorage.setItem(STORE, JSON.stringify(
+                { texts, isTyped, aside, cells, steps, hash: window.location.hash }));
+        } catch {
+            // without a place in the browser nothing is kept
+        }
+    }
+
+    /**
+     * Takes over what was kept. The texts are put into the boxes where the address is the same as it was
+     * then; else those that were typed are put aside.
+     * @returns {boolean} whether the boxes are filled
+     */
+    load() {
+        const kept = stored();
+        if (!kept) return false;
+        this.aside = kept.aside;
+        if (kept.hash !== window.location.hash) {
+            if (kept.isTyped) this.putAside(kept.texts);
+            return false;
+        }
+        this.fill(kept.texts);
+        if (kept.isTyped) this.filled = { script: '', input: '' };
+        for (const name of ['cells', 'steps']) find(name).value = kept[name];
+        this.save();
+        return true;
+    }
+
+    /**
+     * Marks a part of the texts, of which that of the script comes first.
+     * @param {{from: number, to: number, isFault: boolean} | null} part
+     */
+    mark(part) {
+        const { script, input } = this.boxes;
+        const first = script.text.length;
+        const within = (/** @type {number} */ start, /** @type {number} */ length) => part && {
+            from: Math.max(0, Math.min(part.from - start, length)),
+            to: Math.max(0, Math.min(part.to - start, length)),
+            isFault: part.isFault,
+        };
+        script.mark(within(0, first));
+        input.mark(within(first, input.text.length));
+    }
+
+    /**
+     * Selects a part of the texts, and puts the cursor there.
+     * @param {{from: number, to: number}} part
+     */
+    select({ from, to }) {
+        const first = this.boxes.script.text.length;
+        const isScript = from < first;
+        const { box } = isScript ? this.boxes.script : this.boxes.input;
+        if (!isScript) find('more').open = true;
+        box.focus({ preventScroll: true });
+        box.setSelectionRange(isScript ? from : from - first, isScript ? Math.min(to, first) : to - first);
+        box.scrollIntoView({ block: 'nearest' });
+    }
+}
+
+/** What was kept in the browser, or null where that is nothing of this page. */
+function stored() {
+    try {
+        const kept = JSON.parse(window.localStorage.getItem(STORE) ?? 'null');
+        const isGood = (/** @type {any} */ texts) => typeof texts?.script === 'string'
+            && typeof texts?.input === 'string';
+        return isGood(kept?.texts) && Array.isArray(kept.aside) && kept.aside.every(isGood) ? kept : null;
+    } catch {
+        return null;
+    }
+}

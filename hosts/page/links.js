@@ -1,0 +1,93 @@
+/**
+ * Links that carry a script, and files.
+ * @module
+ */
+
+import { bytesOfText, textOfBytes } from './boxes.js';
+import { several } from './codes.js';
+import { element, find } from './dom.js';
+
+const LONG_LINK = 8000;
+
+/**
+ * Bytes as letters, digits, minus signs and underlines.
+ * @param {Uint8Array} bytes
+ */
+function packed(bytes) {
+    let letters = '';
+    for (const byte of bytes) letters += String.fromCharCode(byte);
+    return btoa(letters).replaceAll('+', '-').replaceAll('/', '_').replaceAll('=', '');
+}
+
+/**
+ * The bytes that were packed so.
+ * @param {string} letters
+ */
+function unpacked(letters) {
+    return Uint8Array.from(
+        atob(letters.replaceAll('-', '+').replaceAll('_', '/')), (letter) => letter.charCodeAt(0));
+}
+
+/**
+ * What the address carries: texts, limits, and the step that is to be shown, each where it is there.
+ * @returns {{texts: {script: string, input: string}, limits: Record<string, string>, step: number | null}
+ * | null} null where it carries no script
+ * @throws {Error} where the script can't be read
+ */
+export function readLink() {
+    const words = new URLSearchParams(window.location.hash.slice(1));
+    if (!words.has('script')) return null;
+    const [script, input] = ['script', 'input'].map((name) => textOfBytes(unpacked(words.get(name) ?? '')));
+    const number = (/** @type {string} */ name) => (
+        /^[0-9]{1,13}$/.test(words.get(name) ?? '') ? words.get(name) : null);
+    /** @type {Record<string, string>} */
+    const limits = {};
+    for (const name of ['cells', 'steps']) if (number(name)) limits[name] = number(name);
+    const step = number('step');
+    return { texts: { script, input }, limits, step: step === null ? null : Number(step) };
+}
+
+/**
+ * Puts script, input, limits and step into the address, and copies that.
+ * @param {{script: string, input: string}} texts
+ * @param {number | null} step
+ * @returns {Promise<string>} what is to be said of it
+ */
+export async function makeLink({ script, input }, step) {
+    const words = new URLSearchParams({ script: packed(bytesOfText(script)) });
+    if (input) words.set('input', packed(bytesOfText(input)));
+    for (const name of ['cells', 'steps']) words.set(name, find(name).value);
+    if (step !== null) words.set('step', String(step));
+    window.history.replaceState(null, '', `#${words}`);
+    const { href } = window.location;
+    const carries = step === null ? 'It carries the script.' : 'It carries the script and the step.';
+    const long = href.length > LONG_LINK
+        ? ` It is long, ${several(href.length, 'character')}: where it is cut, save the script as a file instead.` : '';
+    try {
+        await navigator.clipboard.writeText(href);
+        return `The link is copied. ${carries}${long}`;
+    } catch {
+        return `The link stands in the address bar. ${carries}${long}`;
+    }
+}
+
+/**
+ * Has the browser save a file.
+ * @param {string} name
+ * @param {BlobPart} content
+ */
+export function saveFile(name, content) {
+    const link = /** @type {HTMLAnchorElement} */ (element('a', ''));
+    link.href = URL.createObjectURL(new Blob([content], { type: 'application/octet-stream' }));
+    link.download = name;
+    link.click();
+    setTimeout(() => URL.revokeObjectURL(link.href), 60000);
+}
+
+/**
+ * The text of a file that was chosen, as the boxes have it.
+ * @param {File} file
+ */
+export async function openFile(file) {
+    return textOfBytes(new Uint8Array(await file.arrayBuffer()));
+}

@@ -1,0 +1,180 @@
+/**
+ * Looks for steps of a run from the one that is looked at. Each search goes in slices, and leaves the
+ * machine where it stopped; it gives null where there is no such step, or where it was stopped.
+ * @module
+ */
+
+import { ACTIVE_CALL, NEUTRAL_CALL, innermostCall } from './codes.js';
+import { changedForms } from './forms.js';
+import { changesForms } from './functions.js';
+import { SLICE, pause } from './machines.js';
+
+/** @typedef {import('./history.js').History} History */
+
+const LEAST_BACK = 256;
+const MOST_AT_A_TIME = 2 ** 16;
+
+/**
+ * Goes from call to call up to a step.
+ * @param {History} history
+ * @param {number} to
+ * @param {(history: History) => boolean} isWanted asked where a call is performed by the next step
+ * @param {AbortSignal} signal
+ * @returns {Promise<number | null>} the step after which it was so
+ */
+async function alongCalls(history, to, isWanted, signal) {
+    const { shown } = history;
+    while (!signal.aborted && shown.state.step < to) {
+        const until = performance.now() + SLICE;
+        while (shown.state.step < to && performance.now() < until) {
+            if (!comeToCall(shown, to)) continue;
+            const { step } = shown.state;
+            if (isWanted(history)) return shown.state.step;
+            if (shown.state.step === step) shown.advance(1);
+        }
+        await pause();
+    }
+    return null;
+}
+
+/**
+ * Makes the steps up to a call, as far as the front of the active string shows them.
+ * @param {import('./machines.js').Walker} walker
+ * @param {number} to a step that is not passed
+ * @returns {boolean} whether the next step performs a call
+ */
+function comeToCall(walker, to) {
+    const left = to - walker.state.step;
+    const { steps, isCall } = walker.toCall();
+    if (steps) walker.advance(Math.min(steps, left));
+    return isCall && steps < left;
+}
+
+/**
+ * The next step that performs a call, behind the one that is looked at.
+ * @param {History} history
+ * @param {(history: History) => boolean} isWanted
+ * @param {AbortSignal} signal
+ */
+export function nextCall(history, isWanted, signal) {
+    if (history.step < history.end.step) history.shown.advance(1);
+    return alongCalls(history, history.end.step, isWanted, signal);
+}
+
+/**
+ * Goes to a step in slices; whether it is reached, and the search wasn't stopped.
+ * @param {History} history
+ * @param {number} step
+ * @param {AbortSignal} signal
+ */
+async function goTo(history, step, signal) {
+    while (!history.approach(step)) {
+        await pause();
+        if (signal.aborted) return false;
+    }
+    return true;
+}
+
+/**
+ * The last step in front of one that performs a call: looked for in more and more steps before it.
+ * @param {History} history
+ * @param {number} step
+ * @param {AbortSignal} signal
+ */
+export async function callBefore(history, step, signal) {
+    for (let [to, distance] = [step, LEAST_BACK]; to > 0; distance *= 16) {
+        const from = Math.max(0, step - distance);
+        if (!await goTo(history, from, signal)) return null;
+        /** @type {number | null} */
+        let last = null;
+        await alongCalls(history, to, () => {
+            last = history.step;
+            return false;
+        }, signal);
+        if (signal.aborted) return null;
+        if (last !== null) return last;
+        to = from;
+    }
+    return null;
+}
+
+/**
+ * The next call of a function or of any other name.
+ * @param {History} history
+ * @param {string} name
+ * @param {AbortSignal} signal
+ */
+export function nextNamed(history, name, signal) {
+    const wanted = name.toLowerCase();
+    return nextCall(history, ({ machine }) => (
+        innermostCall(machine.neutral())?.words[0].toLowerCase() === wanted), signal);
+}
+
+/**
+ * The end of the innermost call that is open, or where that is the next step, of the one around it.
+ * @param {History} history
+ * @param {AbortSignal} signal
+ */
+export async function endOfCall(history, signal) {
+    const isEnd = history.machine.rule() === 'end of call';
+    const depth = openCount(history.machine.neutral()) - (isEnd ? 1 : 0);
+    if (depth < 1) return null;
+    const found = await nextCall(history, ({ machine }) => openCount(machine.neutral()) <= depth, signal);
+    return found !== null && openCount(history.machine.neutral()) === depth ? found : null;
+}
+
+/**
+ * How many calls are open.
+ * @param {Uint32Array} codes the neutral string
+ */
+function openCount(codes) {
+    let count = 0;
+    for (let place = 0; place < codes.length; place += 1) {
+        if (codes[place] === ACTIVE_CALL || codes[place] === NEUTRAL_CALL) count += 1;
+    }
+    return count;
+}
+
+/**
+ * The step by which a form is changed next.
+ * @param {History} history
+ * @param {AbortSignal} signal
+ */
+export function nextChange(history, signal) {
+    return alongCalls(history, history.end.step, ({ machine, shown }) => {
+        const call = innermostCall(machine.neutral());
+        if (!call || !changesForms(call.words[0])) return false;
+        const before = machine.forms();
+        shown.advance(1);
+        const after = machine.forms();
+        return after.length !== before.length || changedForms(before, after).size > 0;
+    }, signal);
+}
+
+/**
+ * The step by which something is printed next.
+ * @param {History} history
+ * @param {AbortSignal} signal
+ */
+export async function nextPrinting(history, signal) {
+    const { shown, end } = history;
+    const { printed } = shown.state;
+    if (printed === end.printed) return null;
+    const start = history.printings.before(printed);
+    if (start > history.step && !await goTo(history, start, signal)) return null;
+    for (let most = 1024; !signal.aborted;) {
+        const until = performance.now() + SLICE;
+        while (performance.now() < until) {
+            const before = shown.save();
+            shown.advance(Math.min(most, end.step - history.step));
+            if (shown.state.printed === printed) most = Math.min(most * 2, MOST_AT_A_TIME);
+            else if (most === 1) return history.step;
+            else {
+                shown.restore(before);
+                most /= 2;
+            }
+        }
+        await pause();
+    }
+    return null;
+}
