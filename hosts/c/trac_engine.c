@@ -4,7 +4,7 @@
  * and what compilers make of it (memcpy, memset) alone.
  *
  * Crates: trac_language trac_space trac_values trac_store trac_forms trac_devices trac_functions trac_laws trac_core trac_c
- * Sources: d72fd716eb2d3b349119376ddf0f315cc8ec6fe5cca8ada1e593be048cae89dd
+ * Sources: 857dc03833a0d358b128f286f773000035b1a77cb17b81f30d830802393f6944
  * Kit: rattle-kit-13f logic dac8208d650f15bf
  * Tools: wasm-opt version 108, wabt 1.0.32
  */
@@ -126,7 +126,6 @@ static const u8 tables[3040] = {
     0, 0, 0, 0, 0, 0, 0, 0, 0, 0, 0, 0, 0, 0, 0, 0, 0, 0, 0, 0, 0, 0, 0, 0,
     0, 0, 0, 0, 0, 0, 0, 0, 0, 0, 0, 0, 0, 0, 0, 0, 0, 0, 0, 0, 0, 0, 0, 0,
     0, 0, 0, 0, 0, 0, 0, 0, 0, 0, 0, 0, 0, 0, 0, 0, 0, 0, 0, 0, 0, 0, 0, 0,
-    35, 40, 112, 115, 44, 35, 40, 114, 115, 41, 41, 0, 0, 0, 0, 0, 0, 0, 0, 0, 0, 0, 0, 0,
     0, 0, 0, 0, 0, 0, 0, 0, 0, 0, 0, 0, 0, 0, 0, 0, 0, 0, 0, 0, 0, 0, 0, 0,
     0, 0, 0, 0, 0, 0, 0, 0, 0, 0, 0, 0, 0, 0, 0, 0, 0, 0, 0, 0, 0, 0, 0, 0,
     0, 0, 0, 0, 0, 0, 0, 0, 0, 0, 0, 0, 0, 0, 0, 0, 0, 0, 0, 0, 0, 0, 0, 0,
@@ -211,15 +210,16 @@ static const u8 tables[3040] = {
     0, 0, 0, 0, 0, 0, 0, 0, 0, 0, 0, 0, 0, 0, 0, 0, 0, 0, 0, 0, 0, 0, 0, 0,
     0, 0, 0, 0, 0, 0, 0, 0, 0, 0, 0, 0, 0, 0, 0, 0, 0, 0, 0, 0, 0, 0, 0, 0,
     0, 0, 0, 0, 0, 0, 0, 0, 0, 0, 0, 0, 0, 0, 0, 0, 0, 0, 0, 0, 0, 0, 0, 0,
-    0, 0, 0, 0, 48, 48, 48, 49, 48, 50, 48, 51, 48, 52, 48, 53, 48, 54, 48, 55, 48, 56, 48, 57,
-    49, 48, 49, 49, 49, 50, 49, 51, 49, 52, 49, 53, 49, 54, 49, 55, 49, 56, 49, 57, 50, 48, 50, 49,
-    50, 50, 50, 51, 50, 52, 50, 53, 50, 54, 50, 55, 50, 56, 50, 57, 51, 48, 51, 49, 51, 50, 51, 51,
-    51, 52, 51, 53, 51, 54, 51, 55, 51, 56, 51, 57, 52, 48, 52, 49, 52, 50, 52, 51, 52, 52, 52, 53,
-    52, 54, 52, 55, 52, 56, 52, 57, 53, 48, 53, 49, 53, 50, 53, 51, 53, 52, 53, 53, 53, 54, 53, 55,
-    53, 56, 53, 57, 54, 48, 54, 49, 54, 50, 54, 51, 54, 52, 54, 53, 54, 54, 54, 55, 54, 56, 54, 57,
-    55, 48, 55, 49, 55, 50, 55, 51, 55, 52, 55, 53, 55, 54, 55, 55, 55, 56, 55, 57, 56, 48, 56, 49,
-    56, 50, 56, 51, 56, 52, 56, 53, 56, 54, 56, 55, 56, 56, 56, 57, 57, 48, 57, 49, 57, 50, 57, 51,
-    57, 52, 57, 53, 57, 54, 57, 55, 57, 56, 57, 57, 1, 2, 0, 0, 0, 0, 0, 0, 0, 0, 0, 0,
+    0, 0, 0, 0, 0, 0, 0, 0, 0, 0, 0, 0, 0, 0, 0, 0, 48, 48, 48, 49, 48, 50, 48, 51,
+    48, 52, 48, 53, 48, 54, 48, 55, 48, 56, 48, 57, 49, 48, 49, 49, 49, 50, 49, 51, 49, 52, 49, 53,
+    49, 54, 49, 55, 49, 56, 49, 57, 50, 48, 50, 49, 50, 50, 50, 51, 50, 52, 50, 53, 50, 54, 50, 55,
+    50, 56, 50, 57, 51, 48, 51, 49, 51, 50, 51, 51, 51, 52, 51, 53, 51, 54, 51, 55, 51, 56, 51, 57,
+    52, 48, 52, 49, 52, 50, 52, 51, 52, 52, 52, 53, 52, 54, 52, 55, 52, 56, 52, 57, 53, 48, 53, 49,
+    53, 50, 53, 51, 53, 52, 53, 53, 53, 54, 53, 55, 53, 56, 53, 57, 54, 48, 54, 49, 54, 50, 54, 51,
+    54, 52, 54, 53, 54, 54, 54, 55, 54, 56, 54, 57, 55, 48, 55, 49, 55, 50, 55, 51, 55, 52, 55, 53,
+    55, 54, 55, 55, 55, 56, 55, 57, 56, 48, 56, 49, 56, 50, 56, 51, 56, 52, 56, 53, 56, 54, 56, 55,
+    56, 56, 56, 57, 57, 48, 57, 49, 57, 50, 57, 51, 57, 52, 57, 53, 57, 54, 57, 55, 57, 56, 57, 57,
+    1, 2, 0, 0, 0, 0, 0, 0, 0, 0, 0, 0, 0, 0, 0, 0, 0, 0, 0, 0, 0, 0, 0, 0,
     0, 0, 0, 0, 0, 0, 0, 0, 0, 0, 0, 0, 0, 0, 0, 0,
 };
 
@@ -232,7 +232,6 @@ static void functions_function_function_of(struct engine *e, u64 l0, u64 l1, u64
 static u32 store_arguments_before_far_comma(struct engine *e, u64 l0, u64 l1);
 static void core_scan_pass(struct engine *e, u64 l0, u64 l1, u64 l2, u64 l3, u64 l4);
 static u32 space_space_Space_find_way(struct engine *e, u64 l0, u64 l1);
-static void space_space_write_bytes(struct engine *e, u64 l0, u64 l1, u64 l2);
 static void devices_slice_source_SliceSourceSource_take_held(struct engine *e, u64 l0, u32 l1, u64 l2);
 static u32 space_space_Space_push_in_way(struct engine *e, u64 l0, u64 l1);
 static void forms_work_Work_find_among_more(struct engine *e, u64 l0, u64 l1, u32 l2, u32 l3);
@@ -260,7 +259,8 @@ static void functions_form_calls_list_names(struct engine *e, u64 l0, u64 l1, u6
 static void store_fill_load_items_in_way(struct engine *e, u64 l0, u64 l1, u32 l2, u32 l3);
 static void core_slice_edits_slice_T_copy_from_slice(struct engine *e, u64 l0, u64 l1, u64 l2);
 static void space_copies_copy_long(struct engine *e, u64 l0, u64 l1, u64 l2, u64 l3);
-static u32 forms_work_Work_fill_body(struct engine *e, u64 l0, u32 l1, u32 l2, u32 l3);
+static u32 forms_work_Work_fill_other(struct engine *e, u64 l0, u32 l1, u32 l2, u32 l3);
+static u32 store_fill_fill_items(struct engine *e, u64 l0, u32 l1, u32 l2, u32 l3, u32 l4);
 static void core_delivery_deliver(struct engine *e, u64 l0, u32 l1, u32 l2);
 static void space_copies_copy_more(struct engine *e, u64 l0, u64 l1, u64 l2, u64 l3);
 static void space_copies_copy_parts(struct engine *e, u64 l0, u64 l1, u64 l2);
@@ -285,11 +285,12 @@ static void functions_form_parts_take_part(struct engine *e, u64 l0, u64 l1, u32
 static void forms_work_Work_set_pointer(struct engine *e, u64 l0, u32 l1, u32 l2);
 static u32 forms_work_Work_copy_body(struct engine *e, u64 l0, u32 l1, u32 l2, u32 l3);
 static u32 space_space_Space_copy_store(struct engine *e, u64 l0, u32 l1, u32 l2);
+static void store_borders_lay_borders(struct engine *e, u64 l0, u32 l1, u32 l2);
 static void space_space_Space_write_part(struct engine *e, u64 l0, u32 l1, u32 l2, u32 l3);
 static void store_define_take_out(struct engine *e, u64 l0, u32 l1, u32 l2, u32 l3);
 static void space_space_Space_remove_store(struct engine *e, u64 l0, u32 l1, u32 l2);
-static void space_filling_fill_each(struct engine *e, u64 l0, u64 l1, u64 l2, u64 l3, u64 l4, u64 l5);
-static u32 store_fill_fill_without_list(struct engine *e, u64 l0, u32 l1, u32 l2, u32 l3, u32 l4);
+static u32 forms_work_Work_fill_body(struct engine *e, u64 l0, u32 l1, u32 l2, u32 l3);
+static void space_filling_fill_each(struct engine *e, u64 l0, u64 l1, u64 l2, u64 l3, u64 l4, u64 l5, u64 l6);
 static void forms_work_Work_form(struct engine *e, u64 l0, u64 l1, u32 l2);
 static u32 core_machine_printing_call_len(struct engine *e, u64 l0, u32 l1);
 static u32 core_display_show_items2(struct engine *e, u64 l0, u32 l1, u32 l2, u64 l3);
@@ -413,7 +414,7 @@ static u32 core_machine_Machine_awaits(struct engine *e, u64 l0) {
             const u32 t15 = load8(l1 + 28u);
             if (t15 != 1u) goto L2;
             const u64 t16 = load8(l1 + 29u);
-            const u32 t17 = load8(t16 + TABLES + 3012u);
+            const u32 t17 = load8(t16 + TABLES + 3000u);
             l4 = t17;
         }
         L2:;
@@ -1827,111 +1828,6 @@ static u32 space_space_Space_find_way(struct engine *e, u64 l0, u64 l1) {
     return 0;
 }
 
-static void space_space_write_bytes(struct engine *e, u64 l0, u64 l1, u64 l2) {
-    u64 l3 = 0;
-    u64 l4 = 0;
-    u64 l5 = 0;
-    u64 l6 = 0;
-    u32 l7 = 0;
-    if ((i64)(e->stack_pointer - e->stack) >= (i64)16ull) {
-        if (l2 >= 8ull) {
-            l6 = l2;
-            l3 = l0;
-            L3:;
-            {
-                {
-                    if ((l3 - (TABLES + 780u)) <= 63ull) {
-                        store16(l3, (u16)0u);
-                        store32(l3 + 60ull, 0u);
-                        store16(l3 + 56ull, (u16)0u);
-                        store32(l3 + 52ull, 0u);
-                        store16(l3 + 48ull, (u16)0u);
-                        store32(l3 + 44ull, 0u);
-                        store16(l3 + 40ull, (u16)0u);
-                        store32(l3 + 36ull, 0u);
-                        store16(l3 + 32ull, (u16)0u);
-                        store32(l3 + 28ull, 0u);
-                        store16(l3 + 24ull, (u16)0u);
-                        store32(l3 + 20ull, 0u);
-                        store16(l3 + 16ull, (u16)0u);
-                        store32(l3 + 12ull, 0u);
-                        store16(l3 + 8ull, (u16)0u);
-                        store32(l3 + 4ull, 0u);
-                        goto L4;
-                    }
-                    store64(l3 + 56u, 0ull);
-                    store64(l3 + 48u, 0ull);
-                    store64(l3 + 40u, 0ull);
-                    store64(l3 + 32u, 0ull);
-                    store64(l3 + 24u, 0ull);
-                    store64(l3 + 16u, 0ull);
-                    store64(l3 + 8u, 0ull);
-                    store64(l3, 0ull);
-                }
-                L4:;
-                l4 = l1 + l5;
-                const u32 t6 = load8(l4);
-                store8(l3 + 1ull, (u8)t6);
-                const u32 t7 = load8(l4 + 1ull);
-                store8(l3 + 9ull, (u8)t7);
-                const u32 t8 = load8(l4 + 2ull);
-                store8(l3 + 17ull, (u8)t8);
-                const u32 t9 = load8(l4 + 3ull);
-                store8(l3 + 25ull, (u8)t9);
-                const u32 t10 = load8(l4 + 4ull);
-                store8(l3 + 33ull, (u8)t10);
-                const u32 t11 = load8(l4 + 5ull);
-                store8(l3 + 41ull, (u8)t11);
-                const u32 t12 = load8(l4 + 6ull);
-                store8(l3 + 49ull, (u8)t12);
-                const u32 t13 = load8(l4 + 7ull);
-                store8(l3 + 57ull, (u8)t13);
-                l5 = l5 + 8ull;
-                l3 = l3 + 64ull;
-                l6 = l6 - 8ull;
-                if (l6 > 7ull) goto L3;
-            }
-        }
-        {
-            if (l2 <= l5) goto L14;
-            l3 = l5 + 1ull;
-            if ((((l2 - l5) & 1ull) == 0) == 0) {
-                const u32 t16 = load8(l1 + l5);
-                l7 = t16;
-                l4 = l0 + (l5 << 3);
-                store8(l4, (u8)0u);
-                store32(l4 + 4ull, 0u);
-                store8(l4 + 1ull, (u8)l7);
-                l5 = l3;
-            }
-            if (l2 == l3) goto L14;
-            l4 = l1 + l5;
-            l6 = l2 - l5;
-            l3 = l0 + (l5 << 3);
-            L17:;
-            {
-                const u32 t18 = load8(l4);
-                l7 = t18;
-                store32(l3 + 4ull, 0u);
-                store8(l3 + 1ull, (u8)l7);
-                store8(l3, (u8)0u);
-                const u32 t19 = load8(l4 + 1ull);
-                l7 = t19;
-                store32(l3 + 12ull, 0u);
-                store8(l3 + 9ull, (u8)l7);
-                store8(l3 + 8ull, (u8)0u);
-                l4 = l4 + 2ull;
-                l3 = l3 + 16ull;
-                l6 = l6 - 2ull;
-                if (l6 != 0ull) goto L17;
-            }
-        }
-        L14:;
-        return;
-    }
-    trap();
-}
-
 static void devices_slice_source_SliceSourceSource_take_held(struct engine *e, u64 l0, u32 l1, u64 l2) {
     u64 l3 = 0;
     u64 l4 = 0;
@@ -1940,11 +1836,16 @@ static void devices_slice_source_SliceSourceSource_take_held(struct engine *e, u
     u64 l7 = 0;
     u64 l8 = 0;
     u64 l9 = 0;
-    u32 l10 = 0;
-    u32 l11 = 0;
-    u32 l12 = 0;
-    l9 = e->stack_pointer;
-    if ((i64)(l9 - e->stack) >= (i64)16ull) {
+    u64 l10 = 0;
+    u64 l11 = 0;
+    u64 l12 = 0;
+    u64 l13 = 0;
+    u64 l14 = 0;
+    u32 l15 = 0;
+    u32 l16 = 0;
+    u32 l17 = 0;
+    l12 = e->stack_pointer;
+    if ((i64)(l12 - e->stack) >= (i64)16ull) {
         const u64 t2 = load64(l0);
         l8 = t2;
         {
@@ -1953,147 +1854,222 @@ static void devices_slice_source_SliceSourceSource_take_held(struct engine *e, u
                     const u32 t6 = load32(l2 + 8ull);
                     const u32 t7 = load32(l2 + 20ull);
                     const u32 t8 = load32(l2 + 16ull);
-                    l11 = t7 + t8;
+                    l16 = t7 + t8;
                     const u32 t9 = load32(l2 + 24ull);
-                    l12 = l11 + t9;
-                    l3 = (u64)(t6 - l12);
+                    l17 = l16 + t9;
+                    l3 = (u64)(t6 - l17);
                     const u64 t10 = load64(l0 + 8u);
-                    l7 = t10;
-                    l7 = (l3 < l7) ? l3 : l7;
-                    if (l7 < 16ull) {
+                    l5 = t10;
+                    l5 = (l3 < l5) ? l3 : l5;
+                    if (l5 < 16ull) {
                         goto L5;
                     }
-                    l4 = l7 & 4294967280ull;
+                    l6 = l5 & 4294967280ull;
                     L12:;
                     {
-                        l10 = l1 & 255u;
-                        l3 = l5 + l8;
+                        l15 = l1 & 255u;
+                        l3 = l4 + l8;
                         const u32 t13 = load8(l3);
-                        if (l10 == t13) {
-                            l4 = l5;
+                        if (l15 == t13) {
+                            l6 = l4;
                             goto L4;
                         }
                         const u32 t15 = load8(l3 + 1ull);
-                        if (l10 == t15) {
-                            l4 = l5;
+                        if (l15 == t15) {
+                            l6 = l4;
                             goto L4;
                         }
-                        l10 = l1 & 255u;
+                        l15 = l1 & 255u;
                         const u32 t17 = load8(l3 + 2ull);
-                        if (l10 == t17) {
-                            l4 = l5;
+                        if (l15 == t17) {
+                            l6 = l4;
                             goto L4;
                         }
                         const u32 t19 = load8(l3 + 3ull);
-                        if (l10 == t19) {
-                            l4 = l5;
+                        if (l15 == t19) {
+                            l6 = l4;
                             goto L4;
                         }
-                        l10 = l1 & 255u;
+                        l15 = l1 & 255u;
                         const u32 t21 = load8(l3 + 4ull);
-                        if (l10 == t21) {
-                            l4 = l5;
+                        if (l15 == t21) {
+                            l6 = l4;
                             goto L4;
                         }
                         const u32 t23 = load8(l3 + 5ull);
-                        if (l10 == t23) {
-                            l4 = l5;
+                        if (l15 == t23) {
+                            l6 = l4;
                             goto L4;
                         }
-                        l10 = l1 & 255u;
+                        l15 = l1 & 255u;
                         const u32 t25 = load8(l3 + 6ull);
-                        if (l10 == t25) {
-                            l4 = l5;
+                        if (l15 == t25) {
+                            l6 = l4;
                             goto L4;
                         }
                         const u32 t27 = load8(l3 + 7ull);
-                        if (l10 == t27) {
-                            l4 = l5;
+                        if (l15 == t27) {
+                            l6 = l4;
                             goto L4;
                         }
-                        l10 = l1 & 255u;
+                        l15 = l1 & 255u;
                         const u32 t29 = load8(l3 + 8ull);
-                        if (l10 == t29) {
-                            l4 = l5;
+                        if (l15 == t29) {
+                            l6 = l4;
                             goto L4;
                         }
                         const u32 t31 = load8(l3 + 9ull);
-                        if (l10 == t31) {
-                            l4 = l5;
+                        if (l15 == t31) {
+                            l6 = l4;
                             goto L4;
                         }
-                        l10 = l1 & 255u;
+                        l15 = l1 & 255u;
                         const u32 t33 = load8(l3 + 10ull);
-                        if (l10 == t33) {
-                            l4 = l5;
+                        if (l15 == t33) {
+                            l6 = l4;
                             goto L4;
                         }
                         const u32 t35 = load8(l3 + 11ull);
-                        if (l10 == t35) {
-                            l4 = l5;
+                        if (l15 == t35) {
+                            l6 = l4;
                             goto L4;
                         }
-                        l10 = l1 & 255u;
+                        l15 = l1 & 255u;
                         const u32 t37 = load8(l3 + 12ull);
-                        if (l10 == t37) {
-                            l4 = l5;
+                        if (l15 == t37) {
+                            l6 = l4;
                             goto L4;
                         }
                         const u32 t39 = load8(l3 + 13ull);
-                        if (l10 == t39) {
-                            l4 = l5;
+                        if (l15 == t39) {
+                            l6 = l4;
                             goto L4;
                         }
-                        l10 = l1 & 255u;
+                        l15 = l1 & 255u;
                         const u32 t41 = load8(l3 + 14ull);
-                        if (l10 == t41) {
-                            l4 = l5;
+                        if (l15 == t41) {
+                            l6 = l4;
                             goto L4;
                         }
                         const u32 t43 = load8(l3 + 15ull);
-                        if (l10 == t43) {
-                            l4 = l5;
+                        if (l15 == t43) {
+                            l6 = l4;
                             goto L4;
                         }
-                        l5 = l5 + 16ull;
-                        l7 = l7 - 16ull;
-                        if (l7 > 15ull) goto L12;
+                        l4 = l4 + 16ull;
+                        l5 = l5 - 16ull;
+                        if (l5 > 15ull) goto L12;
                     }
                 }
                 L5:;
-                if (l7 == 0) goto L3;
+                if (l5 == 0) goto L3;
             }
             L4:;
-            l3 = l4 + l8;
+            l3 = l6 + l8;
             L45:;
             {
-                const u32 t46 = load8(l3 + l6);
+                const u32 t46 = load8(l3 + l7);
                 if (t46 == (l1 & 255u)) goto L3;
-                l6 = l6 + 1ull;
-                if (l7 != l6) goto L45;
+                l7 = l7 + 1ull;
+                if (l5 != l7) goto L45;
             }
-            l6 = l7;
+            l7 = l5;
         }
         L3:;
-        l3 = l4 + l6;
-        l1 = (u32)l3;
+        l9 = l6 + l7;
+        l15 = (u32)l9;
         const u32 t47 = load32(l2 + 28ull);
-        if (l1 > (t47 - l12)) {
+        if (l15 > (t47 - l17)) {
             space_space_Space_move_active(e, l2, 0u);
             const u32 t49 = load32(l2 + 20ull);
             const u32 t50 = load32(l2 + 16ull);
-            l11 = t49 + t50;
+            l16 = t49 + t50;
         }
         const u64 t51 = load64(l2);
-        space_space_write_bytes(e, t51 + ((u64)l11 << 3), l8, l3);
-        l6 = l2 + 20ull;
-        const u32 t52 = load32(l6);
-        store32(l6, t52 + l1);
-        const u64 t53 = load64(l0 + 8u);
-        store64(l0 + 8u, t53 - l3);
-        const u64 t54 = load64(l0);
-        store64(l0, t54 + l3);
-        e->stack_pointer = l9;
+        l13 = t51;
+        l14 = (u64)l16 << 3;
+        l10 = l13 + l14;
+        l4 = 0ull;
+        if (l9 >= 8ull) {
+            l11 = l9;
+            l3 = l10;
+            L53:;
+            {
+                store64(l3 + 56u, 0ull);
+                store64(l3 + 48u, 0ull);
+                store64(l3 + 40u, 0ull);
+                store64(l3 + 32u, 0ull);
+                store64(l3 + 24u, 0ull);
+                store64(l3 + 16u, 0ull);
+                store64(l3 + 8u, 0ull);
+                store64(l3, 0ull);
+                l5 = l4 + l8;
+                const u32 t54 = load8(l5);
+                store8(l3 + 1ull, (u8)t54);
+                const u32 t55 = load8(l5 + 1ull);
+                store8(l3 + 9ull, (u8)t55);
+                const u32 t56 = load8(l5 + 2ull);
+                store8(l3 + 17ull, (u8)t56);
+                const u32 t57 = load8(l5 + 3ull);
+                store8(l3 + 25ull, (u8)t57);
+                const u32 t58 = load8(l5 + 4ull);
+                store8(l3 + 33ull, (u8)t58);
+                const u32 t59 = load8(l5 + 5ull);
+                store8(l3 + 41ull, (u8)t59);
+                const u32 t60 = load8(l5 + 6ull);
+                store8(l3 + 49ull, (u8)t60);
+                const u32 t61 = load8(l5 + 7ull);
+                store8(l3 + 57ull, (u8)t61);
+                l3 = l3 + 64ull;
+                l4 = l4 + 8ull;
+                l11 = l11 - 8ull;
+                if (l11 > 7ull) goto L53;
+            }
+        }
+        {
+            if (l4 >= l9) goto L62;
+            l3 = l4 + 1ull;
+            l7 = l6 + l7;
+            if ((((l7 - l4) & 1ull) == 0) == 0) {
+                const u32 t64 = load8(l4 + l8);
+                l1 = t64;
+                l5 = l10 + (l4 << 3);
+                store8(l5, (u8)0u);
+                store32(l5 + 4ull, 0u);
+                store8(l5 + 1ull, (u8)l1);
+                l4 = l3;
+            }
+            if (l3 == l7) goto L62;
+            l5 = l4 + l8;
+            l7 = l7 - l4;
+            l3 = l13 + ((l4 << 3) + l14);
+            L65:;
+            {
+                const u32 t66 = load8(l5);
+                l1 = t66;
+                store32(l3 + 4ull, 0u);
+                store8(l3 + 1ull, (u8)l1);
+                store8(l3, (u8)0u);
+                const u32 t67 = load8(l5 + 1ull);
+                l1 = t67;
+                store32(l3 + 12ull, 0u);
+                store8(l3 + 9ull, (u8)l1);
+                store8(l3 + 8ull, (u8)0u);
+                l5 = l5 + 2ull;
+                l3 = l3 + 16ull;
+                l7 = l7 - 2ull;
+                if (l7 != 0ull) goto L65;
+            }
+        }
+        L62:;
+        l3 = l2 + 20ull;
+        const u32 t68 = load32(l3);
+        store32(l3, t68 + l15);
+        const u64 t69 = load64(l0 + 8u);
+        store64(l0 + 8u, t69 - l9);
+        const u64 t70 = load64(l0);
+        store64(l0, t70 + l9);
+        e->stack_pointer = l12;
         return;
     }
     trap();
@@ -3342,8 +3318,8 @@ static void functions_arithmetic_arithmetic(struct engine *e, u64 l0, u64 l1, u3
     u32 l27 = 0;
     u32 l28 = 0;
     u32 l29 = 0;
-    l4 = e->stack_pointer - 256ull;
-    e->stack_pointer = l4;
+    l6 = e->stack_pointer - 256ull;
+    e->stack_pointer = l6;
     u32 v1;
     {
         {
@@ -3352,61 +3328,61 @@ static void functions_arithmetic_arithmetic(struct engine *e, u64 l0, u64 l1, u3
                     {
                         {
                             {
-                                if ((i64)(l4 - e->stack) >= (i64)16ull) {
+                                if ((i64)(l6 - e->stack) >= (i64)16ull) {
                                     const u64 t9 = load64(l3 + 8u);
-                                    store64(l4 + 200u, t9);
+                                    store64(l6 + 200u, t9);
                                     const u64 t10 = load64(l3);
-                                    store64(l4 + 192u, t10);
-                                    const u32 t11 = load8(l4 + 204u);
+                                    store64(l6 + 192u, t10);
+                                    const u32 t11 = load8(l6 + 204u);
                                     l29 = t11;
-                                    functions_arguments_Arguments_next(e, l4 + 184ull, l4 + 192ull, l1);
-                                    const u32 t12 = load32(l4 + 188u);
+                                    functions_arguments_Arguments_next(e, l6 + 184ull, l6 + 192ull, l1);
+                                    const u32 t12 = load32(l6 + 188u);
                                     l21 = t12;
-                                    const u32 t13 = load32(l4 + 184u);
+                                    const u32 t13 = load32(l6 + 184u);
                                     l26 = t13;
-                                    functions_arguments_Arguments_next(e, l4 + 176ull, l4 + 192ull, l1);
+                                    functions_arguments_Arguments_next(e, l6 + 176ull, l6 + 192ull, l1);
                                     const u32 t14 = load32(l1 + 16ull);
                                     l23 = t14;
                                     const u64 t15 = load64(l1);
-                                    l11 = t15;
-                                    const u32 t16 = load32(l4 + 180u);
+                                    l12 = t15;
+                                    const u32 t16 = load32(l6 + 180u);
                                     l22 = t16;
-                                    const u32 t17 = load32(l4 + 176u);
+                                    const u32 t17 = load32(l6 + 176u);
                                     l24 = t17;
-                                    store64(l4 + 248u, 0ull);
-                                    store64(l4 + 240u, 0ull);
-                                    store64(l4 + 232u, 0ull);
-                                    store64(l4 + 224u, 0ull);
-                                    store64(l4 + 216u, 0ull);
-                                    store64(l4 + 208u, 0ull);
+                                    store64(l6 + 248u, 0ull);
+                                    store64(l6 + 240u, 0ull);
+                                    store64(l6 + 232u, 0ull);
+                                    store64(l6 + 224u, 0ull);
+                                    store64(l6 + 216u, 0ull);
+                                    store64(l6 + 208u, 0ull);
                                     l3 = (u64)(l23 + l26);
-                                    l13 = l11 + (l3 << 3);
+                                    l11 = l12 + (l3 << 3);
                                     u32 v18;
                                     {
                                         {
-                                            l6 = (u64)(l21 + l23);
-                                            l8 = l6 - l3;
+                                            l5 = (u64)(l21 + l23);
+                                            l8 = l5 - l3;
                                             if (l8 >= 20ull) {
-                                                const u32 t21 = load8((l13 + (l8 << 3)) - 159ull);
+                                                const u32 t21 = load8((l11 + (l8 << 3)) - 159ull);
                                                 if (((t21 - 48u) & 255u) < 10u) goto L19;
                                             }
                                             {
                                                 {
                                                     l3 = l8 - 19ull;
-                                                    l10 = (l3 > l8) ? 0ull : l3;
-                                                    if (l8 > l10) {
-                                                        l3 = ((l6 << 3) + l11) - 7ull;
-                                                        l6 = 1ull;
+                                                    l9 = (l3 > l8) ? 0ull : l3;
+                                                    if (l8 > l9) {
+                                                        l3 = ((l5 << 3) + l12) - 7ull;
+                                                        l5 = 1ull;
                                                         L25:;
                                                         {
                                                             const u32 t26 = load8(l3);
                                                             l21 = t26 - 48u;
                                                             if ((l21 & 255u) > 9u) goto L23;
                                                             l3 = l3 - 8ull;
-                                                            l7 = (l6 * ((u64)l21 & 255ull)) + l7;
-                                                            l6 = l6 * 10ull;
-                                                            l5 = l5 - 1ull;
-                                                            if (l10 < (l8 + l5)) goto L25;
+                                                            l7 = (l5 * ((u64)l21 & 255ull)) + l7;
+                                                            l5 = l5 * 10ull;
+                                                            l4 = l4 - 1ull;
+                                                            if (l9 < (l8 + l4)) goto L25;
                                                         }
                                                     }
                                                     if (l8 >= 20ull) goto L19;
@@ -3414,57 +3390,57 @@ static void functions_arithmetic_arithmetic(struct engine *e, u64 l0, u64 l1, u3
                                                     goto L22;
                                                 }
                                                 L23:;
-                                                if (l5 == 0) goto L22;
+                                                if (l4 == 0) goto L22;
                                                 const u32 t27 = load8(l3);
                                                 l21 = t27;
                                                 if (l21 == 45u) {
-                                                    l8 = (l5 + l8) - 1ull;
-                                                    l9 = 0ull - (u64)(l7 != 0ull);
+                                                    l8 = (l4 + l8) - 1ull;
+                                                    l10 = 0ull - (u64)(l7 != 0ull);
                                                     l7 = 0ull - l7;
                                                     goto L22;
                                                 }
-                                                l8 = (l8 - (u64)(l21 == 43u)) + l5;
+                                                l8 = (l8 - (u64)(l21 == 43u)) + l4;
                                             }
                                             L22:;
                                             l25 = 1u;
                                             v18 = (u32)l8; goto L18;
                                         }
                                         L19:;
-                                        values_number_long_tail(e, l4 + 208ull, l13, l8);
-                                        const u32 t29 = load8(l4 + 224u);
+                                        values_number_long_tail(e, l6 + 208ull, l11, l8);
+                                        const u32 t29 = load8(l6 + 224u);
                                         l25 = t29 == 1u;
-                                        const u64 t30 = load64(l4 + 248u);
-                                        l9 = t30;
-                                        const u64 t31 = load64(l4 + 240u);
+                                        const u64 t30 = load64(l6 + 248u);
+                                        l10 = t30;
+                                        const u64 t31 = load64(l6 + 240u);
                                         l7 = t31;
-                                        const u32 t32 = load32(l4 + 208u);
+                                        const u32 t32 = load32(l6 + 208u);
                                         v18 = t32;
                                     }
                                     L18:;
                                     l27 = v18;
-                                    l5 = 0ull;
-                                    store64(l4 + 248u, 0ull);
-                                    store64(l4 + 240u, 0ull);
-                                    store64(l4 + 232u, 0ull);
-                                    store64(l4 + 224u, 0ull);
-                                    store64(l4 + 216u, 0ull);
-                                    store64(l4 + 208u, 0ull);
+                                    l4 = 0ull;
+                                    store64(l6 + 248u, 0ull);
+                                    store64(l6 + 240u, 0ull);
+                                    store64(l6 + 232u, 0ull);
+                                    store64(l6 + 224u, 0ull);
+                                    store64(l6 + 216u, 0ull);
+                                    store64(l6 + 208u, 0ull);
                                     l3 = (u64)(l23 + l24);
-                                    l16 = l11 + (l3 << 3);
+                                    l15 = l12 + (l3 << 3);
                                     {
                                         {
-                                            l6 = (u64)(l22 + l23);
-                                            l10 = l6 - l3;
-                                            if (l10 >= 20ull) {
-                                                const u32 t36 = load8((l16 + (l10 << 3)) - 159ull);
+                                            l5 = (u64)(l22 + l23);
+                                            l9 = l5 - l3;
+                                            if (l9 >= 20ull) {
+                                                const u32 t36 = load8((l15 + (l9 << 3)) - 159ull);
                                                 if (((t36 - 48u) & 255u) < 10u) goto L34;
                                             }
                                             {
-                                                l3 = l10 - 19ull;
-                                                l13 = (l3 > l10) ? 0ull : l3;
-                                                if (l10 > l13) {
-                                                    l3 = ((l6 << 3) + l11) - 7ull;
-                                                    l6 = 1ull;
+                                                l3 = l9 - 19ull;
+                                                l11 = (l3 > l9) ? 0ull : l3;
+                                                if (l9 > l11) {
+                                                    l3 = ((l5 << 3) + l12) - 7ull;
+                                                    l5 = 1ull;
                                                     l8 = 0ull;
                                                     L39:;
                                                     {
@@ -3472,13 +3448,13 @@ static void functions_arithmetic_arithmetic(struct engine *e, u64 l0, u64 l1, u3
                                                         l21 = t40 - 48u;
                                                         if ((l21 & 255u) > 9u) goto L37;
                                                         l3 = l3 - 8ull;
-                                                        l5 = (l6 * ((u64)l21 & 255ull)) + l5;
-                                                        l6 = l6 * 10ull;
+                                                        l4 = (l5 * ((u64)l21 & 255ull)) + l4;
+                                                        l5 = l5 * 10ull;
                                                         l8 = l8 - 1ull;
-                                                        if (l13 < (l10 + l8)) goto L39;
+                                                        if (l11 < (l9 + l8)) goto L39;
                                                     }
                                                 }
-                                                if (l10 >= 20ull) goto L34;
+                                                if (l9 >= 20ull) goto L34;
                                                 l3 = 0ull;
                                                 l21 = 1u;
                                                 goto L33;
@@ -3491,18 +3467,18 @@ static void functions_arithmetic_arithmetic(struct engine *e, u64 l0, u64 l1, u3
                                             }
                                             const u32 t42 = load8(l3);
                                             l22 = t42 == 45u;
-                                            l3 = l22 ? (0ull - (u64)(l5 != 0ull)) : 0ull;
-                                            l5 = l22 ? (0ull - l5) : l5;
+                                            l3 = l22 ? (0ull - (u64)(l4 != 0ull)) : 0ull;
+                                            l4 = l22 ? (0ull - l4) : l4;
                                             goto L33;
                                         }
                                         L34:;
-                                        values_number_long_tail(e, l4 + 208ull, l16, l10);
-                                        const u32 t43 = load8(l4 + 224u);
+                                        values_number_long_tail(e, l6 + 208ull, l15, l9);
+                                        const u32 t43 = load8(l6 + 224u);
                                         l21 = t43 == 1u;
-                                        const u64 t44 = load64(l4 + 248u);
+                                        const u64 t44 = load64(l6 + 248u);
                                         l3 = t44;
-                                        const u64 t45 = load64(l4 + 240u);
-                                        l5 = t45;
+                                        const u64 t45 = load64(l6 + 240u);
+                                        l4 = t45;
                                     }
                                     L33:;
                                     if ((l21 & l25) != 1u) goto L2;
@@ -3519,54 +3495,54 @@ static void functions_arithmetic_arithmetic(struct engine *e, u64 l0, u64 l1, u3
                                                 }
                                                 L49:;
                                                 l21 = (i64)l3 < (i64)0ull;
-                                                l6 = l21 ? (0ull - l5) : l5;
-                                                l22 = (i64)l9 < (i64)0ull;
+                                                l5 = l21 ? (0ull - l4) : l4;
+                                                l22 = (i64)l10 < (i64)0ull;
                                                 l8 = l22 ? (0ull - l7) : l7;
-                                                multi3(e, l4 + 96ull, l6, 0ull, l8, 0ull);
-                                                l10 = l21 ? (0ull - (l3 + (u64)(l5 != 0ull))) : l3;
-                                                multi3(e, l4 + 128ull, l10, 0ull, l8, 0ull);
-                                                l8 = l22 ? (0ull - (l9 + (u64)(l7 != 0ull))) : l9;
-                                                multi3(e, l4 + 80ull, l6, 0ull, l8, 0ull);
-                                                multi3(e, l4 + 112ull, l10, 0ull, l8, 0ull);
-                                                multi3(e, l4 + 64ull, l5, l3, l7, l9);
-                                                const u64 t50 = load64(l4 + 96u);
-                                                l3 = (l3 ^ l9) >> 63;
-                                                l5 = l3 + 9223372036854775807ull;
-                                                const u64 t51 = load64(l4 + 104u);
+                                                multi3(e, l6 + 96ull, l5, 0ull, l8, 0ull);
+                                                l9 = l21 ? (0ull - (l3 + (u64)(l4 != 0ull))) : l3;
+                                                multi3(e, l6 + 128ull, l9, 0ull, l8, 0ull);
+                                                l8 = l22 ? (0ull - (l10 + (u64)(l7 != 0ull))) : l10;
+                                                multi3(e, l6 + 80ull, l5, 0ull, l8, 0ull);
+                                                multi3(e, l6 + 112ull, l9, 0ull, l8, 0ull);
+                                                multi3(e, l6 + 64ull, l4, l3, l7, l10);
+                                                const u64 t50 = load64(l6 + 96u);
+                                                l3 = (l3 ^ l10) >> 63;
+                                                l4 = l3 + 9223372036854775807ull;
+                                                const u64 t51 = load64(l6 + 104u);
                                                 l7 = t51;
-                                                const u64 t52 = load64(l4 + 128u);
-                                                l6 = l7 + t52;
-                                                const u64 t53 = load64(l4 + 80u);
+                                                const u64 t52 = load64(l6 + 128u);
+                                                l5 = l7 + t52;
+                                                const u64 t53 = load64(l6 + 80u);
                                                 const u32 t54 = t50 > (l3 - 1ull);
-                                                l3 = l6 + t53;
-                                                if ((l3 == l5) ? t54 : (l5 < l3)) goto L2;
-                                                const u64 t55 = load64(l4 + 88u);
-                                                const u64 t56 = load64(l4 + 136u);
-                                                const u64 t57 = t55 + (u64)(l3 < l6);
-                                                l3 = t56 + (u64)(l6 < l7);
-                                                const u64 t58 = load64(l4 + 112u);
-                                                l6 = l3 + t58;
-                                                const u64 t59 = load64(l4 + 120u);
-                                                if ((((t57 | l6) | (t59 + (u64)(l3 > l6))) == 0) == 0) goto L2;
-                                                const u64 t60 = load64(l4 + 72u);
+                                                l3 = l5 + t53;
+                                                if ((l3 == l4) ? t54 : (l4 < l3)) goto L2;
+                                                const u64 t55 = load64(l6 + 88u);
+                                                const u64 t56 = load64(l6 + 136u);
+                                                const u64 t57 = t55 + (u64)(l3 < l5);
+                                                l3 = t56 + (u64)(l5 < l7);
+                                                const u64 t58 = load64(l6 + 112u);
+                                                l5 = l3 + t58;
+                                                const u64 t59 = load64(l6 + 120u);
+                                                if ((((t57 | l5) | (t59 + (u64)(l3 > l5))) == 0) == 0) goto L2;
+                                                const u64 t60 = load64(l6 + 72u);
                                                 l14 = t60;
-                                                const u64 t61 = load64(l4 + 64u);
+                                                const u64 t61 = load64(l6 + 64u);
                                                 l8 = t61;
                                                 goto L4;
                                             }
                                             L48:;
                                             {
-                                                const u64 t63 = (l3 + (u64)(((l5 + 9223372036854775808ull) < l5))) | (l9 + (u64)(((l7 + 9223372036854775808ull) < l7)));
+                                                const u64 t63 = (l3 + (u64)(((l4 + 9223372036854775808ull) < l4))) | (l10 + (u64)(((l7 + 9223372036854775808ull) < l7)));
                                                 if (t63 != 0ull) goto L62;
                                                 u64 v64;
                                                 {
                                                     {
-                                                        l6 = l5 + 1ull;
-                                                        if (l6 <= 1ull) {
-                                                            if ((u32)l6 - 1u) goto L65;
+                                                        l5 = l4 + 1ull;
+                                                        if (l5 <= 1ull) {
+                                                            if ((u32)l5 - 1u) goto L65;
                                                             goto L62;
                                                         }
-                                                        v64 = (u64)((i64)l7 / (i64)l5); goto L64;
+                                                        v64 = (u64)((i64)l7 / (i64)l4); goto L64;
                                                     }
                                                     L65:;
                                                     if (l7 == 9223372036854775808ull) goto L62;
@@ -3579,81 +3555,81 @@ static void functions_arithmetic_arithmetic(struct engine *e, u64 l0, u64 l1, u3
                                             }
                                             L62:;
                                             {
-                                                l6 = l5 + 1ull;
-                                                l8 = l3 + (u64)(l6 == 0);
-                                                if (((l8 == 0) ? (l6 > 1ull) : (l8 != 0ull)) == 0) {
-                                                    if ((u32)l6 - 1u) goto L67;
+                                                l5 = l4 + 1ull;
+                                                l8 = l3 + (u64)(l5 == 0);
+                                                if (((l8 == 0) ? (l5 > 1ull) : (l8 != 0ull)) == 0) {
+                                                    if ((u32)l5 - 1u) goto L67;
                                                     goto L2;
                                                 }
-                                                l21 = (i64)l9 < (i64)0ull;
-                                                l8 = l21 ? (0ull - (l9 + (u64)(l7 != 0ull))) : l9;
+                                                l21 = (i64)l10 < (i64)0ull;
+                                                l8 = l21 ? (0ull - (l10 + (u64)(l7 != 0ull))) : l10;
                                                 l22 = (i64)l3 < (i64)0ull;
-                                                l17 = l22 ? (0ull - l5) : l5;
-                                                l18 = l22 ? (0ull - (l3 + (u64)(l5 != 0ull))) : l3;
+                                                l18 = l22 ? (0ull - l4) : l4;
+                                                l17 = l22 ? (0ull - (l3 + (u64)(l4 != 0ull))) : l3;
                                                 l7 = l21 ? (0ull - l7) : l7;
-                                                l5 = (l18 != 0ull) ? clz64(l18) : (clz64(l17) + 64ull);
-                                                l10 = (l8 != 0ull) ? clz64(l8) : (clz64(l7) + 64ull);
-                                                l6 = l5 - l10;
-                                                l10 = 0ull - (u64)(l5 < l10);
-                                                l21 = (((l17 | l18) == 0) | ((l8 | l7) == 0)) | ((l10 == 0) ? (l6 > 127ull) : (l10 != 0ull));
-                                                l5 = l21 ? 0ull : l8;
-                                                l13 = l21 ? 0ull : l7;
-                                                l15 = (u64)((i64)(l3 ^ l9) >> 63);
+                                                l4 = (l17 != 0ull) ? clz64(l17) : (clz64(l18) + 64ull);
+                                                l9 = (l8 != 0ull) ? clz64(l8) : (clz64(l7) + 64ull);
+                                                l5 = l4 - l9;
+                                                l9 = 0ull - (u64)(l4 < l9);
+                                                l21 = (((l18 | l17) == 0) | ((l8 | l7) == 0)) | ((l9 == 0) ? (l5 > 127ull) : (l9 != 0ull));
+                                                l4 = l21 ? 0ull : l8;
+                                                l11 = l21 ? 0ull : l7;
+                                                l16 = (u64)((i64)(l3 ^ l10) >> 63);
                                                 if (l21) goto L5;
-                                                if (((l6 ^ 127ull) | l10) == 0) goto L5;
-                                                ashlti3(e, l4 + 160ull, l7, l8, 127u - (u32)l6);
-                                                const u64 t69 = load64(l4 + 168u);
-                                                l5 = t69;
-                                                const u64 t70 = load64(l4 + 160u);
+                                                if (((l5 ^ 127ull) | l9) == 0) goto L5;
+                                                ashlti3(e, l6 + 160ull, l7, l8, 127u - (u32)l5);
+                                                const u64 t69 = load64(l6 + 168u);
+                                                l4 = t69;
+                                                const u64 t70 = load64(l6 + 160u);
                                                 l3 = t70;
-                                                l6 = l6 + 1ull;
-                                                l10 = l10 + (u64)(l6 == 0);
-                                                if ((l6 | l10) == 0) goto L7;
-                                                lshrti3(e, l4 + 144ull, l7, l8, (u32)l6);
-                                                l20 = l17 - 1ull;
-                                                l12 = l18 - (u64)(l17 == 0);
-                                                const u64 t71 = load64(l4 + 152u);
-                                                l13 = t71;
-                                                const u64 t72 = load64(l4 + 144u);
+                                                l5 = l5 + 1ull;
+                                                l9 = l9 + (u64)(l5 == 0);
+                                                if ((l5 | l9) == 0) goto L7;
+                                                lshrti3(e, l6 + 144ull, l7, l8, (u32)l5);
+                                                l20 = l18 - 1ull;
+                                                l13 = l17 - (u64)(l18 == 0);
+                                                const u64 t71 = load64(l6 + 152u);
+                                                l11 = t71;
+                                                const u64 t72 = load64(l6 + 144u);
                                                 l7 = t72;
                                                 l8 = 0ull;
                                                 L73:;
                                                 {
-                                                    l9 = l8;
-                                                    l8 = (l13 << 1) | (l7 >> 63);
-                                                    l7 = (l7 << 1) | (l5 >> 63);
+                                                    l10 = l8;
+                                                    l8 = (l11 << 1) | (l7 >> 63);
+                                                    l7 = (l7 << 1) | (l4 >> 63);
                                                     const u64 t74 = l8;
-                                                    l8 = (u64)((i64)((l12 - l8) - (u64)(l20 < l7)) >> 63);
-                                                    l16 = l8 & l17;
-                                                    l13 = (t74 - (l8 & l18)) - (u64)(l7 < l16);
+                                                    l8 = (u64)((i64)((l13 - l8) - (u64)(l20 < l7)) >> 63);
+                                                    l15 = l8 & l18;
+                                                    l11 = (t74 - (l8 & l17)) - (u64)(l7 < l15);
                                                     l8 = l8 & 1ull;
-                                                    l7 = l7 - l16;
-                                                    l5 = (l5 << 1) | (l3 >> 63);
-                                                    l21 = l6 == 0;
-                                                    l3 = l9 | (l3 << 1);
-                                                    l9 = l6 - 1ull;
-                                                    l6 = l9;
-                                                    l10 = l10 - (u64)l21;
-                                                    if (((l9 | l10) == 0) == 0) goto L73;
+                                                    l7 = l7 - l15;
+                                                    l4 = (l4 << 1) | (l3 >> 63);
+                                                    l21 = l5 == 0;
+                                                    l3 = l10 | (l3 << 1);
+                                                    l10 = l5 - 1ull;
+                                                    l5 = l10;
+                                                    l9 = l9 - (u64)l21;
+                                                    if (((l10 | l9) == 0) == 0) goto L73;
                                                 }
                                                 goto L6;
                                             }
                                             L67:;
-                                            if ((l7 | (l9 ^ 9223372036854775808ull)) == 0) goto L2;
+                                            if ((l7 | (l10 ^ 9223372036854775808ull)) == 0) goto L2;
                                             l8 = 0ull - l7;
-                                            l14 = 0ull - (l9 + (u64)(l7 != 0ull));
+                                            l14 = 0ull - (l10 + (u64)(l7 != 0ull));
                                             goto L3;
                                         }
                                         L47:;
-                                        l8 = l7 - l5;
-                                        l14 = (l9 - l3) - (u64)(l5 > l7);
-                                        if ((((i64)l3 >= (i64)0ull) ^ ((l9 == l14) ? (l7 < l8) : ((i64)l9 < (i64)l14))) == 0) goto L2;
+                                        l8 = l7 - l4;
+                                        l14 = (l10 - l3) - (u64)(l4 > l7);
+                                        if ((((i64)l3 >= (i64)0ull) ^ ((l10 == l14) ? (l7 < l8) : ((i64)l10 < (i64)l14))) == 0) goto L2;
                                         goto L4;
                                     }
                                     L46:;
-                                    l8 = l5 + l7;
-                                    l14 = (u64)(l5 > l8) + (l3 + l9);
-                                    if (((i64)l3 >= (i64)0ull) ^ ((l9 == l14) ? (l8 < l7) : ((i64)l14 < (i64)l9))) goto L4;
+                                    l8 = l4 + l7;
+                                    l14 = (u64)(l4 > l8) + (l3 + l10);
+                                    if (((i64)l3 >= (i64)0ull) ^ ((l10 == l14) ? (l8 < l7) : ((i64)l14 < (i64)l10))) goto L4;
                                     goto L2;
                                 }
                                 trap();
@@ -3662,348 +3638,493 @@ static void functions_arithmetic_arithmetic(struct engine *e, u64 l0, u64 l1, u3
                             l8 = 0ull;
                         }
                         L6:;
-                        l5 = (l5 << 1) | (l3 >> 63);
-                        l13 = l8 | (l3 << 1);
+                        l4 = (l4 << 1) | (l3 >> 63);
+                        l11 = l8 | (l3 << 1);
                     }
                     L5:;
-                    l3 = l13 ^ l15;
-                    l14 = ((l5 ^ l15) - l15) - (u64)(l3 < l15);
-                    l8 = l3 - l15;
+                    l3 = l11 ^ l16;
+                    l14 = ((l4 ^ l16) - l16) - (u64)(l3 < l16);
+                    l8 = l3 - l16;
                 }
                 L4:;
                 if ((l8 | (l14 ^ 9223372036854775808ull)) == 0) goto L2;
             }
             L3:;
-            store64(l4 + 240u, 0ull);
-            store64(l4 + 232u, 0ull);
-            store64(l4 + 224u, 0ull);
-            store64(l4 + 216u, 0ull);
-            store64(l4 + 208u, 0ull);
+            store64(l6 + 240u, 0ull);
+            store64(l6 + 232u, 0ull);
+            store64(l6 + 224u, 0ull);
+            store64(l6 + 216u, 0ull);
+            store64(l6 + 208u, 0ull);
             {
                 if ((l14 + (u64)(((l8 + 9223372036854775808ull) < l8))) == 0) {
                     l3 = 40ull;
-                    l6 = (u64)((i64)l8 >> 63);
-                    l5 = (l8 ^ l6) - l6;
-                    if (l5 >= 10000ull) {
+                    l5 = (u64)((i64)l8 >> 63);
+                    l4 = (l8 ^ l5) - l5;
+                    if (l4 >= 10000ull) {
                         L78:;
                         {
-                            l7 = (l4 + 208ull) + l3;
-                            l6 = l5;
-                            l5 = l5 / 10000ull;
-                            l21 = (u32)((l6 - (l5 * 10000ull)));
+                            l7 = (l6 + 208ull) + l3;
+                            l5 = l4;
+                            l4 = l4 / 10000ull;
+                            l21 = (u32)((l5 - (l4 * 10000ull)));
                             l22 = (l21 & 65535u) / 100u;
-                            const u32 t79 = load16(((u64)l22 << 1) + TABLES + 2812u);
+                            const u32 t79 = load16(((u64)l22 << 1) + TABLES + 2800u);
                             store16(l7 - 4ull, (u16)t79);
-                            const u32 t80 = load16((((u64)((l21 - (l22 * 100u))) & 65535ull) << 1) + TABLES + 2812u);
+                            const u32 t80 = load16((((u64)((l21 - (l22 * 100u))) & 65535ull) << 1) + TABLES + 2800u);
                             store16(l7 - 2ull, (u16)t80);
                             l3 = l3 - 4ull;
-                            if (l6 > 99999999ull) goto L78;
+                            if (l5 > 99999999ull) goto L78;
                         }
                     }
                     {
-                        if (l5 <= 99ull) {
-                            if (l5 <= 9ull) {
-                                l6 = l3 - 1ull;
-                                store8(l6 + (l4 + 208ull), (u8)(((u32)l5 | 48u)));
+                        if (l4 <= 99ull) {
+                            if (l4 <= 9ull) {
+                                l9 = l3 - 1ull;
+                                store8(l9 + (l6 + 208ull), (u8)(((u32)l4 | 48u)));
                                 goto L81;
                             }
-                            l6 = l3 - 2ull;
-                            const u32 t84 = load16((l5 << 1) + TABLES + 2812u);
-                            store16(l6 + (l4 + 208ull), (u16)t84);
+                            l9 = l3 - 2ull;
+                            const u32 t84 = load16((l4 << 1) + TABLES + 2800u);
+                            store16(l9 + (l6 + 208ull), (u16)t84);
                             goto L81;
                         }
-                        l21 = (u32)l5;
+                        l21 = (u32)l4;
                         const u32 t85 = l21;
                         l21 = (l21 & 65535u) / 100u;
-                        const u32 t86 = load16((((u64)((t85 - (l21 * 100u))) & 65535ull) << 1) + TABLES + 2812u);
-                        store16((l3 + l4) + 206ull, (u16)t86);
-                        if (l5 <= 999ull) {
-                            l6 = l3 - 3ull;
-                            store8(l6 + (l4 + 208ull), (u8)(l21 | 48u));
+                        const u32 t86 = load16((((u64)((t85 - (l21 * 100u))) & 65535ull) << 1) + TABLES + 2800u);
+                        store16((l3 + l6) + 206ull, (u16)t86);
+                        if (l4 <= 999ull) {
+                            l9 = l3 - 3ull;
+                            store8(l9 + (l6 + 208ull), (u8)(l21 | 48u));
                             goto L81;
                         }
-                        l6 = l3 - 4ull;
-                        const u32 t88 = load16(((u64)l21 << 1) + TABLES + 2812u);
-                        store16(l6 + (l4 + 208ull), (u16)t88);
+                        l9 = l3 - 4ull;
+                        const u32 t88 = load16(((u64)l21 << 1) + TABLES + 2800u);
+                        store16(l9 + (l6 + 208ull), (u16)t88);
                     }
                     L81:;
                     if ((i64)l8 >= (i64)0ull) goto L75;
-                    l6 = l6 - 1ull;
-                    store8(l6 + (l4 + 208ull), (u8)45u);
+                    l9 = l9 - 1ull;
+                    store8(l9 + (l6 + 208ull), (u8)45u);
                     goto L75;
                 }
                 l21 = (i64)l14 < (i64)0ull;
                 l3 = l21 ? (0ull - l8) : l8;
-                l12 = 40ull;
+                l13 = 40ull;
                 {
-                    l5 = l21 ? (0ull - (l14 + (u64)(l8 != 0ull))) : l14;
-                    if ((l5 == 0) == 0) {
+                    l4 = l21 ? (0ull - (l14 + (u64)(l8 != 0ull))) : l14;
+                    if ((l4 == 0) == 0) {
                         L91:;
                         {
-                            l15 = l5;
+                            l16 = l4;
                             l19 = l3;
-                            l3 = (l5 != 0ull) ? clz64(l5) : (clz64(l3) + 64ull);
-                            l6 = 124ull - l3;
+                            l3 = (l4 != 0ull) ? clz64(l4) : (clz64(l3) + 64ull);
+                            l5 = 124ull - l3;
                             l7 = 0ull - (u64)(l3 > 124ull);
-                            l21 = ((l5 | l19) == 0) | ((l7 == 0) ? (l6 > 127ull) : (l7 != 0ull));
-                            l5 = l21 ? 0ull : l15;
+                            l21 = ((l4 | l19) == 0) | ((l7 == 0) ? (l5 > 127ull) : (l7 != 0ull));
+                            l4 = l21 ? 0ull : l16;
                             l3 = l21 ? 0ull : l19;
-                            l12 = l12 - 1ull;
+                            l13 = l13 - 1ull;
                             {
                                 if (l21) goto L92;
-                                if (((l6 ^ 127ull) | l7) == 0) goto L92;
-                                ashlti3(e, l4 + 48ull, l19, l15, 127u - (u32)l6);
-                                const u64 t93 = load64(l4 + 56u);
-                                l5 = t93;
-                                const u64 t94 = load64(l4 + 48u);
+                                if (((l5 ^ 127ull) | l7) == 0) goto L92;
+                                ashlti3(e, l6 + 48ull, l19, l16, 127u - (u32)l5);
+                                const u64 t93 = load64(l6 + 56u);
+                                l4 = t93;
+                                const u64 t94 = load64(l6 + 48u);
                                 l3 = t94;
                                 {
-                                    l6 = l6 + 1ull;
-                                    l13 = l7 + (u64)(l6 == 0);
-                                    if (((l6 | l13) == 0) == 0) {
-                                        lshrti3(e, l4 + 32ull, l19, l15, (u32)l6);
-                                        l17 = 9ull;
+                                    l5 = l5 + 1ull;
+                                    l11 = l7 + (u64)(l5 == 0);
+                                    if (((l5 | l11) == 0) == 0) {
+                                        lshrti3(e, l6 + 32ull, l19, l16, (u32)l5);
+                                        l18 = 9ull;
                                         l20 = 0ull;
-                                        const u64 t97 = load64(l4 + 40u);
+                                        const u64 t97 = load64(l6 + 40u);
                                         l8 = t97;
-                                        const u64 t98 = load64(l4 + 32u);
+                                        const u64 t98 = load64(l6 + 32u);
                                         l7 = t98;
-                                        l10 = 0ull;
+                                        l9 = 0ull;
                                         L99:;
                                         {
-                                            l9 = l10;
-                                            l16 = (l8 << 1) | (l7 >> 63);
-                                            l8 = (l7 << 1) | (l5 >> 63);
-                                            l7 = (u64)((i64)((l20 - l16) - (u64)(l17 < l8)) >> 63);
-                                            l10 = l7 & 1ull;
-                                            l18 = l7 & 10ull;
-                                            l7 = l8 - l18;
-                                            l8 = l16 - (u64)(l8 < l18);
-                                            l5 = (l5 << 1) | (l3 >> 63);
-                                            l21 = l6 == 0;
-                                            l3 = l9 | (l3 << 1);
-                                            l9 = l6 - 1ull;
-                                            l6 = l9;
-                                            l13 = l13 - (u64)l21;
-                                            if (((l9 | l13) == 0) == 0) goto L99;
+                                            l10 = l9;
+                                            l15 = (l8 << 1) | (l7 >> 63);
+                                            l8 = (l7 << 1) | (l4 >> 63);
+                                            l7 = (u64)((i64)((l20 - l15) - (u64)(l18 < l8)) >> 63);
+                                            l9 = l7 & 1ull;
+                                            l17 = l7 & 10ull;
+                                            l7 = l8 - l17;
+                                            l8 = l15 - (u64)(l8 < l17);
+                                            l4 = (l4 << 1) | (l3 >> 63);
+                                            l21 = l5 == 0;
+                                            l3 = l10 | (l3 << 1);
+                                            l10 = l5 - 1ull;
+                                            l5 = l10;
+                                            l11 = l11 - (u64)l21;
+                                            if (((l10 | l11) == 0) == 0) goto L99;
                                         }
                                         goto L95;
                                     }
-                                    l10 = 0ull;
+                                    l9 = 0ull;
                                 }
                                 L95:;
-                                l5 = (l5 << 1) | (l3 >> 63);
-                                l3 = l10 | (l3 << 1);
+                                l4 = (l4 << 1) | (l3 >> 63);
+                                l3 = l9 | (l3 << 1);
                             }
                             L92:;
-                            multi3(e, l4 + 16ull, l3, l4, 10ull, 0ull);
-                            const u64 t100 = load64(l4 + 16u);
-                            store8((l4 + 208ull) + l12, (u8)(((u32)(l19 - t100) | 48u)));
-                            if (l15 > 9ull) goto L91;
+                            multi3(e, l6 + 16ull, l3, l6, 10ull, 0ull);
+                            const u64 t100 = load64(l6 + 16u);
+                            store8((l6 + 208ull) + l13, (u8)(((u32)(l19 - t100) | 48u)));
+                            if (l16 > 9ull) goto L91;
                         }
                         if (l3 < 10000ull) goto L89;
                     }
-                    l7 = l4 + 204ull;
+                    l7 = l6 + 204ull;
                     L101:;
                     {
-                        l5 = l7 + l12;
-                        l6 = l3;
+                        l4 = l7 + l13;
+                        l5 = l3;
                         l3 = l3 / 10000ull;
-                        l21 = (u32)((l6 - (l3 * 10000ull)));
+                        l21 = (u32)((l5 - (l3 * 10000ull)));
                         l22 = (l21 & 65535u) / 100u;
-                        const u32 t102 = load16(((u64)l22 << 1) + TABLES + 2812u);
-                        store16(l5, (u16)t102);
-                        const u32 t103 = load16((((u64)((l21 - (l22 * 100u))) & 65535ull) << 1) + TABLES + 2812u);
-                        store16(l5 + 2ull, (u16)t103);
-                        l12 = l12 - 4ull;
-                        if (l6 > 99999999ull) goto L101;
+                        const u32 t102 = load16(((u64)l22 << 1) + TABLES + 2800u);
+                        store16(l4, (u16)t102);
+                        const u32 t103 = load16((((u64)((l21 - (l22 * 100u))) & 65535ull) << 1) + TABLES + 2800u);
+                        store16(l4 + 2ull, (u16)t103);
+                        l13 = l13 - 4ull;
+                        if (l5 > 99999999ull) goto L101;
                     }
                 }
                 L89:;
                 {
                     if (l3 <= 99ull) {
                         if (l3 <= 9ull) {
-                            l6 = l12 - 1ull;
-                            store8(l6 + (l4 + 208ull), (u8)(((u32)l3 | 48u)));
+                            l9 = l13 - 1ull;
+                            store8(l9 + (l6 + 208ull), (u8)(((u32)l3 | 48u)));
                             goto L104;
                         }
-                        l6 = l12 - 2ull;
-                        const u32 t107 = load16((l3 << 1) + TABLES + 2812u);
-                        store16(l6 + (l4 + 208ull), (u16)t107);
+                        l9 = l13 - 2ull;
+                        const u32 t107 = load16((l3 << 1) + TABLES + 2800u);
+                        store16(l9 + (l6 + 208ull), (u16)t107);
                         goto L104;
                     }
                     l21 = (u32)l3;
                     const u32 t108 = l21;
                     l21 = (l21 & 65535u) / 100u;
-                    const u32 t109 = load16((((u64)((t108 - (l21 * 100u))) & 65535ull) << 1) + TABLES + 2812u);
-                    store16((l4 + l12) + 206ull, (u16)t109);
+                    const u32 t109 = load16((((u64)((t108 - (l21 * 100u))) & 65535ull) << 1) + TABLES + 2800u);
+                    store16((l6 + l13) + 206ull, (u16)t109);
                     if (l3 <= 999ull) {
-                        l6 = l12 - 3ull;
-                        store8(l6 + (l4 + 208ull), (u8)(l21 | 48u));
+                        l9 = l13 - 3ull;
+                        store8(l9 + (l6 + 208ull), (u8)(l21 | 48u));
                         goto L104;
                     }
-                    l6 = l12 - 4ull;
-                    const u32 t111 = load16(((u64)l21 << 1) + TABLES + 2812u);
-                    store16(l6 + (l4 + 208ull), (u16)t111);
+                    l9 = l13 - 4ull;
+                    const u32 t111 = load16(((u64)l21 << 1) + TABLES + 2800u);
+                    store16(l9 + (l6 + 208ull), (u16)t111);
                 }
                 L104:;
                 if ((i64)l14 >= (i64)0ull) goto L75;
-                l6 = l6 - 1ull;
-                store8(l6 + (l4 + 208ull), (u8)45u);
+                l9 = l9 - 1ull;
+                store8(l9 + (l6 + 208ull), (u8)45u);
             }
             L75:;
             l24 = 0u;
-            l3 = 40ull - l6;
-            l21 = (u32)l3;
-            l28 = l27 + l21;
             const u32 t112 = load32(l1 + 8ull);
             const u32 t113 = load32(l1 + 20ull);
             l25 = t113 + l23;
             const u32 t114 = load32(l1 + 24ull);
             l2 = t114;
-            l23 = l25 + l2;
-            if (l28 > (t112 - l23)) { v1 = 0u; goto L1; }
+            l21 = l25 + l2;
+            l11 = 40ull - l9;
+            l23 = (u32)l11;
+            l28 = l27 + l23;
+            if ((t112 - l21) < l28) { v1 = 0u; goto L1; }
             l22 = l26 + l27;
-            l6 = (l4 + 208ull) + l6;
+            l8 = (l6 + 208ull) + l9;
             if (l29 & 1u) {
-                l5 = l1 + 28ull;
-                const u32 t116 = load32(l5);
+                l3 = l1 + 28ull;
+                const u32 t116 = load32(l3);
                 l24 = t116;
-                if (l21 > (l24 - l23)) {
+                if (l23 > (l24 - l21)) {
                     space_space_Space_move_active(e, l1, 0u);
-                    const u32 t118 = load32(l5);
+                    const u32 t118 = load32(l3);
                     l24 = t118;
                     const u64 t119 = load64(l1);
-                    l11 = t119;
+                    l12 = t119;
                     const u32 t120 = load32(l1 + 24ull);
                     l2 = t120;
                 }
-                l21 = l2 + l21;
-                space_space_write_bytes(e, l11 + ((u64)(l24 - l21) << 3), l6, l3);
-                store32(l1 + 24ull, l21);
+                l23 = l2 + l23;
+                l15 = (u64)(l24 - l23) << 3;
+                l10 = l12 + l15;
+                l4 = 0ull;
+                if (l11 >= 8ull) {
+                    l7 = l11;
+                    l3 = l10;
+                    L122:;
+                    {
+                        store64(l3 + 32u, 0ull);
+                        store64(l3 + 24u, 0ull);
+                        store64(l3 + 16u, 0ull);
+                        store64(l3 + 8u, 0ull);
+                        store64(l3, 0ull);
+                        l5 = l4 + l8;
+                        const u32 t123 = load8(l5);
+                        store8(l3 + 1ull, (u8)t123);
+                        const u32 t124 = load8(l5 + 1ull);
+                        store8(l3 + 9ull, (u8)t124);
+                        const u32 t125 = load8(l5 + 2ull);
+                        store8(l3 + 17ull, (u8)t125);
+                        const u32 t126 = load8(l5 + 3ull);
+                        store8(l3 + 25ull, (u8)t126);
+                        const u32 t127 = load8(l5 + 4ull);
+                        store8(l3 + 33ull, (u8)t127);
+                        store64(l3 + 40u, 0ull);
+                        const u32 t128 = load8(l5 + 5ull);
+                        store8(l3 + 41ull, (u8)t128);
+                        store64(l3 + 48u, 0ull);
+                        const u32 t129 = load8(l5 + 6ull);
+                        store8(l3 + 49ull, (u8)t129);
+                        store64(l3 + 56u, 0ull);
+                        const u32 t130 = load8(l5 + 7ull);
+                        store8(l3 + 57ull, (u8)t130);
+                        l3 = l3 + 64ull;
+                        l4 = l4 + 8ull;
+                        l7 = l7 - 8ull;
+                        if (l7 > 7ull) goto L122;
+                    }
+                }
+                {
+                    if (l4 >= l11) goto L131;
+                    l3 = l4 + l9;
+                    if (((l3 & 1ull) == 0) == 0) {
+                        const u32 t133 = load8(l4 + l8);
+                        l21 = t133;
+                        l5 = l10 + (l4 << 3);
+                        store8(l5, (u8)0u);
+                        store32(l5 + 4ull, 0u);
+                        store8(l5 + 1ull, (u8)l21);
+                        l4 = l4 + 1ull;
+                    }
+                    if (l3 == 39ull) goto L131;
+                    l5 = l4 + l9;
+                    l3 = l12 + ((l4 << 3) + l15);
+                    L134:;
+                    {
+                        l4 = (l6 + 208ull) + l5;
+                        const u32 t135 = load8(l4);
+                        l21 = t135;
+                        store32(l3 + 4ull, 0u);
+                        store8(l3 + 1ull, (u8)l21);
+                        store8(l3, (u8)0u);
+                        const u32 t136 = load8(l4 + 1ull);
+                        l21 = t136;
+                        store32(l3 + 12ull, 0u);
+                        store8(l3 + 9ull, (u8)l21);
+                        store8(l3 + 8ull, (u8)0u);
+                        l3 = l3 + 16ull;
+                        l5 = l5 + 2ull;
+                        if (l5 != 40ull) goto L134;
+                    }
+                }
+                L131:;
+                store32(l1 + 24ull, l23);
                 l24 = 2u;
                 if (l22 <= l26) { v1 = l28; goto L1; }
                 {
-                    if (l27 > 7u) goto L121;
-                    const u32 t122 = load32(l1 + 28ull);
-                    l23 = t122;
-                    const u32 t123 = load32(l1 + 20ull);
-                    const u32 t124 = load32(l1 + 16ull);
-                    l25 = t124;
-                    if (l27 > (l23 - (t123 + (l25 + l21)))) goto L121;
-                    l6 = (u64)(l25 + l26);
-                    l21 = l21 + l27;
-                    l5 = (u64)(l23 - l21);
+                    if (l27 > 7u) goto L137;
+                    const u32 t138 = load32(l1 + 28ull);
+                    l21 = t138;
+                    const u32 t139 = load32(l1 + 20ull);
+                    const u32 t140 = load32(l1 + 16ull);
+                    l25 = t140;
+                    if (l27 > (l21 - (t139 + (l25 + l23)))) goto L137;
+                    l5 = (u64)(l25 + l26);
+                    l23 = l23 + l27;
+                    l4 = (u64)(l21 - l23);
                     l7 = (u64)l27;
-                    const u64 t125 = load64(l1);
-                    l3 = t125;
+                    const u64 t141 = load64(l1);
+                    l3 = t141;
                     {
                         if (l27 >= 4u) {
-                            core_slice_edits_slice_T_copy_from_slice(e, l3 + (l5 << 3), l3 + (l6 << 3), 4ull);
+                            core_slice_edits_slice_T_copy_from_slice(e, l3 + (l4 << 3), l3 + (l5 << 3), 4ull);
                             l7 = l7 - 4ull;
-                            core_slice_edits_slice_T_copy_from_slice(e, l3 + ((l7 + l5) << 3), l3 + ((l6 + l7) << 3), 4ull);
-                            goto L126;
+                            core_slice_edits_slice_T_copy_from_slice(e, l3 + ((l7 + l4) << 3), l3 + ((l5 + l7) << 3), 4ull);
+                            goto L142;
                         }
                         if (l27 >= 2u) {
-                            core_slice_edits_slice_T_copy_from_slice(e, l3 + (l5 << 3), l3 + (l6 << 3), 2ull);
+                            core_slice_edits_slice_T_copy_from_slice(e, l3 + (l4 << 3), l3 + (l5 << 3), 2ull);
                             l7 = l7 - 2ull;
-                            core_slice_edits_slice_T_copy_from_slice(e, l3 + ((l7 + l5) << 3), l3 + ((l6 + l7) << 3), 2ull);
-                            goto L126;
+                            core_slice_edits_slice_T_copy_from_slice(e, l3 + ((l7 + l4) << 3), l3 + ((l5 + l7) << 3), 2ull);
+                            goto L142;
                         }
-                        if (l27 != 1u) goto L126;
-                        l5 = l3 + (l5 << 3);
-                        l3 = l3 + (l6 << 3);
-                        const u32 t129 = load16(l3);
-                        store16(l5, (u16)t129);
-                        const u32 t130 = load32(l3 + 4ull);
-                        store32(l5 + 4ull, t130);
+                        if (l27 != 1u) goto L142;
+                        l4 = l3 + (l4 << 3);
+                        l3 = l3 + (l5 << 3);
+                        const u32 t145 = load16(l3);
+                        store16(l4, (u16)t145);
+                        const u32 t146 = load32(l3 + 4ull);
+                        store32(l4 + 4ull, t146);
                     }
-                    L126:;
-                    store32(l1 + 24ull, l21);
+                    L142:;
+                    store32(l1 + 24ull, l23);
                     v1 = l28; goto L1;
                 }
-                L121:;
+                L137:;
                 (void)forms_work_Work_load_other_part(e, l1, l26, l22);
                 v1 = l28; goto L1;
             }
             if (l22 > l26) {
                 (void)functions_arguments_put_part(e, l1, l26, l22);
-                const u32 t134 = load32(l1 + 20ull);
-                const u32 t135 = load32(l1 + 16ull);
-                l25 = t134 + t135;
-                const u32 t136 = load32(l1 + 24ull);
-                l23 = l25 + t136;
+                const u32 t150 = load32(l1 + 20ull);
+                const u32 t151 = load32(l1 + 16ull);
+                l25 = t150 + t151;
+                const u32 t152 = load32(l1 + 24ull);
+                l21 = l25 + t152;
             }
             {
-                const u32 t138 = load32(l1 + 28ull);
-                if ((u64)(t138 - l23) < l3) {
-                    const u32 t140 = space_space_Space_find_way(e, l1, l3);
-                    if (t140 == 0) goto L137;
-                    const u32 t141 = load32(l1 + 20ull);
-                    const u32 t142 = load32(l1 + 16ull);
-                    l25 = t141 + t142;
+                const u32 t154 = load32(l1 + 28ull);
+                if ((u64)(t154 - l21) < l11) {
+                    const u32 t156 = space_space_Space_find_way(e, l1, l11);
+                    if (t156 == 0) goto L153;
+                    const u32 t157 = load32(l1 + 20ull);
+                    const u32 t158 = load32(l1 + 16ull);
+                    l25 = t157 + t158;
                 }
-                const u64 t143 = load64(l1);
-                space_space_write_bytes(e, t143 + ((u64)l25 << 3), l6, l3);
+                const u64 t159 = load64(l1);
+                l15 = t159;
+                l17 = (u64)l25 << 3;
+                l10 = l15 + l17;
+                l4 = 0ull;
+                if (l11 >= 8ull) {
+                    l7 = l11;
+                    l3 = l10;
+                    L161:;
+                    {
+                        store64(l3 + 32u, 0ull);
+                        store64(l3 + 24u, 0ull);
+                        store64(l3 + 16u, 0ull);
+                        store64(l3 + 8u, 0ull);
+                        store64(l3, 0ull);
+                        l5 = l4 + l8;
+                        const u32 t162 = load8(l5);
+                        store8(l3 + 1ull, (u8)t162);
+                        const u32 t163 = load8(l5 + 1ull);
+                        store8(l3 + 9ull, (u8)t163);
+                        const u32 t164 = load8(l5 + 2ull);
+                        store8(l3 + 17ull, (u8)t164);
+                        const u32 t165 = load8(l5 + 3ull);
+                        store8(l3 + 25ull, (u8)t165);
+                        const u32 t166 = load8(l5 + 4ull);
+                        store8(l3 + 33ull, (u8)t166);
+                        store64(l3 + 40u, 0ull);
+                        const u32 t167 = load8(l5 + 5ull);
+                        store8(l3 + 41ull, (u8)t167);
+                        store64(l3 + 48u, 0ull);
+                        const u32 t168 = load8(l5 + 6ull);
+                        store8(l3 + 49ull, (u8)t168);
+                        store64(l3 + 56u, 0ull);
+                        const u32 t169 = load8(l5 + 7ull);
+                        store8(l3 + 57ull, (u8)t169);
+                        l3 = l3 + 64ull;
+                        l4 = l4 + 8ull;
+                        l7 = l7 - 8ull;
+                        if (l7 > 7ull) goto L161;
+                    }
+                }
+                {
+                    if (l4 >= l11) goto L170;
+                    l3 = l4 + l9;
+                    if (((l3 & 1ull) == 0) == 0) {
+                        const u32 t172 = load8(l4 + l8);
+                        l21 = t172;
+                        l5 = l10 + (l4 << 3);
+                        store8(l5, (u8)0u);
+                        store32(l5 + 4ull, 0u);
+                        store8(l5 + 1ull, (u8)l21);
+                        l4 = l4 + 1ull;
+                    }
+                    if (l3 == 39ull) goto L170;
+                    l5 = l4 + l9;
+                    l3 = l15 + ((l4 << 3) + l17);
+                    L173:;
+                    {
+                        l4 = (l6 + 208ull) + l5;
+                        const u32 t174 = load8(l4);
+                        l21 = t174;
+                        store32(l3 + 4ull, 0u);
+                        store8(l3 + 1ull, (u8)l21);
+                        store8(l3, (u8)0u);
+                        const u32 t175 = load8(l4 + 1ull);
+                        l21 = t175;
+                        store32(l3 + 12ull, 0u);
+                        store8(l3 + 9ull, (u8)l21);
+                        store8(l3 + 8ull, (u8)0u);
+                        l3 = l3 + 16ull;
+                        l5 = l5 + 2ull;
+                        if (l5 != 40ull) goto L173;
+                    }
+                }
+                L170:;
                 l3 = l1 + 20ull;
-                const u32 t144 = load32(l3);
-                store32(l3, t144 + l21);
+                const u32 t176 = load32(l3);
+                store32(l3, t176 + l23);
             }
-            L137:;
+            L153:;
             l24 = 1u;
             v1 = 0u; goto L1;
         }
         L2:;
-        functions_arguments_Arguments_next(e, l4 + 8ull, l4 + 192ull, l1);
+        functions_arguments_Arguments_next(e, l6 + 8ull, l6 + 192ull, l1);
         {
             {
-                const u32 t147 = load32(l4 + 12u);
-                l25 = t147;
-                const u32 t148 = load32(l4 + 8u);
-                l26 = t148;
+                const u32 t179 = load32(l6 + 12u);
+                l25 = t179;
+                const u32 t180 = load32(l6 + 8u);
+                l26 = t180;
                 l21 = l25 - l26;
-                if (l21 > 7u) goto L146;
-                const u32 t149 = load32(l1 + 28ull);
-                l22 = t149;
-                const u32 t150 = load32(l1 + 24ull);
-                l24 = t150;
-                const u32 t151 = load32(l1 + 20ull);
-                if (l21 > (l22 - (l24 + (l23 + t151)))) goto L146;
+                if (l21 > 7u) goto L178;
+                const u32 t181 = load32(l1 + 28ull);
+                l22 = t181;
+                const u32 t182 = load32(l1 + 24ull);
+                l24 = t182;
+                const u32 t183 = load32(l1 + 20ull);
+                if (l21 > (l22 - (l24 + (l23 + t183)))) goto L178;
                 l3 = (u64)(l23 + l26);
                 l23 = l21 + l24;
-                l6 = (u64)(l22 - l23);
-                l5 = (u64)l21;
+                l5 = (u64)(l22 - l23);
+                l4 = (u64)l21;
                 {
                     if (l21 >= 4u) {
-                        core_slice_edits_slice_T_copy_from_slice(e, l11 + (l6 << 3), l11 + (l3 << 3), 4ull);
-                        l5 = l5 - 4ull;
-                        core_slice_edits_slice_T_copy_from_slice(e, l11 + ((l5 + l6) << 3), l11 + ((l3 + l5) << 3), 4ull);
-                        goto L152;
+                        core_slice_edits_slice_T_copy_from_slice(e, l12 + (l5 << 3), l12 + (l3 << 3), 4ull);
+                        l4 = l4 - 4ull;
+                        core_slice_edits_slice_T_copy_from_slice(e, l12 + ((l4 + l5) << 3), l12 + ((l3 + l4) << 3), 4ull);
+                        goto L184;
                     }
                     if (l21 >= 2u) {
-                        core_slice_edits_slice_T_copy_from_slice(e, l11 + (l6 << 3), l11 + (l3 << 3), 2ull);
-                        l5 = l5 - 2ull;
-                        core_slice_edits_slice_T_copy_from_slice(e, l11 + ((l5 + l6) << 3), l11 + ((l3 + l5) << 3), 2ull);
-                        goto L152;
+                        core_slice_edits_slice_T_copy_from_slice(e, l12 + (l5 << 3), l12 + (l3 << 3), 2ull);
+                        l4 = l4 - 2ull;
+                        core_slice_edits_slice_T_copy_from_slice(e, l12 + ((l4 + l5) << 3), l12 + ((l3 + l4) << 3), 2ull);
+                        goto L184;
                     }
-                    if (l21 != 1u) goto L152;
-                    l6 = l11 + (l6 << 3);
-                    l3 = l11 + (l3 << 3);
-                    const u32 t155 = load16(l3);
-                    store16(l6, (u16)t155);
-                    const u32 t156 = load32(l3 + 4ull);
-                    store32(l6 + 4ull, t156);
+                    if (l21 != 1u) goto L184;
+                    l5 = l12 + (l5 << 3);
+                    l3 = l12 + (l3 << 3);
+                    const u32 t187 = load16(l3);
+                    store16(l5, (u16)t187);
+                    const u32 t188 = load32(l3 + 4ull);
+                    store32(l5 + 4ull, t188);
                 }
-                L152:;
+                L184:;
                 store32(l1 + 24ull, l23);
-                goto L145;
+                goto L177;
             }
-            L146:;
+            L178:;
             l24 = 0u;
-            const u32 t157 = forms_work_Work_load_other_part(e, l1, l26, l25);
-            if (t157 == 0) { v1 = 0u; goto L1; }
+            const u32 t189 = forms_work_Work_load_other_part(e, l1, l26, l25);
+            if (t189 == 0) { v1 = 0u; goto L1; }
         }
-        L145:;
+        L177:;
         l24 = 2u;
         v1 = l21;
     }
@@ -4012,7 +4133,7 @@ static void functions_arithmetic_arithmetic(struct engine *e, u64 l0, u64 l1, u3
     store8(l0, (u8)l24);
     store32(l0 + 4ull, l22);
     store8(l0 + 1ull, (u8)0u);
-    e->stack_pointer = l4 + 256ull;
+    e->stack_pointer = l6 + 256ull;
 }
 
 static void functions_bit_strings_union(struct engine *e, u64 l0, u64 l1, u64 l2) {
@@ -5999,92 +6120,86 @@ static void functions_form_parts_initial_part(struct engine *e, u64 l0, u64 l1, 
     u32 l13 = 0;
     u32 l14 = 0;
     u32 l15 = 0;
-    u32 l16 = 0;
+    u64 l16 = 0;
     u64 l17 = 0;
     u64 l18 = 0;
     u64 l19 = 0;
     u64 l20 = 0;
     u64 l21 = 0;
-    u64 l22 = 0;
-    u64 l23 = 0;
-    u64 l24 = 0;
-    u64 l25 = 0;
-    u64 l26 = 0;
-    l18 = e->stack_pointer - 80ull;
-    e->stack_pointer = l18;
+    l16 = e->stack_pointer - 80ull;
+    e->stack_pointer = l16;
+    u32 v1;
     {
         {
             {
-                l17 = l18;
-                if ((i64)(l17 - e->stack) >= (i64)16ull) {
+                if ((i64)(l16 - e->stack) >= (i64)16ull) {
                     const u64 t5 = load64(l2 + 8u);
-                    store64(l17 + 56u, t5);
+                    store64(l16 + 56u, t5);
                     const u64 t6 = load64(l2);
-                    store64(l17 + 48u, t6);
-                    functions_arguments_Arguments_next(e, l17 + 40ull, l17 + 48ull, l1);
-                    const u32 t7 = load32(l17 + 44u);
+                    store64(l16 + 48u, t6);
+                    functions_arguments_Arguments_next(e, l16 + 40ull, l16 + 48ull, l1);
+                    const u32 t7 = load32(l16 + 44u);
                     l3 = t7;
-                    const u32 t8 = load32(l17 + 40u);
-                    l4 = t8;
-                    functions_arguments_Arguments_next(e, l17 + 32ull, l17 + 48ull, l1);
-                    const u32 t9 = load32(l17 + 36u);
+                    const u32 t8 = load32(l16 + 40u);
+                    l5 = t8;
+                    functions_arguments_Arguments_next(e, l16 + 32ull, l16 + 48ull, l1);
+                    const u32 t9 = load32(l16 + 36u);
                     l11 = t9;
-                    const u32 t10 = load32(l17 + 32u);
+                    const u32 t10 = load32(l16 + 32u);
                     l12 = t10;
-                    functions_arguments_Arguments_next(e, l17 + 24ull, l17 + 48ull, l1);
-                    const u32 t11 = load32(l17 + 28u);
+                    functions_arguments_Arguments_next(e, l16 + 24ull, l16 + 48ull, l1);
+                    const u32 t11 = load32(l16 + 28u);
                     l14 = t11;
-                    const u32 t12 = load32(l17 + 24u);
+                    const u32 t12 = load32(l16 + 24u);
                     l13 = t12;
                     u32 v13;
                     {
                         const u32 t14 = load32(l1 + 40ull);
-                        l5 = t14;
-                        if (l5 >= 8u) {
-                            forms_work_Work_find_among_more(e, l17 + 8ull, l1, l4, l3);
-                            const u32 t16 = load32(l17 + 12u);
-                            l9 = t16;
-                            const u32 t17 = load8(l17 + 8u);
+                        l6 = t14;
+                        if (l6 >= 8u) {
+                            forms_work_Work_find_among_more(e, l16 + 8ull, l1, l5, l3);
+                            const u32 t16 = load32(l16 + 12u);
+                            l8 = t16;
+                            const u32 t17 = load8(l16 + 8u);
                             v13 = t17; goto L13;
                         }
                         {
-                            if (l5 == 0) goto L18;
+                            if (l6 == 0) goto L18;
                             const u64 t19 = load64(l1);
-                            l19 = t19;
-                            const u64 t20 = load32(l19 + 4ull);
+                            l17 = t19;
+                            const u64 t20 = load32(l17 + 4ull);
                             const u32 t21 = load32(l1 + 16ull);
-                            l5 = t21;
-                            l2 = (u64)(l5 + l3);
-                            l18 = (u64)(l4 + l5);
+                            l6 = t21;
+                            l2 = (u64)(l6 + l3);
+                            l18 = (u64)(l5 + l6);
                             if (t20 != (l2 - l18)) goto L18;
-                            l22 = 17ull - (l18 << 3);
+                            l20 = 17ull - (l18 << 3);
                             l18 = (l2 ^ 18446744073709551615ull) + l18;
-                            l2 = l19 + (l2 << 3);
+                            l2 = l17 + (l2 << 3);
                             L22:;
                             {
                                 l18 = l18 + 1ull;
                                 if (l18 == 0) goto L3;
-                                l19 = l2 - 7ull;
-                                l20 = l2 + l22;
+                                l17 = l2 - 7ull;
+                                l19 = l2 + l20;
                                 l2 = l2 - 8ull;
-                                const u32 t23 = load8(l20);
-                                const u32 t24 = load8(l19);
+                                const u32 t23 = load8(l19);
+                                const u32 t24 = load8(l17);
                                 if (t23 == t24) goto L22;
                             }
                         }
                         L18:;
-                        forms_work_Work_find_among_few(e, l17 + 16ull, l1, l4, l3);
-                        const u32 t25 = load32(l17 + 20u);
-                        l9 = t25;
-                        const u32 t26 = load8(l17 + 16u);
+                        forms_work_Work_find_among_few(e, l16 + 16ull, l1, l5, l3);
+                        const u32 t25 = load32(l16 + 20u);
+                        l8 = t25;
+                        const u32 t26 = load8(l16 + 16u);
                         v13 = t26;
                     }
                     L13:;
-                    l6 = v13;
+                    l4 = v13;
                     l3 = 1u;
-                    l4 = 0u;
-                    l5 = 0u;
-                    if ((l6 & 255u) != 1u) goto L1;
+                    l6 = 0u;
+                    if ((l4 & 255u) != 1u) { v1 = 0u; goto L1; }
                     goto L2;
                 }
                 trap();
@@ -6093,383 +6208,316 @@ static void functions_form_parts_initial_part(struct engine *e, u64 l0, u64 l1, 
             store64(l1 + 44ull, 0ull);
         }
         L2:;
-        store64(l17 + 72u, 0ull);
-        store64(l17 + 64u, 0ull);
-        const u32 t27 = forms_work_Work_pointer(e, l1, l9);
+        store64(l16 + 72u, 0ull);
+        store64(l16 + 64u, 0ull);
+        const u32 t27 = forms_work_Work_pointer(e, l1, l8);
         l10 = t27;
         if (l11 == l12) {
-            functions_form_parts_take_part(e, l17 + 72ull, l1, l9, l10, l10, l10);
-            const u32 t29 = load32(l17 + 76u);
-            l4 = t29;
-            const u32 t30 = load8(l17 + 73u);
-            l5 = t30;
-            const u32 t31 = load8(l17 + 72u);
-            l3 = t31;
-            goto L1;
+            functions_form_parts_take_part(e, l16 + 72ull, l1, l8, l10, l10, l10);
+            const u32 t29 = load8(l16 + 73u);
+            l6 = t29;
+            const u32 t30 = load8(l16 + 72u);
+            l3 = t30;
+            const u32 t31 = load32(l16 + 76u);
+            v1 = t31; goto L1;
         }
         const u32 t32 = load32(l1 + 48ull);
         l3 = t32;
         {
             const u32 t34 = load32(l1 + 44ull);
-            l4 = t34;
-            if (l9 == l4) goto L33;
-            if (l4 < l9) {
-                l6 = l9 - l4;
+            l5 = t34;
+            if (l8 == l5) goto L33;
+            if (l5 < l8) {
+                l4 = l8 - l5;
                 const u32 t36 = load32(l1 + 16ull);
                 l7 = t36;
                 L37:;
                 {
-                    l4 = 3u;
+                    l5 = 3u;
                     if (l3 < l7) {
                         const u64 t39 = load64(l1);
                         l2 = t39 + ((u64)l3 << 3);
                         const u32 t40 = load32(l2 + 4ull);
                         const u32 t41 = load8(l2);
-                        l4 = (t41 == 4u) ? (t40 + 3u) : 3u;
+                        l5 = (t41 == 4u) ? (t40 + 3u) : 3u;
                     }
-                    l5 = 0u;
-                    l8 = l3 + 1u;
+                    l9 = l3 + 1u;
                     u32 v42;
-                    if (l7 > l8) {
+                    if (l7 > l9) {
                         const u64 t43 = load64(l1);
-                        l2 = t43 + ((u64)l8 << 3);
+                        l2 = t43 + ((u64)l9 << 3);
                         const u32 t44 = load32(l2 + 4ull);
                         const u32 t45 = load8(l2);
                         v42 = (t45 == 4u) ? t44 : 0u;
                     } else {
-                        v42 = l5;
+                        v42 = 0u;
                     }
-                    l3 = v42 + (l3 + l4);
-                    l6 = l6 - 1u;
-                    if (l6) goto L37;
+                    l3 = v42 + (l3 + l5);
+                    l4 = l4 - 1u;
+                    if (l4) goto L37;
                 }
                 goto L33;
             }
-            if (l9 == 0) {
+            if (l8 == 0) {
                 l3 = 0u;
                 goto L33;
             }
             const u32 t47 = load32(l1 + 16ull);
-            l6 = t47;
+            l4 = t47;
             l3 = 0u;
-            l7 = l9;
+            l7 = l8;
             L48:;
             {
-                l4 = 3u;
-                if (l3 < l6) {
+                l5 = 3u;
+                if (l3 < l4) {
                     const u64 t50 = load64(l1);
                     l2 = t50 + ((u64)l3 << 3);
                     const u32 t51 = load32(l2 + 4ull);
                     const u32 t52 = load8(l2);
-                    l4 = (t52 == 4u) ? (t51 + 3u) : 3u;
+                    l5 = (t52 == 4u) ? (t51 + 3u) : 3u;
                 }
-                l5 = 0u;
-                l8 = l3 + 1u;
+                l9 = l3 + 1u;
                 u32 v53;
-                if (l6 > l8) {
+                if (l4 > l9) {
                     const u64 t54 = load64(l1);
-                    l2 = t54 + ((u64)l8 << 3);
+                    l2 = t54 + ((u64)l9 << 3);
                     const u32 t55 = load32(l2 + 4ull);
                     const u32 t56 = load8(l2);
                     v53 = (t56 == 4u) ? t55 : 0u;
                 } else {
-                    v53 = l5;
+                    v53 = 0u;
                 }
-                l3 = v53 + (l3 + l4);
+                l3 = v53 + (l3 + l5);
                 l7 = l7 - 1u;
                 if (l7) goto L48;
             }
         }
         L33:;
         const u64 t57 = load64(l1);
-        l21 = t57;
-        l2 = l21 + ((u64)l3 << 3);
-        const u32 t58 = load32(l2 + 12ull);
-        const u32 t59 = load8(l2 + 8u);
-        l4 = (t59 == 4u) ? t58 : 0u;
-        const u32 t60 = load32(l2 + 4ull);
-        const u32 t61 = load8(l2);
-        l15 = (l3 + ((t61 == 4u) ? t60 : 0u)) + 3u;
-        l16 = l4 + l15;
+        l2 = t57 + ((u64)l3 << 3);
+        const u32 t58 = load32(l2 + 4ull);
+        l5 = t58;
+        const u32 t59 = load8(l2);
+        l6 = t59;
+        const u32 t60 = load32(l2 + 12ull);
+        l4 = t60;
+        const u32 t61 = load8(l2 + 8u);
+        l7 = t61;
+        store_borders_lay_borders(e, l1, l12, l11);
+        const u64 t62 = load64(l1);
+        l2 = t62;
+        l3 = (l3 + ((l6 == 4u) ? l5 : 0u)) + 3u;
+        l18 = (u64)l3;
+        l21 = l2 + (l18 << 3);
+        l17 = (u64)((((l7 == 4u) ? l4 : 0u) + l3)) - l18;
+        l4 = l10;
+        const u32 t63 = load32(l1 + 16ull);
+        l3 = t63;
+        l18 = (u64)(l3 + l12);
+        l2 = l2 + (l18 << 3);
+        l18 = (u64)(l3 + l11) - l18;
+        l7 = 0u;
         {
+            if ((i64)(e->stack_pointer - e->stack) >= (i64)16ull) {
+                const u64 t66 = l16;
+                u32 v67;
+                {
+                    if (l4 >= (u32)l17) { v67 = 0u; goto L67; }
+                    l20 = l17 & 4294967295ull;
+                    l19 = (u64)l4;
+                    l5 = (u32)l18;
+                    l4 = 0u;
+                    L68:;
+                    {
+                        const u32 t69 = l5;
+                        u32 v70;
+                        {
+                            {
+                                l17 = l21 + (l19 << 3);
+                                const u32 t72 = load8(l17);
+                                if (t72 == 0) {
+                                    const u32 t74 = load8(l17 + 1ull);
+                                    l6 = t74;
+                                    goto L71;
+                                }
+                                if (l4 == 0) { v70 = 0u; goto L70; }
+                                L75:;
+                                {
+                                    l17 = l2 + ((u64)l4 << 3);
+                                    const u32 t76 = load8(l17 - 8ull);
+                                    if (((t76 - 5u) & 255u) < 254u) { v70 = 0u; goto L70; }
+                                    const u32 t77 = load32(l17 - 4ull);
+                                    l4 = t77 >> 8;
+                                    if (l4) goto L75;
+                                }
+                                v70 = 0u; goto L70;
+                            }
+                            L71:;
+                            L78:;
+                            {
+                                l3 = 0u;
+                                {
+                                    {
+                                        {
+                                            l17 = l2 + ((u64)l4 << 3);
+                                            const u32 t82 = load8(l17);
+                                            l7 = t82;
+                                            switch ((u32)(((u64)l7 & 255ull)) - 3u) {
+                                            case 0: goto L79;
+                                            case 1: goto L81;
+                                            default: goto L80;
+                                            }
+                                        }
+                                        L81:;
+                                        const u32 t83 = load32(l17 + 4ull);
+                                        l3 = t83;
+                                        goto L79;
+                                    }
+                                    L80:;
+                                    const u32 t84 = load8(l17 + 1ull);
+                                    l3 = l7 ? 0u : t84;
+                                }
+                                L79:;
+                                if ((l3 & 255u) != l6) {
+                                    if (l4 == 0) { v70 = 0u; goto L70; }
+                                    const u32 t86 = load32(l17 - 4ull);
+                                    const u32 t87 = load8(l17 - 8ull);
+                                    l4 = (((t87 - 3u) & 255u) < 2u) ? (t86 >> 8) : 0u;
+                                    goto L78;
+                                }
+                            }
+                            v70 = l4 + 1u;
+                        }
+                        L70:;
+                        l4 = v70;
+                        if (t69 == l4) {
+                            l7 = 1u;
+                            v67 = ((u32)l19 - l5) + 1u; goto L67;
+                        }
+                        l19 = l19 + 1ull;
+                        if (l19 != l20) goto L68;
+                    }
+                    l7 = 0u;
+                    v67 = 0u;
+                }
+                L67:;
+                store32(t66 + 4u, v67);
+                store8(l16, (u8)l7);
+                goto L64;
+            }
+            trap();
+        }
+        L64:;
+        const u32 t89 = load32(l16 + 4u);
+        l9 = t89;
+        const u32 t90 = load8(l16);
+        l15 = t90;
+        L91:;
+        {
+            const u32 t92 = load32(l2 + 4ull);
+            l4 = t92;
+            l3 = 2u;
+            l5 = 0u;
+            l6 = 0u;
             {
                 {
                     {
-                        {
-                            {
-                                {
-                                    l8 = l11 - l12;
-                                    if (((l8 >= 8u) & ((l4 - l10) >= l8)) == 0) {
-                                        const u32 t70 = load32(l1 + 16ull);
-                                        l7 = t70;
-                                        goto L68;
-                                    }
-                                    const u32 t71 = load32(l1 + 28ull);
-                                    l3 = t71;
-                                    l2 = l1 + 24ull;
-                                    const u32 t72 = load32(l2);
-                                    l4 = t72;
-                                    const u32 t73 = load32(l1 + 16ull);
-                                    l7 = t73;
-                                    const u32 t74 = load32(l1 + 20ull);
-                                    if ((l3 - (l4 + (l7 + t74))) >= l8) goto L67;
-                                }
-                                L68:;
-                                l2 = (u64)l15;
-                                l24 = (u64)l16 - l2;
-                                if (l10 >= (u32)l24) goto L66;
-                                l18 = (u64)(l7 + l12);
-                                l23 = (u64)(l7 + l11) - l18;
-                                l25 = l21 + (l18 << 3);
-                                l26 = l24 & 4294967295ull;
-                                l20 = (u64)l10;
-                                l22 = l21 + ((l20 << 3) + (l2 << 3));
-                                L75:;
-                                {
-                                    {
-                                        l2 = l22;
-                                        l18 = l25;
-                                        {
-                                            l19 = l23;
-                                            if (l19 > (l24 - l20)) goto L77;
-                                            L78:;
-                                            {
-                                                const u32 t79 = load8(l2);
-                                                if (t79) goto L77;
-                                                const u32 t80 = load8(l2 + 1ull);
-                                                const u32 t81 = load8(l18 + 1ull);
-                                                const u32 t82 = load8(l18);
-                                                if (t80 != ((t82 ? 0u : t81) & 255u)) goto L77;
-                                                l2 = l2 + 8ull;
-                                                l18 = l18 + 8ull;
-                                                l19 = l19 - 1ull;
-                                                if ((l19 == 0) == 0) goto L78;
-                                            }
-                                            goto L76;
-                                        }
-                                        L77:;
-                                        l22 = l22 + 8ull;
-                                        l20 = l20 + 1ull;
-                                        if (l20 != l26) goto L75;
-                                        goto L66;
-                                    }
-                                    L76:;
-                                }
-                                l3 = (u32)l20;
-                                l4 = l8 + l3;
-                                goto L64;
-                            }
-                            L67:;
-                            l6 = 1u;
-                            l5 = l4 + 1u;
-                            l18 = l21 + ((u64)(l3 - l5) << 3);
-                            store16(l18, (u16)4u);
-                            store32(l18 + 4ull, 0u);
-                            store32(l2, l5);
-                            l3 = 0u;
-                            L83:;
-                            {
-                                l2 = (u64)l3;
-                                const u64 t84 = load64(l1);
-                                l23 = t84;
-                                const u32 t85 = load32(l1 + 16ull);
-                                l22 = l23 + ((u64)(t85 + l12) << 3);
-                                const u32 t86 = load32(l1 + 28ull);
-                                l7 = t86;
-                                l4 = l7 - l5;
-                                l20 = (u64)l4;
-                                l18 = (u64)(l4 + l6) - l20;
-                                l19 = l22 + (l18 << 3);
-                                const u32 t87 = load8(l19 + 1ull);
-                                l4 = t87;
-                                u32 v88;
-                                {
-                                    {
-                                        const u32 t90 = load8(l19);
-                                        l11 = t90;
-                                        if (l11 == 0) {
-                                            l19 = l22 + (l2 << 3);
-                                            const u32 t92 = load8(l19 + 1ull);
-                                            const u32 t93 = load8(l19);
-                                            if ((l4 & 255u) == ((t93 ? 0u : t92) & 255u)) goto L89;
-                                        }
-                                        l19 = l23 + (l20 << 3);
-                                        if (l11) {
-                                            if (l3 == 0) { v88 = 0u; goto L88; }
-                                            L95:;
-                                            {
-                                                const u64 t96 = load32((l19 + ((l18 - l2) << 3)) + 4ull);
-                                                l2 = t96;
-                                                if ((l2 == 0) == 0) goto L95;
-                                            }
-                                            v88 = 0u; goto L88;
-                                        }
-                                        L97:;
-                                        {
-                                            if (l3 == 0) { v88 = 0u; goto L88; }
-                                            const u32 t98 = load32((l19 + ((l18 - l2) << 3)) + 4ull);
-                                            l3 = t98;
-                                            l2 = (u64)l3;
-                                            l20 = l22 + (l2 << 3);
-                                            const u32 t99 = load8(l20 + 1ull);
-                                            const u32 t100 = load8(l20);
-                                            if ((l4 & 255u) != ((t100 ? 0u : t99) & 255u)) goto L97;
-                                        }
-                                    }
-                                    L89:;
-                                    v88 = l3 + 1u;
-                                }
-                                L88:;
-                                l3 = v88;
-                                l5 = l5 + 1u;
-                                l2 = l23 + ((u64)(l7 - l5) << 3);
-                                store16(l2, (u16)4u);
-                                store32(l2 + 4ull, l3);
-                                store32(l1 + 24ull, l5);
-                                l6 = l6 + 1u;
-                                if (l6 != l8) goto L83;
-                            }
-                            const u64 t101 = load64(l1);
-                            l21 = t101;
-                            const u32 t102 = load32(l1 + 16ull);
-                            l7 = t102;
-                            l2 = (u64)l15;
-                            l20 = (u64)l16 - l2;
-                            if ((u32)l20 > l10) {
-                                const u32 t104 = load32(l1 + 28ull);
-                                l3 = t104 - l5;
-                                l19 = (u64)l3;
-                                l18 = (u64)(l3 + l8) - l19;
-                                l24 = l21 + (l2 << 3);
-                                l19 = l21 + (l19 << 3);
-                                l22 = l21 + ((u64)(l7 + l12) << 3);
-                                l25 = l20 & 4294967295ull;
-                                l23 = (u64)l10;
-                                l3 = 0u;
-                                L105:;
-                                {
-                                    l2 = (u64)l3;
-                                    l20 = l24 + (l23 << 3);
-                                    const u32 t106 = load8(l20 + 1ull);
-                                    l4 = t106;
-                                    const u32 t107 = l8;
-                                    u32 v108;
-                                    {
-                                        {
-                                            const u32 t110 = load8(l20);
-                                            l6 = t110;
-                                            if (l6 == 0) {
-                                                l20 = l22 + (l2 << 3);
-                                                const u32 t112 = load8(l20 + 1ull);
-                                                const u32 t113 = load8(l20);
-                                                if ((l4 & 255u) == ((t113 ? 0u : t112) & 255u)) goto L109;
-                                            }
-                                            if (l6) {
-                                                if (l3 == 0) { v108 = 0u; goto L108; }
-                                                L115:;
-                                                {
-                                                    const u64 t116 = load32((l19 + ((l18 - l2) << 3)) + 4ull);
-                                                    l2 = t116;
-                                                    if ((l2 == 0) == 0) goto L115;
-                                                }
-                                                v108 = 0u; goto L108;
-                                            }
-                                            L117:;
-                                            {
-                                                if (l3 == 0) { v108 = 0u; goto L108; }
-                                                const u32 t118 = load32((l19 + ((l18 - l2) << 3)) + 4ull);
-                                                l3 = t118;
-                                                l2 = (u64)l3;
-                                                l20 = l22 + (l2 << 3);
-                                                const u32 t119 = load8(l20 + 1ull);
-                                                const u32 t120 = load8(l20);
-                                                if ((l4 & 255u) != ((t120 ? 0u : t119) & 255u)) goto L117;
-                                            }
-                                        }
-                                        L109:;
-                                        v108 = l3 + 1u;
-                                    }
-                                    L108:;
-                                    l3 = v108;
-                                    if (t107 == l3) goto L65;
-                                    l23 = l23 + 1ull;
-                                    if (l23 != l25) goto L105;
-                                }
-                            }
-                            store32(l1 + 24ull, l5 - l8);
+                        const u32 t96 = load8(l2);
+                        l7 = t96;
+                        switch ((u32)(((u64)l7 & 255ull)) - 3u) {
+                        case 0: goto L93;
+                        case 1: goto L95;
+                        default: goto L94;
                         }
-                        L66:;
-                        l6 = l14 - l13;
-                        if (l6 <= 7u) {
-                            const u32 t122 = load32(l1 + 28ull);
-                            l3 = t122;
-                            const u32 t123 = load32(l1 + 24ull);
-                            l4 = t123;
-                            const u32 t124 = load32(l1 + 20ull);
-                            if (l6 <= (l3 - (l4 + (l7 + t124)))) goto L63;
-                        }
-                        l4 = 0u;
-                        l5 = 0u;
-                        l3 = 0u;
-                        const u32 t125 = forms_work_Work_load_other_part(e, l1, l13, l14);
-                        if (t125) goto L62;
-                        goto L1;
                     }
-                    L65:;
-                    store32(l1 + 24ull, l5 - l8);
-                    l3 = (u32)l23;
-                    l4 = l3 + 1u;
-                    l3 = (l3 - l8) + 1u;
+                    L95:;
+                    l3 = 0u;
+                    l6 = l4;
+                    goto L93;
                 }
-                L64:;
-                functions_form_parts_take_part(e, l17 + 64ull, l1, l9, l10, l3, l4);
-                const u32 t126 = load32(l17 + 68u);
-                l4 = t126;
-                const u32 t127 = load8(l17 + 65u);
-                l5 = t127;
-                const u32 t128 = load8(l17 + 64u);
-                l3 = t128;
-                goto L1;
+                L94:;
+                const u32 t97 = load8(l2 + 1ull);
+                l6 = t97;
+                l5 = l4;
+                l3 = l7;
             }
-            L63:;
-            l2 = (u64)(l7 + l13);
-            l4 = l4 + l6;
-            l18 = (u64)(l3 - l4);
-            l19 = (u64)l6;
-            {
-                if (l6 >= 4u) {
-                    core_slice_edits_slice_T_copy_from_slice(e, l21 + (l18 << 3), l21 + (l2 << 3), 4ull);
-                    l19 = l19 - 4ull;
-                    core_slice_edits_slice_T_copy_from_slice(e, l21 + ((l19 + l18) << 3), l21 + ((l2 + l19) << 3), 4ull);
-                    goto L129;
-                }
-                if (l6 >= 2u) {
-                    core_slice_edits_slice_T_copy_from_slice(e, l21 + (l18 << 3), l21 + (l2 << 3), 2ull);
-                    l19 = l19 - 2ull;
-                    core_slice_edits_slice_T_copy_from_slice(e, l21 + ((l19 + l18) << 3), l21 + ((l2 + l19) << 3), 2ull);
-                    goto L129;
-                }
-                if (l6 != 1u) goto L129;
-                l18 = l21 + (l18 << 3);
-                l2 = l21 + (l2 << 3);
-                const u32 t132 = load16(l2);
-                store16(l18, (u16)t132);
-                const u32 t133 = load32(l2 + 4ull);
-                store32(l18 + 4ull, t133);
-            }
-            L129:;
-            store32(l1 + 24ull, l4);
+            L93:;
+            store8(l2, (u8)l3);
+            store32(l2 + 4ull, l5);
+            store8(l2 + 1ull, (u8)l6);
+            l2 = l2 + 8ull;
+            l18 = l18 - 1ull;
+            if (l18 != 0ull) goto L91;
         }
-        L62:;
+        if (l15 == 1u) {
+            functions_form_parts_take_part(e, l16 + 64ull, l1, l8, l10, l9, (l11 - l12) + l9);
+            const u32 t99 = load8(l16 + 65u);
+            l6 = t99;
+            const u32 t100 = load8(l16 + 64u);
+            l3 = t100;
+            const u32 t101 = load32(l16 + 68u);
+            v1 = t101; goto L1;
+        }
+        {
+            {
+                l4 = l14 - l13;
+                if (l4 > 7u) goto L103;
+                const u32 t104 = load32(l1 + 28ull);
+                l3 = t104;
+                const u32 t105 = load32(l1 + 24ull);
+                l6 = t105;
+                const u32 t106 = load32(l1 + 16ull);
+                l5 = t106;
+                const u32 t107 = load32(l1 + 20ull);
+                if (l4 > (l3 - (l6 + (l5 + t107)))) goto L103;
+                l18 = (u64)(l5 + l13);
+                l5 = l4 + l6;
+                l17 = (u64)(l3 - l5);
+                l19 = (u64)l4;
+                const u64 t108 = load64(l1);
+                l2 = t108;
+                {
+                    if (l4 >= 4u) {
+                        core_slice_edits_slice_T_copy_from_slice(e, l2 + (l17 << 3), l2 + (l18 << 3), 4ull);
+                        l19 = l19 - 4ull;
+                        core_slice_edits_slice_T_copy_from_slice(e, l2 + ((l19 + l17) << 3), l2 + ((l18 + l19) << 3), 4ull);
+                        goto L109;
+                    }
+                    if (l4 >= 2u) {
+                        core_slice_edits_slice_T_copy_from_slice(e, l2 + (l17 << 3), l2 + (l18 << 3), 2ull);
+                        l19 = l19 - 2ull;
+                        core_slice_edits_slice_T_copy_from_slice(e, l2 + ((l19 + l17) << 3), l2 + ((l18 + l19) << 3), 2ull);
+                        goto L109;
+                    }
+                    if (l4 != 1u) goto L109;
+                    l17 = l2 + (l17 << 3);
+                    l2 = l2 + (l18 << 3);
+                    const u32 t112 = load16(l2);
+                    store16(l17, (u16)t112);
+                    const u32 t113 = load32(l2 + 4ull);
+                    store32(l17 + 4ull, t113);
+                }
+                L109:;
+                store32(l1 + 24ull, l5);
+                goto L102;
+            }
+            L103:;
+            l6 = 0u;
+            l3 = 0u;
+            const u32 t114 = forms_work_Work_load_other_part(e, l1, l13, l14);
+            if (t114 == 0) { v1 = 0u; goto L1; }
+        }
+        L102:;
         l3 = 2u;
-        l5 = 0u;
-        l4 = l6;
+        l6 = 0u;
+        v1 = l4;
     }
     L1:;
+    l5 = v1;
     store8(l0, (u8)l3);
-    store32(l0 + 4ull, l4);
-    store8(l0 + 1ull, (u8)l5);
-    e->stack_pointer = l17 + 80ull;
+    store32(l0 + 4ull, l5);
+    store8(l0 + 1ull, (u8)l6);
+    e->stack_pointer = l16 + 80ull;
 }
 
 static void functions_form_parts_call_restore(struct engine *e, u64 l0, u64 l1, u64 l2) {
@@ -7429,91 +7477,97 @@ static void functions_form_calls_define_string(struct engine *e, u64 l0, u64 l1,
 }
 
 static void functions_form_calls_segment_string(struct engine *e, u64 l0, u64 l1, u64 l2) {
-    u32 l3 = 0;
-    u32 l4 = 0;
-    u32 l5 = 0;
-    u32 l6 = 0;
-    u32 l7 = 0;
-    u32 l8 = 0;
-    u32 l9 = 0;
-    u32 l10 = 0;
-    u32 l11 = 0;
-    u32 l12 = 0;
-    u32 l13 = 0;
-    u32 l14 = 0;
+    u64 l3 = 0;
+    u64 l4 = 0;
+    u64 l5 = 0;
+    u64 l6 = 0;
+    u64 l7 = 0;
+    u64 l8 = 0;
+    u64 l9 = 0;
+    u64 l10 = 0;
+    u64 l11 = 0;
+    u64 l12 = 0;
+    u64 l13 = 0;
+    u64 l14 = 0;
     u32 l15 = 0;
     u32 l16 = 0;
     u32 l17 = 0;
     u32 l18 = 0;
     u32 l19 = 0;
-    u64 l20 = 0;
-    u64 l21 = 0;
-    u64 l22 = 0;
-    u64 l23 = 0;
-    u64 l24 = 0;
-    u64 l25 = 0;
-    l21 = e->stack_pointer - 48ull;
-    e->stack_pointer = l21;
+    u32 l20 = 0;
+    u32 l21 = 0;
+    u32 l22 = 0;
+    u32 l23 = 0;
+    u32 l24 = 0;
+    u32 l25 = 0;
+    u32 l26 = 0;
+    u32 l27 = 0;
+    u32 l28 = 0;
+    u32 l29 = 0;
+    u32 l30 = 0;
+    u32 l31 = 0;
+    u32 l32 = 0;
+    l3 = e->stack_pointer - 48ull;
+    e->stack_pointer = l3;
     {
         {
             {
-                l20 = l21;
-                if ((i64)(l20 - e->stack) >= (i64)16ull) {
+                l7 = l3;
+                if ((i64)(l7 - e->stack) >= (i64)16ull) {
                     const u64 t5 = load64(l2 + 8u);
-                    store64(l20 + 40u, t5);
+                    store64(l7 + 40u, t5);
                     const u64 t6 = load64(l2);
-                    store64(l20 + 32u, t6);
-                    functions_arguments_Arguments_next(e, l20 + 24ull, l20 + 32ull, l1);
-                    const u32 t7 = load32(l20 + 28u);
-                    l4 = t7;
-                    const u32 t8 = load32(l20 + 24u);
-                    l5 = t8;
+                    store64(l7 + 32u, t6);
+                    functions_arguments_Arguments_next(e, l7 + 24ull, l7 + 32ull, l1);
+                    const u32 t7 = load32(l7 + 28u);
+                    l15 = t7;
+                    const u32 t8 = load32(l7 + 24u);
+                    l16 = t8;
                     u32 v9;
                     {
                         const u32 t10 = load32(l1 + 40ull);
-                        l3 = t10;
-                        if (l3 >= 8u) {
-                            forms_work_Work_find_among_more(e, l20 + 8ull, l1, l5, l4);
-                            const u32 t12 = load8(l20 + 8u);
-                            l4 = t12;
-                            const u32 t13 = load32(l20 + 12u);
+                        l17 = t10;
+                        if (l17 >= 8u) {
+                            forms_work_Work_find_among_more(e, l7 + 8ull, l1, l16, l15);
+                            const u32 t12 = load32(l7 + 12u);
+                            l21 = t12;
+                            const u32 t13 = load8(l7 + 8u);
                             v9 = t13; goto L9;
                         }
                         {
-                            if (l3 == 0) goto L14;
+                            if (l17 == 0) goto L14;
                             const u64 t15 = load64(l1);
-                            l22 = t15;
-                            const u64 t16 = load32(l22 + 4ull);
+                            l4 = t15;
+                            const u64 t16 = load32(l4 + 4ull);
                             const u32 t17 = load32(l1 + 16ull);
-                            l3 = t17;
-                            l2 = (u64)(l3 + l4);
-                            l21 = (u64)(l3 + l5);
-                            if (t16 != (l2 - l21)) goto L14;
-                            l23 = 17ull - (l21 << 3);
-                            l21 = (l2 ^ 18446744073709551615ull) + l21;
-                            l2 = l22 + (l2 << 3);
+                            l17 = t17;
+                            l2 = (u64)(l17 + l15);
+                            l3 = (u64)(l16 + l17);
+                            if (t16 != (l2 - l3)) goto L14;
+                            l9 = 17ull - (l3 << 3);
+                            l3 = (l2 ^ 18446744073709551615ull) + l3;
+                            l2 = l4 + (l2 << 3);
                             L18:;
                             {
-                                l21 = l21 + 1ull;
-                                if (l21 == 0) goto L3;
-                                l22 = l2 - 7ull;
-                                l24 = l2 + l23;
+                                l3 = l3 + 1ull;
+                                if (l3 == 0) goto L3;
+                                l4 = l2 - 7ull;
+                                l6 = l2 + l9;
                                 l2 = l2 - 8ull;
-                                const u32 t19 = load8(l24);
-                                const u32 t20 = load8(l22);
+                                const u32 t19 = load8(l6);
+                                const u32 t20 = load8(l4);
                                 if (t19 == t20) goto L18;
                             }
                         }
                         L14:;
-                        forms_work_Work_find_among_few(e, l20 + 16ull, l1, l5, l4);
-                        const u32 t21 = load8(l20 + 16u);
-                        l4 = t21;
-                        const u32 t22 = load32(l20 + 20u);
+                        forms_work_Work_find_among_few(e, l7 + 16ull, l1, l16, l15);
+                        const u32 t21 = load32(l7 + 20u);
+                        l21 = t21;
+                        const u32 t22 = load8(l7 + 16u);
                         v9 = t22;
                     }
                     L9:;
-                    l8 = v9;
-                    if ((l4 & 255u) == 1u) goto L2;
+                    if ((v9 & 255u) == 1u) goto L2;
                     store16(l0, (u16)1u);
                     store32(l0 + 4ull, 0u);
                     goto L1;
@@ -7524,242 +7578,527 @@ static void functions_form_calls_segment_string(struct engine *e, u64 l0, u64 l1
             store64(l1 + 44ull, 0ull);
         }
         L2:;
-        forms_work_Work_set_pointer(e, l1, l8, 0u);
-        const u32 t23 = load32(l20 + 36u);
-        const u32 t24 = load32(l20 + 32u);
+        forms_work_Work_set_pointer(e, l1, l21, 0u);
+        const u32 t23 = load32(l7 + 36u);
+        const u32 t24 = load32(l7 + 32u);
         if (t23 >= t24) {
-            l16 = l8 + 1u;
+            l30 = l21 + 1u;
             L26:;
             {
-                functions_arguments_Arguments_next(e, l20, l20 + 32ull, l1);
+                functions_arguments_Arguments_next(e, l7, l7 + 32ull, l1);
                 const u32 t27 = load32(l1 + 48ull);
-                l4 = t27;
+                l18 = t27;
                 {
                     const u32 t29 = load32(l1 + 44ull);
-                    l3 = t29;
-                    if (l3 == l8) {
+                    l16 = t29;
+                    if (l16 == l21) {
                         const u32 t31 = load32(l1 + 16ull);
-                        l5 = t31;
+                        l15 = t31;
                         goto L28;
                     }
                     const u32 t32 = load32(l1 + 16ull);
-                    l5 = t32;
-                    if (l3 < l8) {
-                        l7 = l8 - l3;
+                    l15 = t32;
+                    if (l16 < l21) {
+                        l19 = l21 - l16;
                         L34:;
                         {
-                            l3 = 3u;
-                            if (l4 < l5) {
+                            l16 = 3u;
+                            if (l15 > l18) {
                                 const u64 t36 = load64(l1);
-                                l2 = t36 + ((u64)l4 << 3);
+                                l2 = t36 + ((u64)l18 << 3);
                                 const u32 t37 = load32(l2 + 4ull);
                                 const u32 t38 = load8(l2);
-                                l3 = (t38 == 4u) ? (t37 + 3u) : 3u;
+                                l16 = (t38 == 4u) ? (t37 + 3u) : 3u;
                             }
-                            l6 = 0u;
-                            l9 = l4 + 1u;
+                            l17 = 0u;
+                            l20 = l18 + 1u;
                             u32 v39;
-                            if (l5 > l9) {
+                            if (l15 > l20) {
                                 const u64 t40 = load64(l1);
-                                l2 = t40 + ((u64)l9 << 3);
+                                l2 = t40 + ((u64)l20 << 3);
                                 const u32 t41 = load32(l2 + 4ull);
                                 const u32 t42 = load8(l2);
                                 v39 = (t42 == 4u) ? t41 : 0u;
                             } else {
-                                v39 = l6;
+                                v39 = l17;
                             }
-                            l4 = v39 + (l3 + l4);
-                            l7 = l7 - 1u;
-                            if (l7) goto L34;
+                            l18 = v39 + (l16 + l18);
+                            l19 = l19 - 1u;
+                            if (l19) goto L34;
                         }
                         goto L28;
                     }
-                    l4 = 0u;
-                    if (l8 == 0) goto L28;
-                    l7 = l8;
+                    l18 = 0u;
+                    if (l21 == 0) goto L28;
+                    l19 = l21;
                     L43:;
                     {
-                        l3 = 3u;
-                        if (l4 < l5) {
+                        l16 = 3u;
+                        if (l15 > l18) {
                             const u64 t45 = load64(l1);
-                            l2 = t45 + ((u64)l4 << 3);
+                            l2 = t45 + ((u64)l18 << 3);
                             const u32 t46 = load32(l2 + 4ull);
                             const u32 t47 = load8(l2);
-                            l3 = (t47 == 4u) ? (t46 + 3u) : 3u;
+                            l16 = (t47 == 4u) ? (t46 + 3u) : 3u;
                         }
-                        l6 = 0u;
-                        l9 = l4 + 1u;
+                        l17 = 0u;
+                        l20 = l18 + 1u;
                         u32 v48;
-                        if (l5 > l9) {
+                        if (l15 > l20) {
                             const u64 t49 = load64(l1);
-                            l2 = t49 + ((u64)l9 << 3);
+                            l2 = t49 + ((u64)l20 << 3);
                             const u32 t50 = load32(l2 + 4ull);
                             const u32 t51 = load8(l2);
                             v48 = (t51 == 4u) ? t50 : 0u;
                         } else {
-                            v48 = l6;
+                            v48 = l17;
                         }
-                        l4 = v48 + (l3 + l4);
-                        l7 = l7 - 1u;
-                        if (l7) goto L43;
+                        l18 = v48 + (l16 + l18);
+                        l19 = l19 - 1u;
+                        if (l19) goto L43;
                     }
                 }
                 L28:;
-                const u32 t52 = load32(l20 + 4u);
-                l13 = t52;
-                const u32 t53 = load32(l20);
-                l11 = t53;
-                l7 = l4 + 3u;
-                l3 = 0u;
-                l6 = 0u;
-                if (l4 < l5) {
+                const u32 t52 = load32(l7 + 4u);
+                l27 = t52;
+                const u32 t53 = load32(l7);
+                l25 = t53;
+                l19 = l18 + 3u;
+                l16 = 0u;
+                l17 = 0u;
+                if (l15 > l18) {
                     const u64 t55 = load64(l1);
-                    l2 = t55 + ((u64)l4 << 3);
+                    l2 = t55 + ((u64)l18 << 3);
                     const u32 t56 = load32(l2 + 4ull);
                     const u32 t57 = load8(l2);
-                    l6 = (t57 == 4u) ? t56 : 0u;
+                    l17 = (t57 == 4u) ? t56 : 0u;
                 }
-                l12 = l12 + 1u;
-                l17 = l4 + 1u;
+                l29 = l29 + 1u;
+                l31 = l18 + 1u;
                 u32 v58;
-                if (l5 > l17) {
+                if (l15 > l31) {
                     const u64 t59 = load64(l1);
-                    l2 = t59 + ((u64)l17 << 3);
+                    l2 = t59 + ((u64)l31 << 3);
                     const u32 t60 = load32(l2 + 4ull);
                     const u32 t61 = load8(l2);
                     v58 = (t61 == 4u) ? t60 : 0u;
                 } else {
-                    v58 = l3;
+                    v58 = l16;
                 }
-                l14 = l6 + l7;
-                l10 = v58 + l14;
-                l3 = l10;
-                if (l11 != l13) {
-                    l3 = l14;
-                    if (l10 > l3) {
-                        l18 = l13 - l11;
-                        const u64 t64 = load64(l1);
-                        l2 = t64 + ((u64)(l5 + l11) << 3);
-                        const u32 t65 = load8(l2 + 1ull);
-                        const u32 t66 = load8(l2);
-                        l19 = t66 ? 0u : t65;
-                        l25 = (u64)l10;
-                        l5 = l14;
-                        l3 = l5;
+                l28 = l17 + l19;
+                l26 = v58 + l28;
+                l22 = l26;
+                if (l25 != l27) {
+                    store_borders_lay_borders(e, l1, l25, l27);
+                    const u64 t63 = load64(l1);
+                    l5 = t63;
+                    {
+                        l13 = (u64)l26;
+                        l8 = (u64)l28;
+                        l10 = l13 - l8;
+                        if ((u32)l10 == 0) {
+                            l24 = l28;
+                            l23 = l24;
+                            goto L64;
+                        }
+                        l22 = l27 - l25;
+                        l32 = (l25 - l27) + 1u;
+                        l6 = l5 + (l8 << 3);
+                        const u32 t66 = load32(l1 + 16ull);
+                        l3 = l5 + ((u64)(t66 + l25) << 3);
+                        l23 = l28;
+                        l24 = l23;
                         L67:;
                         {
-                            const u32 t68 = load32(l1 + 16ull);
-                            l6 = t68;
-                            const u64 t69 = load64(l1);
-                            l23 = t69;
-                            l2 = (u64)l5;
-                            l24 = l23 + (l2 << 3);
-                            const u32 t70 = load8(l24 + 1ull);
-                            l7 = t70;
+                            l20 = l23 + l32;
+                            l9 = l10 & 4294967295ull;
+                            l15 = 0u;
+                            l4 = 0ull;
+                            L68:;
                             {
+                                const u32 t69 = l22;
+                                u32 v70;
                                 {
                                     {
-                                        const u32 t74 = load8(l24);
-                                        l15 = t74;
-                                        if (l15) goto L73;
-                                        if ((l7 & 255u) != (l19 & 255u)) goto L73;
-                                        const u64 t75 = l25 - l2;
-                                        l2 = (u64)(l6 + l11);
-                                        l22 = (u64)(l6 + l13) - l2;
-                                        if (t75 < l22) goto L73;
-                                        l21 = l23 + (l2 << 3);
-                                        l2 = l24;
-                                        L76:;
-                                        {
-                                            const u32 t77 = load8(l2);
-                                            if (t77) goto L73;
-                                            const u32 t78 = load8(l2 + 1ull);
-                                            const u32 t79 = load8(l21 + 1ull);
-                                            const u32 t80 = load8(l21);
-                                            if (t78 != ((t80 ? 0u : t79) & 255u)) goto L73;
-                                            l2 = l2 + 8ull;
-                                            l21 = l21 + 8ull;
-                                            l22 = l22 - 1ull;
-                                            if ((l22 == 0) == 0) goto L76;
+                                        l2 = l6 + (l4 << 3);
+                                        const u32 t72 = load8(l2);
+                                        if (t72 == 0) {
+                                            const u32 t74 = load8(l2 + 1ull);
+                                            l19 = t74;
+                                            goto L71;
                                         }
-                                        goto L72;
+                                        if (l15 == 0) { v70 = 0u; goto L70; }
+                                        L75:;
+                                        {
+                                            l2 = l3 + ((u64)l15 << 3);
+                                            const u32 t76 = load8(l2 - 8ull);
+                                            if (((t76 - 5u) & 255u) < 254u) { v70 = 0u; goto L70; }
+                                            const u32 t77 = load32(l2 - 4ull);
+                                            l15 = t77 >> 8;
+                                            if (l15) goto L75;
+                                        }
+                                        v70 = 0u; goto L70;
                                     }
-                                    L73:;
-                                    l9 = 1u;
-                                    if (l5 >= l6) goto L71;
-                                    l2 = l23 + ((u64)l3 << 3);
-                                    store8(l2, (u8)l15);
-                                    const u32 t81 = load32(l24 + 4ull);
-                                    store32(l2 + 4ull, t81);
-                                    store8(l2 + 1ull, (u8)l7);
-                                    goto L71;
+                                    L71:;
+                                    L78:;
+                                    {
+                                        l16 = 0u;
+                                        {
+                                            {
+                                                {
+                                                    l2 = l3 + ((u64)l15 << 3);
+                                                    const u32 t82 = load8(l2);
+                                                    l17 = t82;
+                                                    switch ((u32)(((u64)l17 & 255ull)) - 3u) {
+                                                    case 0: goto L79;
+                                                    case 1: goto L81;
+                                                    default: goto L80;
+                                                    }
+                                                }
+                                                L81:;
+                                                const u32 t83 = load32(l2 + 4ull);
+                                                l16 = t83;
+                                                goto L79;
+                                            }
+                                            L80:;
+                                            const u32 t84 = load8(l2 + 1ull);
+                                            l16 = (l17 & 255u) ? 0u : t84;
+                                        }
+                                        L79:;
+                                        if ((l19 & 255u) != (l16 & 255u)) {
+                                            if (l15 == 0) { v70 = 0u; goto L70; }
+                                            const u32 t86 = load32(l2 - 4ull);
+                                            const u32 t87 = load8(l2 - 8ull);
+                                            l15 = (((t87 - 3u) & 255u) < 2u) ? (t86 >> 8) : 0u;
+                                            goto L78;
+                                        }
+                                    }
+                                    v70 = l15 + 1u;
                                 }
-                                L72:;
-                                l2 = l23 + ((u64)l3 << 3);
-                                store16(l2, (u16)3u);
-                                store32(l2 + 4ull, l12);
-                                l9 = l18;
+                                L70:;
+                                l15 = v70;
+                                if (t69 != l15) {
+                                    l20 = l20 + 1u;
+                                    l4 = l4 + 1ull;
+                                    if (l4 != l9) goto L68;
+                                    goto L64;
+                                }
                             }
-                            L71:;
-                            l3 = l3 + 1u;
-                            l5 = l5 + l9;
-                            if (l5 < l10) goto L67;
+                            l11 = (u64)l24;
+                            {
+                                l15 = (u32)l4 + 1u;
+                                l16 = l15 - l22;
+                                l2 = (u64)(l16 + l23);
+                                l3 = l2 - l8;
+                                if (l3 <= 7ull) {
+                                    if (l23 >= l24) {
+                                        if (l15 == l22) goto L89;
+                                        l6 = 0ull;
+                                        if ((l2 - 1ull) != l8) {
+                                            l14 = l3 & 1ull;
+                                            l9 = l11 << 3;
+                                            l10 = l8 << 3;
+                                            l12 = ((u64)l20 - l8) & 6ull;
+                                            l2 = l5;
+                                            L93:;
+                                            {
+                                                l3 = l2 + l9;
+                                                l4 = l2 + l10;
+                                                const u32 t94 = load16(l4);
+                                                store16(l3, (u16)t94);
+                                                const u32 t95 = load32(l4 + 4ull);
+                                                store32(l3 + 4ull, t95);
+                                                const u32 t96 = load16(l4 + 8ull);
+                                                store16(l3 + 8ull, (u16)t96);
+                                                const u32 t97 = load32(l4 + 12ull);
+                                                store32(l3 + 12ull, t97);
+                                                l2 = l2 + 16ull;
+                                                l6 = l6 + 2ull;
+                                                if (l12 != l6) goto L93;
+                                            }
+                                            if (l14 == 0) goto L89;
+                                        }
+                                        l2 = l5 + ((l6 + l11) << 3);
+                                        l3 = l5 + ((l6 + l8) << 3);
+                                        const u32 t98 = load16(l3);
+                                        store16(l2, (u16)t98);
+                                        const u32 t99 = load32(l3 + 4ull);
+                                        store32(l2 + 4ull, t99);
+                                        goto L89;
+                                    }
+                                    if (l2 == l8) goto L89;
+                                    l6 = l3 - 1ull;
+                                    l9 = l5 + ((l6 + l11) << 3);
+                                    l4 = l5 + (l2 << 3);
+                                    const u32 t100 = load16(l4 - 8ull);
+                                    store16(l9, (u16)t100);
+                                    const u32 t101 = load32(l4 - 4ull);
+                                    store32(l9 + 4ull, t101);
+                                    if (l6 == 0) goto L89;
+                                    l6 = l3 - 2ull;
+                                    l9 = l5 + ((l6 + l11) << 3);
+                                    const u32 t102 = load16(l4 - 16ull);
+                                    store16(l9, (u16)t102);
+                                    const u32 t103 = load32(l4 - 12ull);
+                                    store32(l9 + 4ull, t103);
+                                    if (l6 == 0) goto L89;
+                                    l6 = l3 - 3ull;
+                                    l9 = l5 + ((l6 + l11) << 3);
+                                    l4 = l5 + (l2 << 3);
+                                    const u32 t104 = load16(l4 - 24ull);
+                                    store16(l9, (u16)t104);
+                                    const u32 t105 = load32(l4 - 20ull);
+                                    store32(l9 + 4ull, t105);
+                                    if (l6 == 0) goto L89;
+                                    l6 = l3 - 4ull;
+                                    l9 = l5 + ((l6 + l11) << 3);
+                                    const u32 t106 = load16(l4 - 32ull);
+                                    store16(l9, (u16)t106);
+                                    const u32 t107 = load32(l4 - 28ull);
+                                    store32(l9 + 4ull, t107);
+                                    if (l6 == 0) goto L89;
+                                    l6 = l3 - 5ull;
+                                    l9 = l5 + ((l6 + l11) << 3);
+                                    l4 = l5 + (l2 << 3);
+                                    const u32 t108 = load16(l4 - 40ull);
+                                    store16(l9, (u16)t108);
+                                    const u32 t109 = load32(l4 - 36ull);
+                                    store32(l9 + 4ull, t109);
+                                    if (l6 == 0) goto L89;
+                                    l6 = l3 - 6ull;
+                                    l9 = l5 + ((l6 + l11) << 3);
+                                    const u32 t110 = load16(l4 - 48ull);
+                                    store16(l9, (u16)t110);
+                                    const u32 t111 = load32(l4 - 44ull);
+                                    store32(l9 + 4ull, t111);
+                                    if (l6 == 0) goto L89;
+                                    l3 = (((l3 + l11) << 3) + l5) - 56ull;
+                                    l2 = l5 + (l2 << 3);
+                                    const u32 t112 = load16(l2 - 56ull);
+                                    store16(l3, (u16)t112);
+                                    const u32 t113 = load32(l2 - 52ull);
+                                    store32(l3 + 4ull, t113);
+                                    goto L89;
+                                }
+                                space_copies_copy_long(e, l5, l8, l2, l11);
+                            }
+                            L89:;
+                            const u64 t114 = load64(l1);
+                            l16 = l16 + l24;
+                            l2 = t114 + ((u64)l16 << 3);
+                            store16(l2, (u16)3u);
+                            store32(l2 + 4ull, l29);
+                            l24 = l16 + 1u;
+                            const u64 t115 = load64(l1);
+                            l5 = t115;
+                            l23 = l15 + l23;
+                            l8 = (u64)l23;
+                            l6 = l5 + (l8 << 3);
+                            const u32 t116 = load32(l1 + 16ull);
+                            l3 = l5 + ((u64)(t116 + l25) << 3);
+                            l10 = l13 - l8;
+                            if ((u32)l10) goto L67;
                         }
                     }
-                    space_space_Space_remove_store(e, l1, l3, l10);
+                    L64:;
+                    l12 = (u64)l24;
+                    {
+                        if (l10 <= 7ull) {
+                            if (l23 >= l24) {
+                                if (l23 == l26) goto L117;
+                                l6 = 0ull;
+                                if (l10 != 1ull) {
+                                    l11 = l10 & 1ull;
+                                    l9 = l12 << 3;
+                                    l13 = l8 << 3;
+                                    l10 = l10 & 6ull;
+                                    l2 = l5;
+                                    L121:;
+                                    {
+                                        l3 = l2 + l9;
+                                        l4 = l2 + l13;
+                                        const u32 t122 = load16(l4);
+                                        store16(l3, (u16)t122);
+                                        const u32 t123 = load32(l4 + 4ull);
+                                        store32(l3 + 4ull, t123);
+                                        const u32 t124 = load16(l4 + 8ull);
+                                        store16(l3 + 8ull, (u16)t124);
+                                        const u32 t125 = load32(l4 + 12ull);
+                                        store32(l3 + 12ull, t125);
+                                        l2 = l2 + 16ull;
+                                        l6 = l6 + 2ull;
+                                        if (l10 != l6) goto L121;
+                                    }
+                                    if (l11 == 0) goto L117;
+                                }
+                                l2 = l5 + ((l6 + l12) << 3);
+                                l3 = l5 + ((l6 + l8) << 3);
+                                const u32 t126 = load16(l3);
+                                store16(l2, (u16)t126);
+                                const u32 t127 = load32(l3 + 4ull);
+                                store32(l2 + 4ull, t127);
+                                goto L117;
+                            }
+                            if (l10 == 0) goto L117;
+                            l2 = l10 - 1ull;
+                            l3 = l5 + ((l2 + l12) << 3);
+                            l4 = l5 + ((l2 + l8) << 3);
+                            const u32 t128 = load16(l4);
+                            store16(l3, (u16)t128);
+                            const u32 t129 = load32(l4 + 4ull);
+                            store32(l3 + 4ull, t129);
+                            if (l2 == 0) goto L117;
+                            l2 = l10 - 2ull;
+                            l3 = l5 + ((l2 + l12) << 3);
+                            l4 = l5 + ((l2 + l8) << 3);
+                            const u32 t130 = load16(l4);
+                            store16(l3, (u16)t130);
+                            const u32 t131 = load32(l4 + 4ull);
+                            store32(l3 + 4ull, t131);
+                            if (l2 == 0) goto L117;
+                            l2 = l10 - 3ull;
+                            l3 = l5 + ((l2 + l12) << 3);
+                            l4 = l5 + ((l2 + l8) << 3);
+                            const u32 t132 = load16(l4);
+                            store16(l3, (u16)t132);
+                            const u32 t133 = load32(l4 + 4ull);
+                            store32(l3 + 4ull, t133);
+                            if (l2 == 0) goto L117;
+                            l2 = l10 - 4ull;
+                            l3 = l5 + ((l2 + l12) << 3);
+                            l4 = l5 + ((l2 + l8) << 3);
+                            const u32 t134 = load16(l4);
+                            store16(l3, (u16)t134);
+                            const u32 t135 = load32(l4 + 4ull);
+                            store32(l3 + 4ull, t135);
+                            if (l2 == 0) goto L117;
+                            l2 = l10 - 5ull;
+                            l3 = l5 + ((l2 + l12) << 3);
+                            l4 = l5 + ((l2 + l8) << 3);
+                            const u32 t136 = load16(l4);
+                            store16(l3, (u16)t136);
+                            const u32 t137 = load32(l4 + 4ull);
+                            store32(l3 + 4ull, t137);
+                            if (l2 == 0) goto L117;
+                            l2 = l10 - 6ull;
+                            l3 = l5 + ((l2 + l12) << 3);
+                            l4 = l5 + ((l2 + l8) << 3);
+                            const u32 t138 = load16(l4);
+                            store16(l3, (u16)t138);
+                            const u32 t139 = load32(l4 + 4ull);
+                            store32(l3 + 4ull, t139);
+                            if (l2 == 0) goto L117;
+                            l2 = l10 - 7ull;
+                            l3 = l5 + ((l2 + l12) << 3);
+                            l2 = l5 + ((l2 + l8) << 3);
+                            const u32 t140 = load16(l2);
+                            store16(l3, (u16)t140);
+                            const u32 t141 = load32(l2 + 4ull);
+                            store32(l3 + 4ull, t141);
+                            goto L117;
+                        }
+                        space_copies_copy_long(e, l5, l8, l13, l12);
+                    }
+                    L117:;
+                    l22 = (l26 - l23) + l24;
+                    space_space_Space_remove_store(e, l1, l22, l26);
+                    const u32 t142 = load32(l1 + 16ull);
+                    l15 = t142;
+                    l2 = (u64)(l15 + l25);
+                    l3 = (u64)(l15 + l27) - l2;
+                    const u64 t143 = load64(l1);
+                    l2 = t143 + (l2 << 3);
+                    L144:;
+                    {
+                        l4 = l2 + 4ull;
+                        const u32 t145 = load32(l4);
+                        l19 = t145;
+                        l15 = 0u;
+                        l16 = 2u;
+                        l17 = 0u;
+                        {
+                            {
+                                {
+                                    const u32 t149 = load8(l2);
+                                    l20 = t149;
+                                    switch ((u32)(((u64)l20 & 255ull)) - 3u) {
+                                    case 0: goto L146;
+                                    case 1: goto L148;
+                                    default: goto L147;
+                                    }
+                                }
+                                L148:;
+                                l16 = 0u;
+                                l17 = l19;
+                                goto L146;
+                            }
+                            L147:;
+                            const u32 t150 = load8(l2 + 1ull);
+                            l17 = t150;
+                            l15 = l19;
+                            l16 = l20;
+                        }
+                        L146:;
+                        store8(l2, (u8)l16);
+                        store32(l4, l15);
+                        store8(l2 + 1ull, (u8)l17);
+                        l2 = l2 + 8ull;
+                        l3 = l3 - 1ull;
+                        if (l3 != 0ull) goto L144;
+                    }
                 }
-                const u64 t82 = load64(l1);
-                l2 = t82 + ((u64)l17 << 3);
+                const u64 t151 = load64(l1);
+                l2 = t151 + ((u64)l31 << 3);
                 store16(l2, (u16)4u);
-                store32(l2 + 4ull, l3 - l14);
-                const u64 t83 = load64(l1);
-                l2 = t83 + ((u64)(l4 + 2u) << 3);
+                store32(l2 + 4ull, l22 - l28);
+                const u64 t152 = load64(l1);
+                l2 = t152 + ((u64)(l18 + 2u) << 3);
                 store16(l2, (u16)4u);
                 store32(l2 + 4ull, 0u);
                 {
-                    if (l3 == l10) goto L84;
-                    const u32 t85 = load32(l1 + 40ull);
-                    l9 = t85;
-                    if (l16 >= l9) goto L84;
-                    const u32 t86 = load32(l1 + 28ull);
-                    const u32 t87 = load32(l1 + 8ull);
-                    if (t86 == t87) goto L84;
-                    l15 = l3 - l10;
-                    l5 = l16;
-                    L88:;
+                    if (l22 == l26) goto L153;
+                    const u32 t154 = load32(l1 + 40ull);
+                    l20 = t154;
+                    if (l30 >= l20) goto L153;
+                    const u32 t155 = load32(l1 + 28ull);
+                    const u32 t156 = load32(l1 + 8ull);
+                    if (t155 == t156) goto L153;
+                    l22 = l22 - l26;
+                    l15 = l30;
+                    L157:;
                     {
-                        const u64 t89 = load64(l1);
-                        l21 = t89;
-                        const u32 t90 = load32(l1 + 28ull);
-                        l3 = t90;
-                        const u32 t91 = load32(l1 + 8ull);
-                        l6 = ((t91 - l3) >> 1) & 2147483646u;
-                        l2 = (l21 + ((u64)l3 << 3)) + ((u64)(l5 + l6) << 3);
-                        const u32 t92 = load8(l2);
-                        l7 = t92;
-                        l21 = l21 + ((u64)((l5 + (l3 + l6))) << 3);
-                        store8(l21, (u8)4u);
-                        const u32 t93 = load8(l2 + 1ull);
-                        store8(l21 + 1ull, (u8)t93);
-                        const u32 t94 = load32(l2 + 4ull);
-                        store32(l21 + 4ull, l15 + ((l7 == 4u) ? t94 : 0u));
-                        l5 = l5 + 1u;
-                        if (l9 != l5) goto L88;
+                        const u64 t158 = load64(l1);
+                        l3 = t158;
+                        const u32 t159 = load32(l1 + 28ull);
+                        l16 = t159;
+                        const u32 t160 = load32(l1 + 8ull);
+                        l17 = ((t160 - l16) >> 1) & 2147483646u;
+                        l2 = (l3 + ((u64)l16 << 3)) + ((u64)(l15 + l17) << 3);
+                        const u32 t161 = load8(l2);
+                        l19 = t161;
+                        l3 = l3 + ((u64)((l15 + (l16 + l17))) << 3);
+                        store8(l3, (u8)4u);
+                        const u32 t162 = load8(l2 + 1ull);
+                        store8(l3 + 1ull, (u8)t162);
+                        const u32 t163 = load32(l2 + 4ull);
+                        store32(l3 + 4ull, l22 + ((l19 == 4u) ? t163 : 0u));
+                        l15 = l15 + 1u;
+                        if (l20 != l15) goto L157;
                     }
                 }
-                L84:;
-                store32(l1 + 48ull, l4);
-                store32(l1 + 44ull, l8);
-                const u32 t95 = load32(l20 + 36u);
-                const u32 t96 = load32(l20 + 32u);
-                if (t95 >= t96) goto L26;
+                L153:;
+                store32(l1 + 48ull, l18);
+                store32(l1 + 44ull, l21);
+                const u32 t164 = load32(l7 + 36u);
+                const u32 t165 = load32(l7 + 32u);
+                if (t164 >= t165) goto L26;
             }
         }
         store16(l0, (u16)1u);
         store32(l0 + 4ull, 0u);
     }
     L1:;
-    e->stack_pointer = l20 + 48ull;
+    e->stack_pointer = l7 + 48ull;
 }
 
 static void functions_form_calls_delete_definition(struct engine *e, u64 l0, u64 l1, u64 l2) {
@@ -8853,7 +9192,7 @@ static void functions_form_calls_delete_all(struct engine *e, u64 l0, u64 l1) {
                     l3 = l4 << 3;
                     l10 = l2 << 3;
                     l2 = l8 + l10;
-                    if (l3 > (l2 - (TABLES + 780u))) {
+                    if (l3 > (l2 - (TABLES + 768u))) {
                         l3 = l4 & 3ull;
                         l5 = 0ull;
                         const u64 t12 = l8;
@@ -10055,8 +10394,104 @@ static void space_copies_copy_long(struct engine *e, u64 l0, u64 l1, u64 l2, u64
     trap();
 }
 
-static u32 forms_work_Work_fill_body(struct engine *e, u64 l0, u32 l1, u32 l2, u32 l3) {
-    u64 l4 = 0;
+static u32 forms_work_Work_fill_other(struct engine *e, u64 l0, u32 l1, u32 l2, u32 l3) {
+    u32 l4 = 0;
+    u32 l5 = 0;
+    u32 l6 = 0;
+    u32 l7 = 0;
+    u32 l8 = 0;
+    u64 l9 = 0;
+    u64 l10 = 0;
+    l10 = e->stack_pointer;
+    if ((i64)(l10 - e->stack) >= (i64)16ull) {
+        const u32 t2 = load32(l0 + 48ull);
+        l4 = t2;
+        {
+            const u32 t4 = load32(l0 + 44ull);
+            l5 = t4;
+            if (l1 == l5) goto L3;
+            if (l1 > l5) {
+                l7 = l1 - l5;
+                const u32 t6 = load32(l0 + 16ull);
+                l6 = t6;
+                L7:;
+                {
+                    l1 = 3u;
+                    if (l4 < l6) {
+                        const u64 t9 = load64(l0);
+                        l9 = t9 + ((u64)l4 << 3);
+                        const u32 t10 = load32(l9 + 4ull);
+                        const u32 t11 = load8(l9);
+                        l1 = (t11 == 4u) ? (t10 + 3u) : 3u;
+                    }
+                    l5 = 0u;
+                    l8 = l4 + 1u;
+                    u32 v12;
+                    if (l6 > l8) {
+                        const u64 t13 = load64(l0);
+                        l9 = t13 + ((u64)l8 << 3);
+                        const u32 t14 = load32(l9 + 4ull);
+                        const u32 t15 = load8(l9);
+                        v12 = (t15 == 4u) ? t14 : 0u;
+                    } else {
+                        v12 = l5;
+                    }
+                    l4 = v12 + (l1 + l4);
+                    l7 = l7 - 1u;
+                    if (l7) goto L7;
+                }
+                goto L3;
+            }
+            if (l1 == 0) {
+                l4 = 0u;
+                goto L3;
+            }
+            const u32 t17 = load32(l0 + 16ull);
+            l6 = t17;
+            l4 = 0u;
+            L18:;
+            {
+                l5 = 3u;
+                if (l4 < l6) {
+                    const u64 t20 = load64(l0);
+                    l9 = t20 + ((u64)l4 << 3);
+                    const u32 t21 = load32(l9 + 4ull);
+                    const u32 t22 = load8(l9);
+                    l5 = (t22 == 4u) ? (t21 + 3u) : 3u;
+                }
+                l8 = l4 + 1u;
+                u32 v23;
+                if (l6 > l8) {
+                    const u64 t24 = load64(l0);
+                    l9 = t24 + ((u64)l8 << 3);
+                    const u32 t25 = load32(l9 + 4ull);
+                    const u32 t26 = load8(l9);
+                    v23 = (t26 == 4u) ? t25 : 0u;
+                } else {
+                    v23 = l7;
+                }
+                l4 = v23 + (l4 + l5);
+                l1 = l1 - 1u;
+                if (l1) goto L18;
+            }
+        }
+        L3:;
+        const u64 t27 = load64(l0);
+        l9 = t27 + ((u64)l4 << 3);
+        const u32 t28 = load32(l9 + 20ull);
+        const u32 t29 = load32(l9 + 4ull);
+        l4 = (l4 + t29) + 3u;
+        const u32 t30 = load32(l9 + 12ull);
+        const u32 t31 = store_fill_fill_items(e, l0, t28 + l4, l4 + t30, l2, l3);
+        l4 = t31;
+        e->stack_pointer = l10;
+        return l4;
+    }
+    trap();
+    return 0;
+}
+
+static u32 store_fill_fill_items(struct engine *e, u64 l0, u32 l1, u32 l2, u32 l3, u32 l4) {
     u64 l5 = 0;
     u64 l6 = 0;
     u64 l7 = 0;
@@ -10083,1656 +10518,1907 @@ static u32 forms_work_Work_fill_body(struct engine *e, u64 l0, u32 l1, u32 l2, u
     u64 l28 = 0;
     u64 l29 = 0;
     u64 l30 = 0;
-    u32 l31 = 0;
-    u32 l32 = 0;
-    u32 l33 = 0;
-    u32 l34 = 0;
-    u32 l35 = 0;
-    u32 l36 = 0;
+    u64 l31 = 0;
+    u64 l32 = 0;
+    u64 l33 = 0;
+    u64 l34 = 0;
+    u64 l35 = 0;
+    u64 l36 = 0;
     u32 l37 = 0;
-    l4 = e->stack_pointer - 48ull;
-    e->stack_pointer = l4;
+    u32 l38 = 0;
+    u32 l39 = 0;
+    u32 l40 = 0;
+    u32 l41 = 0;
+    u32 l42 = 0;
+    u32 l43 = 0;
+    l5 = e->stack_pointer - 64ull;
+    e->stack_pointer = l5;
     {
         {
-            l22 = l4;
-            if ((i64)(l22 - e->stack) >= (i64)16ull) {
-                const u32 t4 = load32(l0 + 44ull);
-                if (l1 != t4) {
-                    l11 = l0;
-                    l0 = e->stack_pointer - 48ull;
-                    e->stack_pointer = l0;
-                    {
+            {
+                {
+                    l21 = l5;
+                    if ((i64)(l21 - e->stack) >= (i64)16ull) {
+                        l38 = 1u;
+                        if (l1 == l2) goto L1;
+                        l11 = (u64)l1;
+                        const u64 t6 = load64(l0);
+                        l7 = t6;
+                        l37 = l2 - l1;
+                        l17 = (u64)l37;
+                        l8 = l17;
+                        const u32 t7 = load32(l0 + 16ull);
+                        l39 = t7;
+                        const u32 t8 = load32(l0 + 20ull);
+                        l41 = l39 + t8;
+                        const u32 t9 = load32(l0 + 24ull);
+                        l42 = t9;
+                        const u32 t10 = load32(l0 + 28ull);
+                        l43 = t10;
+                        const u32 t11 = l2;
+                        const u32 t12 = l1;
+                        u64 v13;
                         {
-                            l10 = l0;
-                            if ((i64)(l10 - e->stack) >= (i64)16ull) {
-                                const u32 t9 = load32(l11 + 48ull);
-                                l31 = t9;
+                            if (l37 >= 8u) {
+                                l18 = l17 & 4294967288ull;
+                                l5 = l7 + (l11 << 3);
+                                L15:;
                                 {
-                                    const u32 t11 = load32(l11 + 44ull);
-                                    l32 = t11;
-                                    if (l1 == l32) goto L10;
-                                    if (l1 > l32) {
-                                        l33 = l1 - l32;
-                                        const u32 t13 = load32(l11 + 16ull);
-                                        l35 = t13;
-                                        L14:;
-                                        {
-                                            l1 = 3u;
-                                            if (l31 < l35) {
-                                                const u64 t16 = load64(l11);
-                                                l0 = t16 + ((u64)l31 << 3);
-                                                const u32 t17 = load32(l0 + 4ull);
-                                                const u32 t18 = load8(l0);
-                                                l1 = (t18 == 4u) ? (t17 + 3u) : 3u;
-                                            }
-                                            l36 = l31 + 1u;
-                                            u32 v19;
-                                            if (l35 > l36) {
-                                                const u64 t20 = load64(l11);
-                                                l0 = t20 + ((u64)l36 << 3);
-                                                const u32 t21 = load32(l0 + 4ull);
-                                                const u32 t22 = load8(l0);
-                                                v19 = (t22 == 4u) ? t21 : 0u;
-                                            } else {
-                                                v19 = 0u;
-                                            }
-                                            l31 = v19 + (l1 + l31);
-                                            l33 = l33 - 1u;
-                                            if (l33) goto L14;
-                                        }
-                                        goto L10;
-                                    }
-                                    if (l1 == 0) {
-                                        l31 = 0u;
-                                        goto L10;
-                                    }
-                                    const u32 t24 = load32(l11 + 16ull);
-                                    l35 = t24;
-                                    l31 = 0u;
-                                    L25:;
                                     {
-                                        l32 = 3u;
-                                        if (l31 < l35) {
-                                            const u64 t27 = load64(l11);
-                                            l0 = t27 + ((u64)l31 << 3);
-                                            const u32 t28 = load32(l0 + 4ull);
-                                            const u32 t29 = load8(l0);
-                                            l32 = (t29 == 4u) ? (t28 + 3u) : 3u;
-                                        }
-                                        l36 = l31 + 1u;
-                                        u32 v30;
-                                        if (l35 > l36) {
-                                            const u64 t31 = load64(l11);
-                                            l0 = t31 + ((u64)l36 << 3);
-                                            const u32 t32 = load32(l0 + 4ull);
-                                            const u32 t33 = load8(l0);
-                                            v30 = (t33 == 4u) ? t32 : 0u;
+                                        const u32 t17 = load8(l5);
+                                        u64 v18;
+                                        if (t17) {
+                                            v18 = l15;
                                         } else {
-                                            v30 = 0u;
+                                            const u32 t19 = load8(l5 + 8ull);
+                                            if (t19) { v13 = 1ull - l10; goto L13; }
+                                            const u32 t20 = load8(l5 + 16ull);
+                                            if (t20) { v13 = 2ull - l10; goto L13; }
+                                            const u32 t21 = load8(l5 + 24ull);
+                                            if (t21) { v13 = 3ull - l10; goto L13; }
+                                            const u32 t22 = load8(l5 + 32ull);
+                                            if (t22) { v13 = 4ull - l10; goto L13; }
+                                            const u32 t23 = load8(l5 + 40ull);
+                                            if (t23) { v13 = 5ull - l10; goto L13; }
+                                            const u32 t24 = load8(l5 + 48ull);
+                                            if (t24) { v13 = 6ull - l10; goto L13; }
+                                            const u32 t25 = load8(l5 + 56ull);
+                                            if (t25 == 0) goto L16;
+                                            v18 = 7ull;
                                         }
-                                        l31 = v30 + (l31 + l32);
-                                        l1 = l1 - 1u;
-                                        if (l1) goto L25;
+                                        v13 = v18 - l10; goto L13;
                                     }
+                                    L16:;
+                                    l5 = l5 + 64ull;
+                                    l10 = l10 - 8ull;
+                                    l8 = l17 + l10;
+                                    if (l8 > 7ull) goto L15;
                                 }
-                                L10:;
-                                l1 = 1u;
-                                const u64 t34 = load64(l11);
-                                l7 = t34;
-                                l0 = l7 + ((u64)l31 << 3);
-                                const u32 t35 = load32(l0 + 12ull);
-                                l32 = t35;
-                                const u32 t36 = load32(l0 + 20ull);
-                                l33 = t36;
-                                if (l32 == l33) goto L6;
-                                const u32 t37 = load32(l0 + 4ull);
-                                l31 = (l31 + t37) + 3u;
-                                l35 = l31 + l32;
-                                l36 = l31 + l33;
-                                l9 = (u64)l36;
-                                l31 = l32 - l33;
-                                l13 = (u64)l31;
-                                l12 = l13;
-                                const u32 t38 = load32(l11 + 28ull);
-                                l37 = t38;
-                                const u32 t39 = load32(l11 + 20ull);
-                                const u32 t40 = load32(l11 + 16ull);
-                                l33 = t39 + t40;
-                                const u32 t41 = load32(l11 + 24ull);
-                                l34 = t41;
-                                l32 = l37 - (l33 + l34);
-                                const u32 t42 = l35;
-                                const u32 t43 = l36;
-                                u64 v44;
+                            }
+                            {
+                                if (l8 == 0) goto L26;
+                                l5 = l7 + ((l11 + l18) << 3);
+                                L27:;
                                 {
-                                    if (l31 >= 8u) {
-                                        l6 = l13 & 4294967288ull;
-                                        l0 = l7 + (l9 << 3);
-                                        L46:;
+                                    const u32 t28 = load8(l5);
+                                    if (t28) goto L26;
+                                    l5 = l5 + 8ull;
+                                    l6 = l6 + 1ull;
+                                    if (l8 != l6) goto L27;
+                                }
+                                l6 = l8;
+                            }
+                            L26:;
+                            v13 = l6 + l18;
+                        }
+                        L13:;
+                        if (t11 == (t12 + (u32)v13)) {
+                            l3 = l43 - (l41 + l42);
+                            if (l37 > ((l3 < 64u) ? l3 : 64u)) {
+                                const u32 t31 = space_space_Space_copy_store(e, l0, l1, l2);
+                                l38 = t31;
+                                goto L1;
+                            }
+                            l1 = l41 - l1;
+                            l19 = (u64)l1;
+                            {
+                                if (l37 >= 8u) {
+                                    if (l37 != 8u) {
+                                        l18 = l11 << 3;
+                                        l9 = (l11 + l19) << 3;
+                                        l10 = l17;
+                                        l8 = l7;
+                                        L35:;
+                                        {
+                                            l5 = l8 + l18;
+                                            l6 = l8 + l9;
+                                            {
+                                                if (l1 <= 7u) {
+                                                    const u32 t38 = load8(l5);
+                                                    store8(l6, (u8)t38);
+                                                    const u32 t39 = load8(l5 + 1ull);
+                                                    store8(l6 + 1ull, (u8)t39);
+                                                    const u32 t40 = load32(l5 + 4ull);
+                                                    store32(l6 + 4ull, t40);
+                                                    const u32 t41 = load16(l5 + 8ull);
+                                                    store16(l6 + 8ull, (u16)t41);
+                                                    const u32 t42 = load32(l5 + 12ull);
+                                                    store32(l6 + 12ull, t42);
+                                                    const u32 t43 = load16(l5 + 16ull);
+                                                    store16(l6 + 16ull, (u16)t43);
+                                                    const u32 t44 = load32(l5 + 20ull);
+                                                    store32(l6 + 20ull, t44);
+                                                    const u32 t45 = load16(l5 + 24ull);
+                                                    store16(l6 + 24ull, (u16)t45);
+                                                    const u32 t46 = load32(l5 + 28ull);
+                                                    store32(l6 + 28ull, t46);
+                                                    const u32 t47 = load16(l5 + 32ull);
+                                                    store16(l6 + 32ull, (u16)t47);
+                                                    const u32 t48 = load32(l5 + 36ull);
+                                                    store32(l6 + 36ull, t48);
+                                                    const u32 t49 = load16(l5 + 40ull);
+                                                    store16(l6 + 40ull, (u16)t49);
+                                                    const u32 t50 = load32(l5 + 44ull);
+                                                    store32(l6 + 44ull, t50);
+                                                    const u32 t51 = load16(l5 + 48ull);
+                                                    store16(l6 + 48ull, (u16)t51);
+                                                    const u32 t52 = load32(l5 + 52ull);
+                                                    store32(l6 + 52ull, t52);
+                                                    const u32 t53 = load16(l5 + 56ull);
+                                                    l3 = t53;
+                                                    const u32 t54 = load32(l5 + 60ull);
+                                                    store32(l6 + 60ull, t54);
+                                                    store16(l6 + 56ull, (u16)l3);
+                                                    goto L36;
+                                                }
+                                                const u64 t55 = load64(l5);
+                                                l12 = t55;
+                                                const u64 t56 = load64(l5 + 8u);
+                                                l15 = t56;
+                                                const u64 t57 = load64(l5 + 16u);
+                                                l13 = t57;
+                                                const u64 t58 = load64(l5 + 24u);
+                                                l14 = t58;
+                                                const u64 t59 = load64(l5 + 32u);
+                                                l20 = t59;
+                                                const u64 t60 = load64(l5 + 40u);
+                                                l16 = t60;
+                                                const u64 t61 = load64(l5 + 48u);
+                                                l24 = t61;
+                                                const u64 t62 = load64(l5 + 56u);
+                                                store64(l6 + 56u, t62);
+                                                store64(l6 + 48u, l24);
+                                                store64(l6 + 40u, l16);
+                                                store64(l6 + 32u, l20);
+                                                store64(l6 + 24u, l14);
+                                                store64(l6 + 16u, l13);
+                                                store64(l6 + 8u, l15);
+                                                store64(l6, l12);
+                                            }
+                                            L36:;
+                                            l8 = l8 + 64ull;
+                                            l10 = l10 - 8ull;
+                                            if (l10 > 8ull) goto L35;
+                                        }
+                                    }
+                                    l6 = (l11 + l17) - 8ull;
+                                    l5 = l7 + (l6 << 3);
+                                    l6 = l7 + ((l6 + l19) << 3);
+                                    if (l1 <= 7u) {
+                                        const u32 t64 = load16(l5);
+                                        store16(l6, (u16)t64);
+                                        const u32 t65 = load32(l5 + 4ull);
+                                        store32(l6 + 4ull, t65);
+                                        const u32 t66 = load16(l5 + 8u);
+                                        store16(l6 + 8u, (u16)t66);
+                                        const u32 t67 = load32(l5 + 12ull);
+                                        store32(l6 + 12ull, t67);
+                                        const u32 t68 = load16(l5 + 16u);
+                                        store16(l6 + 16u, (u16)t68);
+                                        const u32 t69 = load32(l5 + 20ull);
+                                        store32(l6 + 20ull, t69);
+                                        const u32 t70 = load16(l5 + 24u);
+                                        store16(l6 + 24u, (u16)t70);
+                                        const u32 t71 = load32(l5 + 28ull);
+                                        store32(l6 + 28ull, t71);
+                                        const u32 t72 = load16(l5 + 32u);
+                                        store16(l6 + 32u, (u16)t72);
+                                        const u32 t73 = load32(l5 + 36ull);
+                                        store32(l6 + 36ull, t73);
+                                        const u32 t74 = load16(l5 + 40u);
+                                        store16(l6 + 40u, (u16)t74);
+                                        const u32 t75 = load32(l5 + 44ull);
+                                        store32(l6 + 44ull, t75);
+                                        const u32 t76 = load16(l5 + 48u);
+                                        store16(l6 + 48u, (u16)t76);
+                                        const u32 t77 = load32(l5 + 52ull);
+                                        store32(l6 + 52ull, t77);
+                                        const u32 t78 = load16(l5 + 56u);
+                                        store16(l6 + 56u, (u16)t78);
+                                        const u32 t79 = load32(l5 + 60ull);
+                                        store32(l6 + 60ull, t79);
+                                        goto L32;
+                                    }
+                                    const u64 t80 = load64(l5);
+                                    l8 = t80;
+                                    const u64 t81 = load64(l5 + 8u);
+                                    l10 = t81;
+                                    const u64 t82 = load64(l5 + 16u);
+                                    l7 = t82;
+                                    const u64 t83 = load64(l5 + 24u);
+                                    l11 = t83;
+                                    const u64 t84 = load64(l5 + 32u);
+                                    l17 = t84;
+                                    const u64 t85 = load64(l5 + 40u);
+                                    l18 = t85;
+                                    const u64 t86 = load64(l5 + 48u);
+                                    l9 = t86;
+                                    const u64 t87 = load64(l5 + 56u);
+                                    store64(l6 + 56u, t87);
+                                    store64(l6 + 48u, l9);
+                                    store64(l6 + 40u, l18);
+                                    store64(l6 + 32u, l17);
+                                    store64(l6 + 24u, l11);
+                                    store64(l6 + 16u, l7);
+                                    store64(l6 + 8u, l10);
+                                    store64(l6, l8);
+                                    goto L32;
+                                }
+                                if (l37 >= 4u) {
+                                    l5 = l7 + (l11 << 3);
+                                    l6 = l7 + ((l11 + l19) << 3);
+                                    {
+                                        if (l1 <= 3u) {
+                                            const u32 t91 = load16(l5);
+                                            store16(l6, (u16)t91);
+                                            const u32 t92 = load32(l5 + 4ull);
+                                            store32(l6 + 4ull, t92);
+                                            const u32 t93 = load16(l5 + 8u);
+                                            store16(l6 + 8u, (u16)t93);
+                                            const u32 t94 = load32(l5 + 12ull);
+                                            store32(l6 + 12ull, t94);
+                                            const u32 t95 = load16(l5 + 16u);
+                                            store16(l6 + 16u, (u16)t95);
+                                            const u32 t96 = load32(l5 + 20ull);
+                                            store32(l6 + 20ull, t96);
+                                            const u32 t97 = load16(l5 + 24u);
+                                            store16(l6 + 24u, (u16)t97);
+                                            const u32 t98 = load32(l5 + 28ull);
+                                            store32(l6 + 28ull, t98);
+                                            goto L89;
+                                        }
+                                        const u64 t99 = load64(l5);
+                                        l8 = t99;
+                                        const u64 t100 = load64(l5 + 8u);
+                                        l10 = t100;
+                                        const u64 t101 = load64(l5 + 16u);
+                                        l18 = t101;
+                                        const u64 t102 = load64(l5 + 24u);
+                                        store64(l6 + 24u, t102);
+                                        store64(l6 + 16u, l18);
+                                        store64(l6 + 8u, l10);
+                                        store64(l6, l8);
+                                    }
+                                    L89:;
+                                    l6 = (l11 + l17) - 4ull;
+                                    l5 = l7 + (l6 << 3);
+                                    l6 = l7 + ((l6 + l19) << 3);
+                                    if (l1 <= 3u) {
+                                        const u32 t104 = load16(l5);
+                                        store16(l6, (u16)t104);
+                                        const u32 t105 = load32(l5 + 4ull);
+                                        store32(l6 + 4ull, t105);
+                                        const u32 t106 = load16(l5 + 8u);
+                                        store16(l6 + 8u, (u16)t106);
+                                        const u32 t107 = load32(l5 + 12ull);
+                                        store32(l6 + 12ull, t107);
+                                        const u32 t108 = load16(l5 + 16u);
+                                        store16(l6 + 16u, (u16)t108);
+                                        const u32 t109 = load32(l5 + 20ull);
+                                        store32(l6 + 20ull, t109);
+                                        const u32 t110 = load16(l5 + 24u);
+                                        store16(l6 + 24u, (u16)t110);
+                                        const u32 t111 = load32(l5 + 28ull);
+                                        store32(l6 + 28ull, t111);
+                                        goto L32;
+                                    }
+                                    const u64 t112 = load64(l5);
+                                    l8 = t112;
+                                    const u64 t113 = load64(l5 + 8u);
+                                    l10 = t113;
+                                    const u64 t114 = load64(l5 + 16u);
+                                    l7 = t114;
+                                    const u64 t115 = load64(l5 + 24u);
+                                    store64(l6 + 24u, t115);
+                                    store64(l6 + 16u, l7);
+                                    store64(l6 + 8u, l10);
+                                    store64(l6, l8);
+                                    goto L32;
+                                }
+                                if (l37 >= 2u) {
+                                    core_slice_edits_slice_T_copy_from_slice(e, l7 + ((l11 + l19) << 3), l7 + (l11 << 3), 2ull);
+                                    l5 = (l11 + l17) - 2ull;
+                                    core_slice_edits_slice_T_copy_from_slice(e, l7 + ((l5 + l19) << 3), l7 + (l5 << 3), 2ull);
+                                    goto L32;
+                                }
+                                if (l37 != 1u) goto L32;
+                                l5 = l7 + ((l11 + l19) << 3);
+                                l6 = l7 + (l11 << 3);
+                                const u32 t117 = load16(l6);
+                                store16(l5, (u16)t117);
+                                const u32 t118 = load32(l6 + 4ull);
+                                store32(l5 + 4ull, t118);
+                            }
+                            L32:;
+                            l5 = l0 + 20ull;
+                            const u32 t119 = load32(l5);
+                            store32(l5, t119 + l37);
+                            goto L1;
+                        }
+                        l40 = (l3 > l4) ? l4 : l3;
+                        l16 = (u64)(l39 + l40);
+                        l10 = 0ull;
+                        if (l3 < l4) {
+                            l5 = (u64)(l4 + l39) - l16;
+                            l6 = 0ull - ((l5 > 1ull) ? l5 : 1ull);
+                            l1 = 0u;
+                            l17 = l7 + (l16 << 3);
+                            l5 = l17;
+                            L121:;
+                            {
+                                const u32 t122 = load8(l5);
+                                if (t122 == 2u) {
+                                    l8 = l17 + (l10 << 3);
+                                    l7 = l8 + 1ull;
+                                    const u32 t124 = load8(l7);
+                                    l3 = t124;
+                                    store8(l7, (u8)0u);
+                                    const u32 t125 = load8(l8);
+                                    l37 = t125;
+                                    store8(l8, (u8)(l37 ? 3u : 4u));
+                                    store32(l8 + 4ull, l1 + ((l37 ? 0u : l3) & 255u));
+                                    l10 = l10 + 1ull;
+                                }
+                                l1 = l1 + 256u;
+                                l5 = l5 + 8ull;
+                                l6 = l6 + 1ull;
+                                if (l6 != 0ull) goto L121;
+                            }
+                            const u32 t126 = load32(l0 + 16ull);
+                            l1 = t126;
+                            const u32 t127 = load32(l0 + 20ull);
+                            l41 = l1 + t127;
+                            const u32 t128 = load32(l0 + 24ull);
+                            l42 = t128;
+                            const u32 t129 = load32(l0 + 28ull);
+                            l43 = t129;
+                            l16 = (u64)(l1 + l40);
+                            const u64 t130 = load64(l0);
+                            l7 = t130;
+                        }
+                        store64(l21 + 40u, l16);
+                        l18 = l10 & 4294967295ull;
+                        store64(l21 + 56u, l18);
+                        l34 = (u64)(l4 - l40);
+                        store64(l21 + 48u, l34);
+                        l24 = (u64)l2;
+                        l39 = (u32)l10;
+                        {
+                            {
+                                l19 = (u64)(l43 - l42);
+                                l10 = (u64)l41;
+                                if (l19 < (l10 + 8ull)) {
+                                    l8 = l11;
+                                    goto L132;
+                                }
+                                l29 = l16 << 3;
+                                l30 = l16 - 8ull;
+                                l31 = l16 - 4ull;
+                                l36 = l16 - 2ull;
+                                l33 = l16 + l18;
+                                l8 = l11;
+                                L134:;
+                                {
+                                    l6 = (l10 - l8) & 4294967295ull;
+                                    if (l6 < 8ull) goto L132;
+                                    l5 = l7 + (l8 << 3);
+                                    const u64 t135 = load64(l5);
+                                    l17 = t135;
+                                    const u64 t136 = load64(l5 + 8u);
+                                    l9 = t136;
+                                    const u64 t137 = load64(l5 + 16u);
+                                    l12 = t137;
+                                    const u64 t138 = load64(l5 + 24u);
+                                    l15 = t138;
+                                    const u64 t139 = load64(l5 + 32u);
+                                    l13 = t139;
+                                    const u64 t140 = load64(l5 + 40u);
+                                    l14 = t140;
+                                    const u64 t141 = load64(l5 + 48u);
+                                    l20 = t141;
+                                    l6 = l7 + ((l6 + l8) << 3);
+                                    const u64 t142 = load64(l5 + 56u);
+                                    store64(l6 + 56u, t142);
+                                    store64(l6 + 48u, l20);
+                                    store64(l6 + 40u, l14);
+                                    store64(l6 + 32u, l13);
+                                    store64(l6 + 24u, l15);
+                                    store64(l6 + 16u, l12);
+                                    store64(l6 + 8u, l9);
+                                    store64(l6, l17);
+                                    const u64 t143 = l24;
+                                    const u64 t144 = l8;
+                                    u64 v145;
+                                    {
+                                        const u32 t146 = load8(l5);
+                                        if (t146) { v145 = 0ull; goto L145; }
+                                        const u32 t147 = load8(l5 + 8ull);
+                                        if (t147) { v145 = 1ull; goto L145; }
+                                        const u32 t148 = load8(l5 + 16ull);
+                                        if (t148) { v145 = 2ull; goto L145; }
+                                        const u32 t149 = load8(l5 + 24ull);
+                                        if (t149) { v145 = 3ull; goto L145; }
+                                        const u32 t150 = load8(l5 + 32ull);
+                                        if (t150) { v145 = 4ull; goto L145; }
+                                        const u32 t151 = load8(l5 + 40ull);
+                                        if (t151) { v145 = 5ull; goto L145; }
+                                        const u32 t152 = load8(l5 + 48ull);
+                                        if (t152) { v145 = 6ull; goto L145; }
+                                        const u32 t153 = load8(l5 + 56ull);
+                                        v145 = t153 ? 7ull : 8ull;
+                                    }
+                                    L145:;
+                                    l5 = v145;
+                                    l17 = t144 + l5;
+                                    if (t143 <= l17) {
+                                        l5 = (l10 + l24) - l8;
+                                        goto L3;
+                                    }
+                                    l10 = l5 + l10;
+                                    u64 v155;
+                                    if (l5 == 8ull) {
+                                        v155 = l17;
+                                    } else {
                                         {
                                             {
-                                                const u32 t48 = load8(l0);
-                                                u64 v49;
-                                                if (t48) {
-                                                    v49 = 0ull;
-                                                } else {
-                                                    const u32 t50 = load8(l0 + 8ull);
-                                                    if (t50) { v44 = 1ull - l8; goto L44; }
-                                                    const u32 t51 = load8(l0 + 16ull);
-                                                    if (t51) { v44 = 2ull - l8; goto L44; }
-                                                    const u32 t52 = load8(l0 + 24ull);
-                                                    if (t52) { v44 = 3ull - l8; goto L44; }
-                                                    const u32 t53 = load8(l0 + 32ull);
-                                                    if (t53) { v44 = 4ull - l8; goto L44; }
-                                                    const u32 t54 = load8(l0 + 40ull);
-                                                    if (t54) { v44 = 5ull - l8; goto L44; }
-                                                    const u32 t55 = load8(l0 + 48ull);
-                                                    if (t55) { v44 = 6ull - l8; goto L44; }
-                                                    const u32 t56 = load8(l0 + 56ull);
-                                                    if (t56 == 0) goto L47;
-                                                    v49 = 7ull;
-                                                }
-                                                v44 = v49 - l8; goto L44;
-                                            }
-                                            L47:;
-                                            l0 = l0 + 64ull;
-                                            l8 = l8 - 8ull;
-                                            l12 = l13 + l8;
-                                            if (l12 > 7ull) goto L46;
-                                        }
-                                    }
-                                    {
-                                        if (l12 == 0) goto L57;
-                                        l0 = l7 + ((l6 + l9) << 3);
-                                        L58:;
-                                        {
-                                            const u32 t59 = load8(l0);
-                                            if (t59) goto L57;
-                                            l0 = l0 + 8ull;
-                                            l5 = l5 + 1ull;
-                                            if (l12 != l5) goto L58;
-                                        }
-                                        l5 = l12;
-                                    }
-                                    L57:;
-                                    v44 = l5 + l6;
-                                }
-                                L44:;
-                                if (t42 == (t43 + (u32)v44)) {
-                                    if (l31 > ((l32 < 64u) ? l32 : 64u)) {
-                                        const u32 t62 = space_space_Space_copy_store(e, l11, l36, l35);
-                                        l1 = t62;
-                                        goto L6;
-                                    }
-                                    l32 = l33 - l36;
-                                    l23 = (u64)l32;
-                                    {
-                                        if (l31 >= 8u) {
-                                            if (l31 != 8u) {
-                                                l6 = l9 << 3;
-                                                l4 = (l9 + l23) << 3;
-                                                l8 = l13;
-                                                l12 = l7;
-                                                L66:;
-                                                {
-                                                    l0 = l6 + l12;
-                                                    l5 = l4 + l12;
-                                                    {
-                                                        if (l32 <= 7u) {
-                                                            const u32 t69 = load8(l0);
-                                                            store8(l5, (u8)t69);
-                                                            const u32 t70 = load8(l0 + 1ull);
-                                                            store8(l5 + 1ull, (u8)t70);
-                                                            const u32 t71 = load32(l0 + 4ull);
-                                                            store32(l5 + 4ull, t71);
-                                                            const u32 t72 = load16(l0 + 8ull);
-                                                            store16(l5 + 8ull, (u16)t72);
-                                                            const u32 t73 = load32(l0 + 12ull);
-                                                            store32(l5 + 12ull, t73);
-                                                            const u32 t74 = load16(l0 + 16ull);
-                                                            store16(l5 + 16ull, (u16)t74);
-                                                            const u32 t75 = load32(l0 + 20ull);
-                                                            store32(l5 + 20ull, t75);
-                                                            const u32 t76 = load16(l0 + 24ull);
-                                                            store16(l5 + 24ull, (u16)t76);
-                                                            const u32 t77 = load32(l0 + 28ull);
-                                                            store32(l5 + 28ull, t77);
-                                                            const u32 t78 = load16(l0 + 32ull);
-                                                            store16(l5 + 32ull, (u16)t78);
-                                                            const u32 t79 = load32(l0 + 36ull);
-                                                            store32(l5 + 36ull, t79);
-                                                            const u32 t80 = load16(l0 + 40ull);
-                                                            store16(l5 + 40ull, (u16)t80);
-                                                            const u32 t81 = load32(l0 + 44ull);
-                                                            store32(l5 + 44ull, t81);
-                                                            const u32 t82 = load16(l0 + 48ull);
-                                                            store16(l5 + 48ull, (u16)t82);
-                                                            const u32 t83 = load32(l0 + 52ull);
-                                                            store32(l5 + 52ull, t83);
-                                                            const u32 t84 = load16(l0 + 56ull);
-                                                            l33 = t84;
-                                                            const u32 t85 = load32(l0 + 60ull);
-                                                            store32(l5 + 60ull, t85);
-                                                            store16(l5 + 56ull, (u16)l33);
-                                                            goto L67;
-                                                        }
-                                                        const u64 t86 = load64(l0);
-                                                        l24 = t86;
-                                                        const u64 t87 = load64(l0 + 8u);
-                                                        l25 = t87;
-                                                        const u64 t88 = load64(l0 + 16u);
-                                                        l14 = t88;
-                                                        const u64 t89 = load64(l0 + 24u);
-                                                        l15 = t89;
-                                                        const u64 t90 = load64(l0 + 32u);
-                                                        l16 = t90;
-                                                        const u64 t91 = load64(l0 + 40u);
-                                                        l18 = t91;
-                                                        const u64 t92 = load64(l0 + 48u);
-                                                        l17 = t92;
-                                                        const u64 t93 = load64(l0 + 56u);
-                                                        store64(l5 + 56u, t93);
-                                                        store64(l5 + 48u, l17);
-                                                        store64(l5 + 40u, l18);
-                                                        store64(l5 + 32u, l16);
-                                                        store64(l5 + 24u, l15);
-                                                        store64(l5 + 16u, l14);
-                                                        store64(l5 + 8u, l25);
-                                                        store64(l5, l24);
+                                                l5 = l7 + (l17 << 3);
+                                                const u32 t158 = load32(l5 + 4ull);
+                                                const u32 t159 = load8(l5);
+                                                l5 = (t159 == 3u) ? (u64)(t158 - 1u) : 4294967295ull;
+                                                if (l5 <= l18) {
+                                                    u64 v161;
+                                                    if (l5 == 0) {
+                                                        v161 = 0ull;
+                                                    } else {
+                                                        const u32 t162 = load32((l7 + ((l5 + l16) << 3)) - 4ull);
+                                                        v161 = (u64)(((t162 >> 8) + 1u));
                                                     }
-                                                    L67:;
-                                                    l12 = l12 + 64ull;
-                                                    l8 = l8 - 8ull;
-                                                    if (l8 > 8ull) goto L66;
-                                                }
-                                            }
-                                            l5 = (l9 + l13) - 8ull;
-                                            l0 = l7 + (l5 << 3);
-                                            l5 = l7 + ((l5 + l23) << 3);
-                                            if (l32 <= 7u) {
-                                                const u32 t95 = load16(l0);
-                                                store16(l5, (u16)t95);
-                                                const u32 t96 = load32(l0 + 4ull);
-                                                store32(l5 + 4ull, t96);
-                                                const u32 t97 = load16(l0 + 8u);
-                                                store16(l5 + 8u, (u16)t97);
-                                                const u32 t98 = load32(l0 + 12ull);
-                                                store32(l5 + 12ull, t98);
-                                                const u32 t99 = load16(l0 + 16u);
-                                                store16(l5 + 16u, (u16)t99);
-                                                const u32 t100 = load32(l0 + 20ull);
-                                                store32(l5 + 20ull, t100);
-                                                const u32 t101 = load16(l0 + 24u);
-                                                store16(l5 + 24u, (u16)t101);
-                                                const u32 t102 = load32(l0 + 28ull);
-                                                store32(l5 + 28ull, t102);
-                                                const u32 t103 = load16(l0 + 32u);
-                                                store16(l5 + 32u, (u16)t103);
-                                                const u32 t104 = load32(l0 + 36ull);
-                                                store32(l5 + 36ull, t104);
-                                                const u32 t105 = load16(l0 + 40u);
-                                                store16(l5 + 40u, (u16)t105);
-                                                const u32 t106 = load32(l0 + 44ull);
-                                                store32(l5 + 44ull, t106);
-                                                const u32 t107 = load16(l0 + 48u);
-                                                store16(l5 + 48u, (u16)t107);
-                                                const u32 t108 = load32(l0 + 52ull);
-                                                store32(l5 + 52ull, t108);
-                                                const u32 t109 = load16(l0 + 56u);
-                                                store16(l5 + 56u, (u16)t109);
-                                                const u32 t110 = load32(l0 + 60ull);
-                                                store32(l5 + 60ull, t110);
-                                                goto L63;
-                                            }
-                                            const u64 t111 = load64(l0);
-                                            l12 = t111;
-                                            const u64 t112 = load64(l0 + 8u);
-                                            l8 = t112;
-                                            const u64 t113 = load64(l0 + 16u);
-                                            l7 = t113;
-                                            const u64 t114 = load64(l0 + 24u);
-                                            l9 = t114;
-                                            const u64 t115 = load64(l0 + 32u);
-                                            l13 = t115;
-                                            const u64 t116 = load64(l0 + 40u);
-                                            l6 = t116;
-                                            const u64 t117 = load64(l0 + 48u);
-                                            l4 = t117;
-                                            const u64 t118 = load64(l0 + 56u);
-                                            store64(l5 + 56u, t118);
-                                            store64(l5 + 48u, l4);
-                                            store64(l5 + 40u, l6);
-                                            store64(l5 + 32u, l13);
-                                            store64(l5 + 24u, l9);
-                                            store64(l5 + 16u, l7);
-                                            store64(l5 + 8u, l8);
-                                            store64(l5, l12);
-                                            goto L63;
-                                        }
-                                        if (l31 >= 4u) {
-                                            l0 = l7 + (l9 << 3);
-                                            l5 = l7 + ((l9 + l23) << 3);
-                                            {
-                                                if (l32 <= 3u) {
-                                                    const u32 t122 = load16(l0);
-                                                    store16(l5, (u16)t122);
-                                                    const u32 t123 = load32(l0 + 4ull);
-                                                    store32(l5 + 4ull, t123);
-                                                    const u32 t124 = load16(l0 + 8u);
-                                                    store16(l5 + 8u, (u16)t124);
-                                                    const u32 t125 = load32(l0 + 12ull);
-                                                    store32(l5 + 12ull, t125);
-                                                    const u32 t126 = load16(l0 + 16u);
-                                                    store16(l5 + 16u, (u16)t126);
-                                                    const u32 t127 = load32(l0 + 20ull);
-                                                    store32(l5 + 20ull, t127);
-                                                    const u32 t128 = load16(l0 + 24u);
-                                                    store16(l5 + 24u, (u16)t128);
-                                                    const u32 t129 = load32(l0 + 28ull);
-                                                    store32(l5 + 28ull, t129);
-                                                    goto L120;
-                                                }
-                                                const u64 t130 = load64(l0);
-                                                l12 = t130;
-                                                const u64 t131 = load64(l0 + 8u);
-                                                l8 = t131;
-                                                const u64 t132 = load64(l0 + 16u);
-                                                l6 = t132;
-                                                const u64 t133 = load64(l0 + 24u);
-                                                store64(l5 + 24u, t133);
-                                                store64(l5 + 16u, l6);
-                                                store64(l5 + 8u, l8);
-                                                store64(l5, l12);
-                                            }
-                                            L120:;
-                                            l5 = (l9 + l13) - 4ull;
-                                            l0 = l7 + (l5 << 3);
-                                            l5 = l7 + ((l5 + l23) << 3);
-                                            if (l32 <= 3u) {
-                                                const u32 t135 = load16(l0);
-                                                store16(l5, (u16)t135);
-                                                const u32 t136 = load32(l0 + 4ull);
-                                                store32(l5 + 4ull, t136);
-                                                const u32 t137 = load16(l0 + 8u);
-                                                store16(l5 + 8u, (u16)t137);
-                                                const u32 t138 = load32(l0 + 12ull);
-                                                store32(l5 + 12ull, t138);
-                                                const u32 t139 = load16(l0 + 16u);
-                                                store16(l5 + 16u, (u16)t139);
-                                                const u32 t140 = load32(l0 + 20ull);
-                                                store32(l5 + 20ull, t140);
-                                                const u32 t141 = load16(l0 + 24u);
-                                                store16(l5 + 24u, (u16)t141);
-                                                const u32 t142 = load32(l0 + 28ull);
-                                                store32(l5 + 28ull, t142);
-                                                goto L63;
-                                            }
-                                            const u64 t143 = load64(l0);
-                                            l12 = t143;
-                                            const u64 t144 = load64(l0 + 8u);
-                                            l8 = t144;
-                                            const u64 t145 = load64(l0 + 16u);
-                                            l7 = t145;
-                                            const u64 t146 = load64(l0 + 24u);
-                                            store64(l5 + 24u, t146);
-                                            store64(l5 + 16u, l7);
-                                            store64(l5 + 8u, l8);
-                                            store64(l5, l12);
-                                            goto L63;
-                                        }
-                                        if (l31 >= 2u) {
-                                            core_slice_edits_slice_T_copy_from_slice(e, l7 + ((l9 + l23) << 3), l7 + (l9 << 3), 2ull);
-                                            l0 = (l9 + l13) - 2ull;
-                                            core_slice_edits_slice_T_copy_from_slice(e, l7 + ((l0 + l23) << 3), l7 + (l0 << 3), 2ull);
-                                            goto L63;
-                                        }
-                                        if (l31 != 1u) goto L63;
-                                        l0 = l7 + ((l9 + l23) << 3);
-                                        l5 = l7 + (l9 << 3);
-                                        const u32 t148 = load16(l5);
-                                        store16(l0, (u16)t148);
-                                        const u32 t149 = load32(l5 + 4ull);
-                                        store32(l0 + 4ull, t149);
-                                    }
-                                    L63:;
-                                    l0 = l11 + 20ull;
-                                    const u32 t150 = load32(l0);
-                                    store32(l0, t150 + l31);
-                                    goto L6;
-                                }
-                                if (((l3 - l2) + 2u) <= l32) {
-                                    l32 = l34 + 1u;
-                                    l0 = l7 + ((u64)(l37 - l32) << 3);
-                                    store16(l0, (u16)4u);
-                                    store32(l0 + 4ull, l2);
-                                    store32(l11 + 24ull, l32);
-                                    l33 = 0u;
-                                    if (l2 <= l3) {
-                                        l1 = l2;
-                                        L153:;
-                                        {
-                                            const u64 t154 = load64(l11);
-                                            l13 = t154;
-                                            const u32 t155 = load32(l11 + 16ull);
-                                            l31 = t155;
-                                            l0 = (u64)(l31 + l1);
-                                            l6 = l13 + (l0 << 3);
-                                            l8 = 0ull;
-                                            {
-                                                l7 = (u64)(l3 + l31) - l0;
-                                                if (l7 >= 2ull) {
-                                                    l5 = 0ull;
-                                                    l31 = 1u;
-                                                    l0 = l6;
-                                                    L158:;
-                                                    {
-                                                        const u32 t159 = load8(l0);
-                                                        if (t159 == 2u) {
-                                                            l31 = l31 - 1u;
+                                                    l6 = v161;
+                                                    l13 = l34;
+                                                    if (l5 != l18) {
+                                                        const u32 t164 = load32((l7 + ((l5 + l16) << 3)) + 4ull);
+                                                        l13 = (u64)(t164 >> 8);
+                                                    }
+                                                    l15 = l13 - l6;
+                                                    if (l15 > (l19 - l10)) goto L131;
+                                                    l12 = l6 + l16;
+                                                    if (l6 >= l18) {
+                                                        l9 = 1ull;
+                                                        if (l15 == 1ull) {
+                                                            l5 = l7 + (l10 << 3);
+                                                            l6 = l7 + (l12 << 3);
+                                                            const u32 t167 = load16(l6);
+                                                            store16(l5, (u16)t167);
+                                                            const u32 t168 = load32(l6 + 4ull);
+                                                            store32(l5 + 4ull, t168);
                                                             goto L156;
                                                         }
-                                                        const u32 t161 = load8(l0 + 8ull);
-                                                        if (t161 == 2u) goto L156;
-                                                        l0 = l0 + 16ull;
-                                                        l31 = l31 + 2u;
-                                                        l12 = l5 + 3ull;
-                                                        l8 = l5 + 2ull;
-                                                        l5 = l8;
-                                                        if (l7 > l12) goto L158;
-                                                    }
-                                                }
-                                                {
-                                                    if (l7 <= l8) goto L162;
-                                                    const u32 t163 = load8(l6 + (l8 << 3));
-                                                    if (t163 == 2u) goto L162;
-                                                    l31 = (u32)l8 | 1u;
-                                                    goto L156;
-                                                }
-                                                L162:;
-                                                l31 = (u32)l8;
-                                            }
-                                            L156:;
-                                            const u32 t164 = load32(l11 + 28ull);
-                                            l32 = l32 + 1u;
-                                            l0 = l13 + ((u64)(t164 - l32) << 3);
-                                            store16(l0, (u16)4u);
-                                            l1 = (l1 + l31) + 1u;
-                                            store32(l0 + 4ull, l1);
-                                            store32(l11 + 24ull, l32);
-                                            l33 = l33 + 1u;
-                                            if (l1 <= l3) goto L153;
-                                        }
-                                    }
-                                    const u32 t165 = load32(l11 + 20ull);
-                                    l1 = t165;
-                                    const u32 t166 = load32(l11 + 28ull);
-                                    l37 = t166;
-                                    const u32 t167 = load32(l11 + 16ull);
-                                    l31 = t167;
-                                    const u64 t168 = load64(l11);
-                                    l7 = t168;
-                                    l19 = (u64)l33;
-                                    store64(l10 + 40u, l19);
-                                    l20 = (u64)l31;
-                                    store64(l10 + 16u, l20);
-                                    l15 = (u64)(l37 - l32);
-                                    store64(l10 + 32u, l15);
-                                    l12 = (u64)(l1 + l31);
-                                    store64(l10 + 24u, l12);
-                                    l16 = (u64)l35;
-                                    {
-                                        {
-                                            if ((l12 + 8ull) > l15) goto L170;
-                                            l18 = l20 << 3;
-                                            l26 = l15 + l19;
-                                            L171:;
-                                            {
-                                                l5 = (l12 - l9) & 4294967295ull;
-                                                if (l5 < 8ull) goto L170;
-                                                l0 = l7 + (l9 << 3);
-                                                const u64 t172 = load64(l0);
-                                                l8 = t172;
-                                                const u64 t173 = load64(l0 + 8u);
-                                                l13 = t173;
-                                                const u64 t174 = load64(l0 + 16u);
-                                                l6 = t174;
-                                                const u64 t175 = load64(l0 + 24u);
-                                                l4 = t175;
-                                                const u64 t176 = load64(l0 + 32u);
-                                                l24 = t176;
-                                                const u64 t177 = load64(l0 + 40u);
-                                                l25 = t177;
-                                                const u64 t178 = load64(l0 + 48u);
-                                                l14 = t178;
-                                                l5 = l7 + ((l5 + l9) << 3);
-                                                const u64 t179 = load64(l0 + 56u);
-                                                store64(l5 + 56u, t179);
-                                                store64(l5 + 48u, l14);
-                                                store64(l5 + 40u, l25);
-                                                store64(l5 + 32u, l24);
-                                                store64(l5 + 24u, l4);
-                                                store64(l5 + 16u, l6);
-                                                store64(l5 + 8u, l13);
-                                                store64(l5, l8);
-                                                const u64 t180 = l16;
-                                                const u64 t181 = l9;
-                                                u64 v182;
-                                                {
-                                                    const u32 t183 = load8(l0);
-                                                    if (t183) { v182 = 0ull; goto L182; }
-                                                    const u32 t184 = load8(l0 + 8ull);
-                                                    if (t184) { v182 = 1ull; goto L182; }
-                                                    const u32 t185 = load8(l0 + 16ull);
-                                                    if (t185) { v182 = 2ull; goto L182; }
-                                                    const u32 t186 = load8(l0 + 24ull);
-                                                    if (t186) { v182 = 3ull; goto L182; }
-                                                    const u32 t187 = load8(l0 + 32ull);
-                                                    if (t187) { v182 = 4ull; goto L182; }
-                                                    const u32 t188 = load8(l0 + 40ull);
-                                                    if (t188) { v182 = 5ull; goto L182; }
-                                                    const u32 t189 = load8(l0 + 48ull);
-                                                    if (t189) { v182 = 6ull; goto L182; }
-                                                    const u32 t190 = load8(l0 + 56ull);
-                                                    v182 = t190 ? 7ull : 8ull;
-                                                }
-                                                L182:;
-                                                l0 = v182;
-                                                l13 = t181 + l0;
-                                                if (t180 <= l13) {
-                                                    l0 = (l12 + l16) - l9;
-                                                    goto L7;
-                                                }
-                                                l12 = l0 + l12;
-                                                u64 v192;
-                                                if (l0 == 8ull) {
-                                                    v192 = l13;
-                                                } else {
-                                                    l0 = 0ull;
-                                                    {
-                                                        l5 = l7 + (l13 << 3);
-                                                        const u32 t194 = load32(l5 + 4ull);
-                                                        const u32 t195 = load8(l5);
-                                                        l5 = (t195 == 3u) ? (u64)(t194 - 1u) : 4294967295ull;
-                                                        if (l5 >= l19) goto L193;
-                                                        l5 = l7 + ((l26 - l5) << 3);
-                                                        const u64 t196 = load32(l5 - 4ull);
-                                                        const u64 t197 = load32(l5 + 4ull);
-                                                        l5 = t197;
-                                                        l4 = t196 + (l5 ^ 18446744073709551615ull);
-                                                        if (l4 > (l15 - l12)) goto L169;
-                                                        l21 = l5 + l20;
-                                                        if (l4 == 1ull) {
-                                                            l0 = l7 + (l12 << 3);
-                                                            l5 = l7 + (l21 << 3);
-                                                            const u32 t199 = load16(l5);
-                                                            store16(l0, (u16)t199);
-                                                            const u32 t200 = load32(l5 + 4ull);
-                                                            store32(l0 + 4ull, t200);
-                                                            l0 = 1ull;
-                                                            goto L193;
-                                                        }
-                                                        l6 = (l12 - l21) & 4294967295ull;
-                                                        {
-                                                            if (l4 >= 8ull) {
-                                                                if (l4 != 8ull) {
-                                                                    l24 = l5 << 3;
-                                                                    l25 = (l6 + l21) << 3;
-                                                                    l9 = l4;
-                                                                    l8 = l7;
-                                                                    L204:;
-                                                                    {
-                                                                        l0 = l8 + l25;
-                                                                        l5 = (l8 + l18) + l24;
-                                                                        {
-                                                                            if (l6 <= 7ull) {
-                                                                                const u32 t207 = load8(l5);
-                                                                                store8(l0, (u8)t207);
-                                                                                const u32 t208 = load8(l5 + 1ull);
-                                                                                store8(l0 + 1ull, (u8)t208);
-                                                                                const u32 t209 = load32(l5 + 4ull);
-                                                                                store32(l0 + 4ull, t209);
-                                                                                const u32 t210 = load16(l5 + 8ull);
-                                                                                store16(l0 + 8ull, (u16)t210);
-                                                                                const u32 t211 = load32(l5 + 12ull);
-                                                                                store32(l0 + 12ull, t211);
-                                                                                const u32 t212 = load16(l5 + 16ull);
-                                                                                store16(l0 + 16ull, (u16)t212);
-                                                                                const u32 t213 = load32(l5 + 20ull);
-                                                                                store32(l0 + 20ull, t213);
-                                                                                const u32 t214 = load16(l5 + 24ull);
-                                                                                store16(l0 + 24ull, (u16)t214);
-                                                                                const u32 t215 = load32(l5 + 28ull);
-                                                                                store32(l0 + 28ull, t215);
-                                                                                const u32 t216 = load16(l5 + 32ull);
-                                                                                store16(l0 + 32ull, (u16)t216);
-                                                                                const u32 t217 = load32(l5 + 36ull);
-                                                                                store32(l0 + 36ull, t217);
-                                                                                const u32 t218 = load16(l5 + 40ull);
-                                                                                store16(l0 + 40ull, (u16)t218);
-                                                                                const u32 t219 = load32(l5 + 44ull);
-                                                                                store32(l0 + 44ull, t219);
-                                                                                const u32 t220 = load16(l5 + 48ull);
-                                                                                store16(l0 + 48ull, (u16)t220);
-                                                                                const u32 t221 = load32(l5 + 52ull);
-                                                                                store32(l0 + 52ull, t221);
-                                                                                const u32 t222 = load16(l5 + 56ull);
-                                                                                l31 = t222;
-                                                                                const u32 t223 = load32(l5 + 60ull);
-                                                                                store32(l0 + 60ull, t223);
-                                                                                store16(l0 + 56ull, (u16)l31);
-                                                                                goto L205;
-                                                                            }
-                                                                            const u64 t224 = load64(l5);
-                                                                            l14 = t224;
-                                                                            const u64 t225 = load64(l5 + 8u);
-                                                                            l17 = t225;
-                                                                            const u64 t226 = load64(l5 + 16u);
-                                                                            l23 = t226;
-                                                                            const u64 t227 = load64(l5 + 24u);
-                                                                            l27 = t227;
-                                                                            const u64 t228 = load64(l5 + 32u);
-                                                                            l28 = t228;
-                                                                            const u64 t229 = load64(l5 + 40u);
-                                                                            l29 = t229;
-                                                                            const u64 t230 = load64(l5 + 48u);
-                                                                            l30 = t230;
-                                                                            const u64 t231 = load64(l5 + 56u);
-                                                                            store64(l0 + 56u, t231);
-                                                                            store64(l0 + 48u, l30);
-                                                                            store64(l0 + 40u, l29);
-                                                                            store64(l0 + 32u, l28);
-                                                                            store64(l0 + 24u, l27);
-                                                                            store64(l0 + 16u, l23);
-                                                                            store64(l0 + 8u, l17);
-                                                                            store64(l0, l14);
-                                                                        }
-                                                                        L205:;
-                                                                        l8 = l8 + 64ull;
-                                                                        l9 = l9 - 8ull;
-                                                                        if (l9 > 8ull) goto L204;
-                                                                    }
-                                                                }
-                                                                l5 = (l4 + l21) - 8ull;
-                                                                l0 = l7 + (l5 << 3);
-                                                                l5 = l7 + ((l5 + l6) << 3);
-                                                                if (l6 <= 7ull) {
-                                                                    const u32 t233 = load16(l0);
-                                                                    store16(l5, (u16)t233);
-                                                                    const u32 t234 = load32(l0 + 4ull);
-                                                                    store32(l5 + 4ull, t234);
-                                                                    const u32 t235 = load16(l0 + 8u);
-                                                                    store16(l5 + 8u, (u16)t235);
-                                                                    const u32 t236 = load32(l0 + 12ull);
-                                                                    store32(l5 + 12ull, t236);
-                                                                    const u32 t237 = load16(l0 + 16u);
-                                                                    store16(l5 + 16u, (u16)t237);
-                                                                    const u32 t238 = load32(l0 + 20ull);
-                                                                    store32(l5 + 20ull, t238);
-                                                                    const u32 t239 = load16(l0 + 24u);
-                                                                    store16(l5 + 24u, (u16)t239);
-                                                                    const u32 t240 = load32(l0 + 28ull);
-                                                                    store32(l5 + 28ull, t240);
-                                                                    const u32 t241 = load16(l0 + 32u);
-                                                                    store16(l5 + 32u, (u16)t241);
-                                                                    const u32 t242 = load32(l0 + 36ull);
-                                                                    store32(l5 + 36ull, t242);
-                                                                    const u32 t243 = load16(l0 + 40u);
-                                                                    store16(l5 + 40u, (u16)t243);
-                                                                    const u32 t244 = load32(l0 + 44ull);
-                                                                    store32(l5 + 44ull, t244);
-                                                                    const u32 t245 = load16(l0 + 48u);
-                                                                    store16(l5 + 48u, (u16)t245);
-                                                                    const u32 t246 = load32(l0 + 52ull);
-                                                                    store32(l5 + 52ull, t246);
-                                                                    const u32 t247 = load16(l0 + 56u);
-                                                                    store16(l5 + 56u, (u16)t247);
-                                                                    const u32 t248 = load32(l0 + 60ull);
-                                                                    store32(l5 + 60ull, t248);
-                                                                    goto L201;
-                                                                }
-                                                                const u64 t249 = load64(l0);
-                                                                l8 = t249;
-                                                                const u64 t250 = load64(l0 + 8u);
-                                                                l9 = t250;
-                                                                const u64 t251 = load64(l0 + 16u);
-                                                                l6 = t251;
-                                                                const u64 t252 = load64(l0 + 24u);
-                                                                l24 = t252;
-                                                                const u64 t253 = load64(l0 + 32u);
-                                                                l25 = t253;
-                                                                const u64 t254 = load64(l0 + 40u);
-                                                                l14 = t254;
-                                                                const u64 t255 = load64(l0 + 48u);
-                                                                l17 = t255;
-                                                                const u64 t256 = load64(l0 + 56u);
-                                                                store64(l5 + 56u, t256);
-                                                                store64(l5 + 48u, l17);
-                                                                store64(l5 + 40u, l14);
-                                                                store64(l5 + 32u, l25);
-                                                                store64(l5 + 24u, l24);
-                                                                store64(l5 + 16u, l6);
-                                                                store64(l5 + 8u, l9);
-                                                                store64(l5, l8);
-                                                                goto L201;
-                                                            }
-                                                            if (l4 >= 4ull) {
-                                                                l0 = l7 + (l21 << 3);
-                                                                l5 = l7 + ((l6 + l21) << 3);
+                                                        l14 = (l10 - l12) & 4294967295ull;
+                                                        if (l15 >= 8ull) {
+                                                            if (l15 != 8ull) {
+                                                                l12 = l29 + (l6 << 3);
+                                                                l20 = ((l6 + l16) + l14) << 3;
+                                                                l9 = l15;
+                                                                l8 = l7;
+                                                                L171:;
                                                                 {
-                                                                    if (l6 <= 3ull) {
-                                                                        const u32 t260 = load16(l0);
-                                                                        store16(l5, (u16)t260);
-                                                                        const u32 t261 = load32(l0 + 4ull);
-                                                                        store32(l5 + 4ull, t261);
-                                                                        const u32 t262 = load16(l0 + 8u);
-                                                                        store16(l5 + 8u, (u16)t262);
-                                                                        const u32 t263 = load32(l0 + 12ull);
-                                                                        store32(l5 + 12ull, t263);
-                                                                        const u32 t264 = load16(l0 + 16u);
-                                                                        store16(l5 + 16u, (u16)t264);
-                                                                        const u32 t265 = load32(l0 + 20ull);
-                                                                        store32(l5 + 20ull, t265);
-                                                                        const u32 t266 = load16(l0 + 24u);
-                                                                        store16(l5 + 24u, (u16)t266);
-                                                                        const u32 t267 = load32(l0 + 28ull);
-                                                                        store32(l5 + 28ull, t267);
-                                                                        goto L258;
+                                                                    l5 = l8 + l12;
+                                                                    l6 = l8 + l20;
+                                                                    {
+                                                                        if (l14 <= 7ull) {
+                                                                            const u32 t174 = load8(l5 + 1ull);
+                                                                            l1 = t174;
+                                                                            const u32 t175 = load8(l5);
+                                                                            l3 = t175;
+                                                                            const u32 t176 = load32(l5 + 4ull);
+                                                                            store32(l6 + 4ull, t176);
+                                                                            store8(l6 + 1ull, (u8)l1);
+                                                                            store8(l6, (u8)l3);
+                                                                            const u32 t177 = load16(l5 + 8ull);
+                                                                            l1 = t177;
+                                                                            const u32 t178 = load32(l5 + 12ull);
+                                                                            store32(l6 + 12ull, t178);
+                                                                            store16(l6 + 8ull, (u16)l1);
+                                                                            const u32 t179 = load16(l5 + 16ull);
+                                                                            l1 = t179;
+                                                                            const u32 t180 = load32(l5 + 20ull);
+                                                                            store32(l6 + 20ull, t180);
+                                                                            store16(l6 + 16ull, (u16)l1);
+                                                                            const u32 t181 = load16(l5 + 24ull);
+                                                                            l1 = t181;
+                                                                            const u32 t182 = load32(l5 + 28ull);
+                                                                            store32(l6 + 28ull, t182);
+                                                                            store16(l6 + 24ull, (u16)l1);
+                                                                            const u32 t183 = load16(l5 + 32ull);
+                                                                            l1 = t183;
+                                                                            const u32 t184 = load32(l5 + 36ull);
+                                                                            store32(l6 + 36ull, t184);
+                                                                            store16(l6 + 32ull, (u16)l1);
+                                                                            const u32 t185 = load16(l5 + 40ull);
+                                                                            l1 = t185;
+                                                                            const u32 t186 = load32(l5 + 44ull);
+                                                                            store32(l6 + 44ull, t186);
+                                                                            store16(l6 + 40ull, (u16)l1);
+                                                                            const u32 t187 = load16(l5 + 48ull);
+                                                                            l1 = t187;
+                                                                            const u32 t188 = load32(l5 + 52ull);
+                                                                            store32(l6 + 52ull, t188);
+                                                                            store16(l6 + 48ull, (u16)l1);
+                                                                            const u32 t189 = load16(l5 + 56ull);
+                                                                            l1 = t189;
+                                                                            const u32 t190 = load32(l5 + 60ull);
+                                                                            store32(l6 + 60ull, t190);
+                                                                            store16(l6 + 56ull, (u16)l1);
+                                                                            goto L172;
+                                                                        }
+                                                                        const u64 t191 = load64(l5);
+                                                                        l22 = t191;
+                                                                        const u64 t192 = load64(l5 + 8u);
+                                                                        l23 = t192;
+                                                                        const u64 t193 = load64(l5 + 16u);
+                                                                        l25 = t193;
+                                                                        const u64 t194 = load64(l5 + 24u);
+                                                                        l26 = t194;
+                                                                        const u64 t195 = load64(l5 + 32u);
+                                                                        l27 = t195;
+                                                                        const u64 t196 = load64(l5 + 40u);
+                                                                        l28 = t196;
+                                                                        const u64 t197 = load64(l5 + 48u);
+                                                                        l32 = t197;
+                                                                        const u64 t198 = load64(l5 + 56u);
+                                                                        store64(l6 + 56u, t198);
+                                                                        store64(l6 + 48u, l32);
+                                                                        store64(l6 + 40u, l28);
+                                                                        store64(l6 + 32u, l27);
+                                                                        store64(l6 + 24u, l26);
+                                                                        store64(l6 + 16u, l25);
+                                                                        store64(l6 + 8u, l23);
+                                                                        store64(l6, l22);
                                                                     }
-                                                                    const u64 t268 = load64(l0);
-                                                                    l8 = t268;
-                                                                    const u64 t269 = load64(l0 + 8u);
-                                                                    l9 = t269;
-                                                                    const u64 t270 = load64(l0 + 16u);
-                                                                    l24 = t270;
-                                                                    const u64 t271 = load64(l0 + 24u);
-                                                                    store64(l5 + 24u, t271);
-                                                                    store64(l5 + 16u, l24);
-                                                                    store64(l5 + 8u, l9);
-                                                                    store64(l5, l8);
+                                                                    L172:;
+                                                                    l8 = l8 + 64ull;
+                                                                    l9 = l9 - 8ull;
+                                                                    if (l9 > 8ull) goto L171;
                                                                 }
-                                                                L258:;
-                                                                l5 = (l4 + l21) - 4ull;
-                                                                l0 = l7 + (l5 << 3);
-                                                                l5 = l7 + ((l5 + l6) << 3);
-                                                                if (l6 <= 3ull) {
-                                                                    const u32 t273 = load16(l0);
-                                                                    store16(l5, (u16)t273);
-                                                                    const u32 t274 = load32(l0 + 4ull);
-                                                                    store32(l5 + 4ull, t274);
-                                                                    const u32 t275 = load16(l0 + 8u);
-                                                                    store16(l5 + 8u, (u16)t275);
-                                                                    const u32 t276 = load32(l0 + 12ull);
-                                                                    store32(l5 + 12ull, t276);
-                                                                    const u32 t277 = load16(l0 + 16u);
-                                                                    store16(l5 + 16u, (u16)t277);
-                                                                    const u32 t278 = load32(l0 + 20ull);
-                                                                    store32(l5 + 20ull, t278);
-                                                                    const u32 t279 = load16(l0 + 24u);
-                                                                    store16(l5 + 24u, (u16)t279);
-                                                                    const u32 t280 = load32(l0 + 28ull);
-                                                                    store32(l5 + 28ull, t280);
-                                                                    goto L201;
-                                                                }
-                                                                const u64 t281 = load64(l0);
-                                                                l8 = t281;
-                                                                const u64 t282 = load64(l0 + 8u);
-                                                                l9 = t282;
-                                                                const u64 t283 = load64(l0 + 16u);
-                                                                l6 = t283;
-                                                                const u64 t284 = load64(l0 + 24u);
-                                                                store64(l5 + 24u, t284);
-                                                                store64(l5 + 16u, l6);
-                                                                store64(l5 + 8u, l9);
-                                                                store64(l5, l8);
-                                                                goto L201;
                                                             }
-                                                            if (l4 == 0) goto L193;
-                                                            l0 = l7 + (l21 << 3);
-                                                            l5 = l7 + ((l6 + l21) << 3);
-                                                            {
-                                                                if (l6 <= 1ull) {
-                                                                    const u32 t287 = load16(l0);
-                                                                    store16(l5, (u16)t287);
-                                                                    const u32 t288 = load32(l0 + 4ull);
-                                                                    store32(l5 + 4ull, t288);
-                                                                    const u32 t289 = load16(l0 + 8u);
-                                                                    store16(l5 + 8u, (u16)t289);
-                                                                    const u32 t290 = load32(l0 + 12ull);
-                                                                    store32(l5 + 12ull, t290);
-                                                                    goto L285;
-                                                                }
-                                                                const u64 t291 = load64(l0);
-                                                                l8 = t291;
-                                                                const u64 t292 = load64(l0 + 8u);
-                                                                store64(l5 + 8u, t292);
-                                                                store64(l5, l8);
+                                                            l6 = l13 + l30;
+                                                            l5 = l7 + (l6 << 3);
+                                                            l6 = l7 + ((l6 + l14) << 3);
+                                                            if (l14 <= 7ull) {
+                                                                const u32 t200 = load16(l5);
+                                                                store16(l6, (u16)t200);
+                                                                const u32 t201 = load32(l5 + 4ull);
+                                                                store32(l6 + 4ull, t201);
+                                                                const u32 t202 = load16(l5 + 8u);
+                                                                store16(l6 + 8u, (u16)t202);
+                                                                const u32 t203 = load32(l5 + 12ull);
+                                                                store32(l6 + 12ull, t203);
+                                                                const u32 t204 = load16(l5 + 16u);
+                                                                store16(l6 + 16u, (u16)t204);
+                                                                const u32 t205 = load32(l5 + 20ull);
+                                                                store32(l6 + 20ull, t205);
+                                                                const u32 t206 = load16(l5 + 24u);
+                                                                store16(l6 + 24u, (u16)t206);
+                                                                const u32 t207 = load32(l5 + 28ull);
+                                                                store32(l6 + 28ull, t207);
+                                                                const u32 t208 = load16(l5 + 32u);
+                                                                store16(l6 + 32u, (u16)t208);
+                                                                const u32 t209 = load32(l5 + 36ull);
+                                                                store32(l6 + 36ull, t209);
+                                                                const u32 t210 = load16(l5 + 40u);
+                                                                store16(l6 + 40u, (u16)t210);
+                                                                const u32 t211 = load32(l5 + 44ull);
+                                                                store32(l6 + 44ull, t211);
+                                                                const u32 t212 = load16(l5 + 48u);
+                                                                store16(l6 + 48u, (u16)t212);
+                                                                const u32 t213 = load32(l5 + 52ull);
+                                                                store32(l6 + 52ull, t213);
+                                                                const u32 t214 = load16(l5 + 56u);
+                                                                store16(l6 + 56u, (u16)t214);
+                                                                const u32 t215 = load32(l5 + 60ull);
+                                                                store32(l6 + 60ull, t215);
+                                                                l9 = l15;
+                                                                goto L156;
                                                             }
-                                                            L285:;
-                                                            l5 = (l4 + l21) - 2ull;
-                                                            l0 = l7 + (l5 << 3);
-                                                            l5 = l7 + ((l5 + l6) << 3);
-                                                            if (l6 <= 1ull) {
-                                                                const u32 t294 = load16(l0);
-                                                                store16(l5, (u16)t294);
-                                                                const u32 t295 = load32(l0 + 4ull);
-                                                                store32(l5 + 4ull, t295);
-                                                                const u32 t296 = load16(l0 + 8u);
-                                                                store16(l5 + 8u, (u16)t296);
-                                                                const u32 t297 = load32(l0 + 12ull);
-                                                                store32(l5 + 12ull, t297);
-                                                                goto L201;
-                                                            }
-                                                            const u64 t298 = load64(l0);
-                                                            l8 = t298;
-                                                            const u64 t299 = load64(l0 + 8u);
-                                                            store64(l5 + 8u, t299);
-                                                            store64(l5, l8);
-                                                        }
-                                                        L201:;
-                                                        l0 = l4;
-                                                    }
-                                                    L193:;
-                                                    l12 = l0 + l12;
-                                                    v192 = l13 + 1ull;
-                                                }
-                                                l9 = v192;
-                                                if ((l12 + 8ull) <= l15) goto L171;
-                                            }
-                                        }
-                                        L170:;
-                                        space_filling_fill_each(e, l10, l7, l9, l16, l12, l10 + 16ull);
-                                        const u32 t300 = load8(l10);
-                                        if (t300 != 1u) goto L169;
-                                        const u64 t301 = load64(l10 + 8u);
-                                        l0 = t301;
-                                        goto L7;
-                                    }
-                                    L169:;
-                                    l0 = l11 + 24ull;
-                                    const u32 t302 = load32(l0);
-                                    store32(l0, t302 + (l33 ^ 4294967295u));
-                                }
-                                const u32 t303 = store_fill_fill_without_list(e, l11, l36, l35, l2, l3);
-                                l1 = t303;
-                                goto L6;
-                            }
-                            trap();
-                        }
-                        L7:;
-                        const u32 t304 = load32(l11 + 16ull);
-                        store32(l11 + 20ull, (u32)l0 - t304);
-                        l0 = l11 + 24ull;
-                        const u32 t305 = load32(l0);
-                        store32(l0, t305 + (l33 ^ 4294967295u));
-                        l1 = 1u;
-                    }
-                    L6:;
-                    e->stack_pointer = l10 + 48ull;
-                    goto L1;
-                }
-                l1 = 1u;
-                const u64 t306 = load64(l0);
-                l7 = t306;
-                const u32 t307 = load32(l0 + 48ull);
-                l32 = t307;
-                l4 = l7 + ((u64)l32 << 3);
-                const u32 t308 = load32(l4 + 12ull);
-                l34 = t308;
-                const u32 t309 = load32(l4 + 20ull);
-                l31 = t309;
-                if (l34 == l31) goto L1;
-                const u32 t310 = load32(l4 + 4ull);
-                l33 = (l32 + t310) + 3u;
-                l35 = l33 + l34;
-                l33 = l31 + l33;
-                l8 = (u64)l33;
-                l34 = l34 - l31;
-                l12 = (u64)l34;
-                l9 = l12;
-                const u32 t311 = load32(l0 + 28ull);
-                l32 = t311;
-                const u32 t312 = load32(l0 + 20ull);
-                const u32 t313 = load32(l0 + 16ull);
-                l37 = t312 + t313;
-                const u32 t314 = load32(l0 + 24ull);
-                l36 = t314;
-                l31 = l32 - (l37 + l36);
-                const u32 t315 = l35;
-                const u32 t316 = l33;
-                u64 v317;
-                {
-                    if (l34 >= 8u) {
-                        l13 = l12 & 4294967288ull;
-                        l4 = l7 + (l8 << 3);
-                        L319:;
-                        {
-                            {
-                                const u32 t321 = load8(l4);
-                                u64 v322;
-                                if (t321) {
-                                    v322 = 0ull;
-                                } else {
-                                    const u32 t323 = load8(l4 + 8ull);
-                                    if (t323) { v317 = 1ull - l10; goto L317; }
-                                    const u32 t324 = load8(l4 + 16ull);
-                                    if (t324) { v317 = 2ull - l10; goto L317; }
-                                    const u32 t325 = load8(l4 + 24ull);
-                                    if (t325) { v317 = 3ull - l10; goto L317; }
-                                    const u32 t326 = load8(l4 + 32ull);
-                                    if (t326) { v317 = 4ull - l10; goto L317; }
-                                    const u32 t327 = load8(l4 + 40ull);
-                                    if (t327) { v317 = 5ull - l10; goto L317; }
-                                    const u32 t328 = load8(l4 + 48ull);
-                                    if (t328) { v317 = 6ull - l10; goto L317; }
-                                    const u32 t329 = load8(l4 + 56ull);
-                                    if (t329 == 0) goto L320;
-                                    v322 = 7ull;
-                                }
-                                v317 = v322 - l10; goto L317;
-                            }
-                            L320:;
-                            l4 = l4 + 64ull;
-                            l10 = l10 - 8ull;
-                            l9 = l12 + l10;
-                            if (l9 > 7ull) goto L319;
-                        }
-                    }
-                    {
-                        if (l9 == 0) goto L330;
-                        l4 = l7 + ((l8 + l13) << 3);
-                        L331:;
-                        {
-                            const u32 t332 = load8(l4);
-                            if (t332) goto L330;
-                            l4 = l4 + 8ull;
-                            l6 = l6 + 1ull;
-                            if (l9 != l6) goto L331;
-                        }
-                        l6 = l9;
-                    }
-                    L330:;
-                    v317 = l6 + l13;
-                }
-                L317:;
-                if (t315 == (t316 + (u32)v317)) {
-                    if (l34 > ((l31 < 64u) ? l31 : 64u)) {
-                        const u32 t335 = space_space_Space_copy_store(e, l0, l33, l35);
-                        l1 = t335;
-                        goto L1;
-                    }
-                    l3 = l37 - l33;
-                    l14 = (u64)l3;
-                    {
-                        if (l34 >= 8u) {
-                            {
-                                if (l34 == 8u) goto L338;
-                                if (l3 <= 7u) {
-                                    l13 = l8 << 3;
-                                    l11 = (l8 + l14) << 3;
-                                    l9 = l7;
-                                    l10 = l12;
-                                    L340:;
-                                    {
-                                        l4 = l9 + l11;
-                                        l6 = l9 + l13;
-                                        const u32 t341 = load16(l6);
-                                        store16(l4, (u16)t341);
-                                        const u32 t342 = load32(l6 + 4ull);
-                                        store32(l4 + 4ull, t342);
-                                        const u32 t343 = load16(l6 + 8ull);
-                                        store16(l4 + 8ull, (u16)t343);
-                                        const u32 t344 = load32(l6 + 12ull);
-                                        store32(l4 + 12ull, t344);
-                                        const u32 t345 = load16(l6 + 16ull);
-                                        store16(l4 + 16ull, (u16)t345);
-                                        const u32 t346 = load32(l6 + 20ull);
-                                        store32(l4 + 20ull, t346);
-                                        const u32 t347 = load16(l6 + 24ull);
-                                        store16(l4 + 24ull, (u16)t347);
-                                        const u32 t348 = load32(l6 + 28ull);
-                                        store32(l4 + 28ull, t348);
-                                        const u32 t349 = load16(l6 + 32ull);
-                                        store16(l4 + 32ull, (u16)t349);
-                                        const u32 t350 = load32(l6 + 36ull);
-                                        store32(l4 + 36ull, t350);
-                                        const u32 t351 = load16(l6 + 40ull);
-                                        store16(l4 + 40ull, (u16)t351);
-                                        const u32 t352 = load32(l6 + 44ull);
-                                        store32(l4 + 44ull, t352);
-                                        const u32 t353 = load16(l6 + 48ull);
-                                        store16(l4 + 48ull, (u16)t353);
-                                        const u32 t354 = load32(l6 + 52ull);
-                                        store32(l4 + 52ull, t354);
-                                        const u32 t355 = load16(l6 + 56ull);
-                                        store16(l4 + 56ull, (u16)t355);
-                                        const u32 t356 = load32(l6 + 60ull);
-                                        store32(l4 + 60ull, t356);
-                                        l9 = l9 + 64ull;
-                                        l10 = l10 - 8ull;
-                                        if (l10 > 8ull) goto L340;
-                                    }
-                                    goto L338;
-                                }
-                                l4 = (l12 - 9ull) >> 3;
-                                if ((l4 == 0) == 0) {
-                                    l4 = l4 + 1ull;
-                                    l27 = l4 & 1ull;
-                                    l9 = l4 & 4611686018427387902ull;
-                                    l26 = l9 << 3;
-                                    l4 = l7 + (l8 << 3);
-                                    l6 = l7 + ((l8 + l14) << 3);
-                                    L358:;
-                                    {
-                                        const u64 t359 = load64(l4);
-                                        l10 = t359;
-                                        const u64 t360 = load64(l4 + 8u);
-                                        l13 = t360;
-                                        const u64 t361 = load64(l4 + 16u);
-                                        l11 = t361;
-                                        const u64 t362 = load64(l4 + 24u);
-                                        l15 = t362;
-                                        const u64 t363 = load64(l4 + 32u);
-                                        l16 = t363;
-                                        const u64 t364 = load64(l4 + 40u);
-                                        l17 = t364;
-                                        const u64 t365 = load64(l4 + 48u);
-                                        l20 = t365;
-                                        const u64 t366 = load64(l4 + 56u);
-                                        store64(l6 + 56u, t366);
-                                        store64(l6 + 48u, l20);
-                                        store64(l6 + 40u, l17);
-                                        store64(l6 + 32u, l16);
-                                        store64(l6 + 24u, l15);
-                                        store64(l6 + 16u, l11);
-                                        store64(l6 + 8u, l13);
-                                        store64(l6, l10);
-                                        const u64 t367 = load64(l4 + 64ull);
-                                        l10 = t367;
-                                        const u64 t368 = load64(l4 + 72ull);
-                                        l13 = t368;
-                                        const u64 t369 = load64(l4 + 80ull);
-                                        l11 = t369;
-                                        const u64 t370 = load64(l4 + 88ull);
-                                        l15 = t370;
-                                        const u64 t371 = load64(l4 + 96ull);
-                                        l16 = t371;
-                                        const u64 t372 = load64(l4 + 104ull);
-                                        l17 = t372;
-                                        const u64 t373 = load64(l4 + 112ull);
-                                        l20 = t373;
-                                        const u64 t374 = load64(l4 + 120ull);
-                                        store64(l6 + 120ull, t374);
-                                        store64(l6 + 112ull, l20);
-                                        store64(l6 + 104ull, l17);
-                                        store64(l6 + 96ull, l16);
-                                        store64(l6 + 88ull, l15);
-                                        store64(l6 + 80ull, l11);
-                                        store64(l6 + 72ull, l13);
-                                        store64(l6 + 64ull, l10);
-                                        l6 = l6 + 128ull;
-                                        l4 = l4 + 128ull;
-                                        l9 = l9 - 2ull;
-                                        if (l9 != 0ull) goto L358;
-                                    }
-                                    if (l27 == 0) goto L338;
-                                }
-                                l6 = l8 + l26;
-                                l4 = l7 + (l6 << 3);
-                                const u64 t375 = load64(l4);
-                                l9 = t375;
-                                const u64 t376 = load64(l4 + 8u);
-                                l10 = t376;
-                                const u64 t377 = load64(l4 + 16u);
-                                l13 = t377;
-                                const u64 t378 = load64(l4 + 24u);
-                                l11 = t378;
-                                const u64 t379 = load64(l4 + 32u);
-                                l15 = t379;
-                                const u64 t380 = load64(l4 + 40u);
-                                l16 = t380;
-                                const u64 t381 = load64(l4 + 48u);
-                                l17 = t381;
-                                l6 = l7 + ((l6 + l14) << 3);
-                                const u64 t382 = load64(l4 + 56u);
-                                store64(l6 + 56u, t382);
-                                store64(l6 + 48u, l17);
-                                store64(l6 + 40u, l16);
-                                store64(l6 + 32u, l15);
-                                store64(l6 + 24u, l11);
-                                store64(l6 + 16u, l13);
-                                store64(l6 + 8u, l10);
-                                store64(l6, l9);
-                            }
-                            L338:;
-                            l6 = (l8 + l12) - 8ull;
-                            l4 = l7 + (l6 << 3);
-                            l6 = l7 + ((l6 + l14) << 3);
-                            if (l3 <= 7u) {
-                                const u32 t384 = load16(l4);
-                                store16(l6, (u16)t384);
-                                const u32 t385 = load32(l4 + 4ull);
-                                store32(l6 + 4ull, t385);
-                                const u32 t386 = load16(l4 + 8u);
-                                store16(l6 + 8u, (u16)t386);
-                                const u32 t387 = load32(l4 + 12ull);
-                                store32(l6 + 12ull, t387);
-                                const u32 t388 = load16(l4 + 16u);
-                                store16(l6 + 16u, (u16)t388);
-                                const u32 t389 = load32(l4 + 20ull);
-                                store32(l6 + 20ull, t389);
-                                const u32 t390 = load16(l4 + 24u);
-                                store16(l6 + 24u, (u16)t390);
-                                const u32 t391 = load32(l4 + 28ull);
-                                store32(l6 + 28ull, t391);
-                                const u32 t392 = load16(l4 + 32u);
-                                store16(l6 + 32u, (u16)t392);
-                                const u32 t393 = load32(l4 + 36ull);
-                                store32(l6 + 36ull, t393);
-                                const u32 t394 = load16(l4 + 40u);
-                                store16(l6 + 40u, (u16)t394);
-                                const u32 t395 = load32(l4 + 44ull);
-                                store32(l6 + 44ull, t395);
-                                const u32 t396 = load16(l4 + 48u);
-                                store16(l6 + 48u, (u16)t396);
-                                const u32 t397 = load32(l4 + 52ull);
-                                store32(l6 + 52ull, t397);
-                                const u32 t398 = load16(l4 + 56u);
-                                store16(l6 + 56u, (u16)t398);
-                                const u32 t399 = load32(l4 + 60ull);
-                                store32(l6 + 60ull, t399);
-                                goto L336;
-                            }
-                            const u64 t400 = load64(l4);
-                            l9 = t400;
-                            const u64 t401 = load64(l4 + 8u);
-                            l10 = t401;
-                            const u64 t402 = load64(l4 + 16u);
-                            l7 = t402;
-                            const u64 t403 = load64(l4 + 24u);
-                            l8 = t403;
-                            const u64 t404 = load64(l4 + 32u);
-                            l12 = t404;
-                            const u64 t405 = load64(l4 + 40u);
-                            l13 = t405;
-                            const u64 t406 = load64(l4 + 48u);
-                            l11 = t406;
-                            const u64 t407 = load64(l4 + 56u);
-                            store64(l6 + 56u, t407);
-                            store64(l6 + 48u, l11);
-                            store64(l6 + 40u, l13);
-                            store64(l6 + 32u, l12);
-                            store64(l6 + 24u, l8);
-                            store64(l6 + 16u, l7);
-                            store64(l6 + 8u, l10);
-                            store64(l6, l9);
-                            goto L336;
-                        }
-                        if (l34 >= 4u) {
-                            core_slice_edits_slice_T_copy_from_slice(e, l7 + ((l8 + l14) << 3), l7 + (l8 << 3), 4ull);
-                            l4 = (l8 + l12) - 4ull;
-                            core_slice_edits_slice_T_copy_from_slice(e, l7 + ((l4 + l14) << 3), l7 + (l4 << 3), 4ull);
-                            goto L336;
-                        }
-                        if (l34 >= 2u) {
-                            core_slice_edits_slice_T_copy_from_slice(e, l7 + ((l8 + l14) << 3), l7 + (l8 << 3), 2ull);
-                            l4 = (l8 + l12) - 2ull;
-                            core_slice_edits_slice_T_copy_from_slice(e, l7 + ((l4 + l14) << 3), l7 + (l4 << 3), 2ull);
-                            goto L336;
-                        }
-                        if (l34 != 1u) goto L336;
-                        l4 = l7 + ((l8 + l14) << 3);
-                        l6 = l7 + (l8 << 3);
-                        const u32 t410 = load16(l6);
-                        store16(l4, (u16)t410);
-                        const u32 t411 = load32(l6 + 4ull);
-                        store32(l4 + 4ull, t411);
-                    }
-                    L336:;
-                    l4 = l0 + 20ull;
-                    const u32 t412 = load32(l4);
-                    store32(l4, t412 + l34);
-                    goto L1;
-                }
-                if (((l3 - l2) + 2u) <= l31) {
-                    l31 = l36 + 1u;
-                    l4 = l7 + ((u64)(l32 - l31) << 3);
-                    store16(l4, (u16)4u);
-                    store32(l4 + 4ull, l2);
-                    store32(l0 + 24ull, l31);
-                    l32 = 0u;
-                    if (l2 <= l3) {
-                        l34 = l2;
-                        L415:;
-                        {
-                            const u64 t416 = load64(l0);
-                            l12 = t416;
-                            const u32 t417 = load32(l0 + 16ull);
-                            l1 = t417;
-                            l4 = (u64)(l1 + l34);
-                            l13 = l12 + (l4 << 3);
-                            l10 = 0ull;
-                            {
-                                l7 = (u64)(l1 + l3) - l4;
-                                if (l7 >= 2ull) {
-                                    l6 = 0ull;
-                                    l1 = 1u;
-                                    l4 = l13;
-                                    L420:;
-                                    {
-                                        const u32 t421 = load8(l4);
-                                        if (t421 == 2u) {
-                                            l1 = l1 - 1u;
-                                            goto L418;
-                                        }
-                                        const u32 t423 = load8(l4 + 8ull);
-                                        if (t423 == 2u) goto L418;
-                                        l4 = l4 + 16ull;
-                                        l1 = l1 + 2u;
-                                        l9 = l6 + 3ull;
-                                        l10 = l6 + 2ull;
-                                        l6 = l10;
-                                        if (l7 > l9) goto L420;
-                                    }
-                                }
-                                {
-                                    if (l7 <= l10) goto L424;
-                                    const u32 t425 = load8(l13 + (l10 << 3));
-                                    if (t425 == 2u) goto L424;
-                                    l1 = (u32)l10 | 1u;
-                                    goto L418;
-                                }
-                                L424:;
-                                l1 = (u32)l10;
-                            }
-                            L418:;
-                            const u32 t426 = load32(l0 + 28ull);
-                            l31 = l31 + 1u;
-                            l4 = l12 + ((u64)(t426 - l31) << 3);
-                            store16(l4, (u16)4u);
-                            l34 = (l1 + l34) + 1u;
-                            store32(l4 + 4ull, l34);
-                            store32(l0 + 24ull, l31);
-                            l32 = l32 + 1u;
-                            if (l3 >= l34) goto L415;
-                        }
-                    }
-                    const u32 t427 = load32(l0 + 20ull);
-                    l34 = t427;
-                    const u32 t428 = load32(l0 + 28ull);
-                    l36 = t428;
-                    const u32 t429 = load32(l0 + 16ull);
-                    l1 = t429;
-                    const u64 t430 = load64(l0);
-                    l10 = t430;
-                    l28 = (u64)l32;
-                    store64(l22 + 40u, l28);
-                    l29 = (u64)l1;
-                    store64(l22 + 16u, l29);
-                    l20 = (u64)(l36 - l31);
-                    store64(l22 + 32u, l20);
-                    l9 = (u64)(l1 + l34);
-                    store64(l22 + 24u, l9);
-                    l14 = (u64)l35;
-                    {
-                        {
-                            if ((l9 + 8ull) > l20) goto L432;
-                            l30 = l29 << 3;
-                            l5 = l20 + l28;
-                            L433:;
-                            {
-                                l6 = (l9 - l8) & 4294967295ull;
-                                if (l6 < 8ull) goto L432;
-                                l4 = l10 + (l8 << 3);
-                                const u64 t434 = load64(l4);
-                                l7 = t434;
-                                const u64 t435 = load64(l4 + 8u);
-                                l12 = t435;
-                                const u64 t436 = load64(l4 + 16u);
-                                l13 = t436;
-                                const u64 t437 = load64(l4 + 24u);
-                                l11 = t437;
-                                const u64 t438 = load64(l4 + 32u);
-                                l15 = t438;
-                                const u64 t439 = load64(l4 + 40u);
-                                l16 = t439;
-                                const u64 t440 = load64(l4 + 48u);
-                                l17 = t440;
-                                l6 = l10 + ((l6 + l8) << 3);
-                                const u64 t441 = load64(l4 + 56u);
-                                store64(l6 + 56u, t441);
-                                store64(l6 + 48u, l17);
-                                store64(l6 + 40u, l16);
-                                store64(l6 + 32u, l15);
-                                store64(l6 + 24u, l11);
-                                store64(l6 + 16u, l13);
-                                store64(l6 + 8u, l12);
-                                store64(l6, l7);
-                                const u64 t442 = l14;
-                                const u64 t443 = l8;
-                                u64 v444;
-                                {
-                                    const u32 t445 = load8(l4);
-                                    if (t445) { v444 = 0ull; goto L444; }
-                                    const u32 t446 = load8(l4 + 8ull);
-                                    if (t446) { v444 = 1ull; goto L444; }
-                                    const u32 t447 = load8(l4 + 16ull);
-                                    if (t447) { v444 = 2ull; goto L444; }
-                                    const u32 t448 = load8(l4 + 24ull);
-                                    if (t448) { v444 = 3ull; goto L444; }
-                                    const u32 t449 = load8(l4 + 32ull);
-                                    if (t449) { v444 = 4ull; goto L444; }
-                                    const u32 t450 = load8(l4 + 40ull);
-                                    if (t450) { v444 = 5ull; goto L444; }
-                                    const u32 t451 = load8(l4 + 48ull);
-                                    if (t451) { v444 = 6ull; goto L444; }
-                                    const u32 t452 = load8(l4 + 56ull);
-                                    v444 = t452 ? 7ull : 8ull;
-                                }
-                                L444:;
-                                l4 = v444;
-                                l12 = t443 + l4;
-                                if (t442 <= l12) {
-                                    l4 = (l9 + l14) - l8;
-                                    goto L2;
-                                }
-                                l9 = l4 + l9;
-                                u64 v454;
-                                if (l4 == 8ull) {
-                                    v454 = l12;
-                                } else {
-                                    l4 = 0ull;
-                                    {
-                                        l6 = l10 + (l12 << 3);
-                                        const u32 t456 = load32(l6 + 4ull);
-                                        const u32 t457 = load8(l6);
-                                        l6 = (t457 == 3u) ? (u64)(t456 - 1u) : 4294967295ull;
-                                        if (l6 >= l28) goto L455;
-                                        l6 = l10 + ((l5 - l6) << 3);
-                                        const u64 t458 = load32(l6 - 4ull);
-                                        const u64 t459 = load32(l6 + 4ull);
-                                        l6 = t459;
-                                        l13 = t458 + (l6 ^ 18446744073709551615ull);
-                                        if (l13 > (l20 - l9)) goto L431;
-                                        l18 = l6 + l29;
-                                        if (l13 == 1ull) {
-                                            l4 = l10 + (l9 << 3);
-                                            l6 = l10 + (l18 << 3);
-                                            const u32 t461 = load16(l6);
-                                            store16(l4, (u16)t461);
-                                            const u32 t462 = load32(l6 + 4ull);
-                                            store32(l4 + 4ull, t462);
-                                            l4 = 1ull;
-                                            goto L455;
-                                        }
-                                        l19 = (l9 - l18) & 4294967295ull;
-                                        {
-                                            if (l13 >= 8ull) {
-                                                {
-                                                    if (l13 == 8ull) goto L465;
-                                                    if (l19 >= 8ull) {
-                                                        l4 = l10 + (l18 << 3);
-                                                        l6 = l10 + ((l18 + l19) << 3);
-                                                        l7 = l13;
-                                                        L467:;
-                                                        {
-                                                            const u64 t468 = load64(l4);
-                                                            l8 = t468;
-                                                            const u64 t469 = load64(l4 + 8u);
-                                                            l11 = t469;
-                                                            const u64 t470 = load64(l4 + 16u);
-                                                            l15 = t470;
-                                                            const u64 t471 = load64(l4 + 24u);
-                                                            l16 = t471;
-                                                            const u64 t472 = load64(l4 + 32u);
-                                                            l17 = t472;
-                                                            const u64 t473 = load64(l4 + 40u);
-                                                            l26 = t473;
-                                                            const u64 t474 = load64(l4 + 48u);
-                                                            l27 = t474;
-                                                            const u64 t475 = load64(l4 + 56u);
-                                                            store64(l6 + 56u, t475);
-                                                            store64(l6 + 48u, l27);
-                                                            store64(l6 + 40u, l26);
-                                                            store64(l6 + 32u, l17);
-                                                            store64(l6 + 24u, l16);
-                                                            store64(l6 + 16u, l15);
-                                                            store64(l6 + 8u, l11);
+                                                            const u64 t216 = load64(l5);
+                                                            l8 = t216;
+                                                            const u64 t217 = load64(l5 + 8u);
+                                                            l9 = t217;
+                                                            const u64 t218 = load64(l5 + 16u);
+                                                            l12 = t218;
+                                                            const u64 t219 = load64(l5 + 24u);
+                                                            l13 = t219;
+                                                            const u64 t220 = load64(l5 + 32u);
+                                                            l14 = t220;
+                                                            const u64 t221 = load64(l5 + 40u);
+                                                            l20 = t221;
+                                                            const u64 t222 = load64(l5 + 48u);
+                                                            l22 = t222;
+                                                            const u64 t223 = load64(l5 + 56u);
+                                                            store64(l6 + 56u, t223);
+                                                            store64(l6 + 48u, l22);
+                                                            store64(l6 + 40u, l20);
+                                                            store64(l6 + 32u, l14);
+                                                            store64(l6 + 24u, l13);
+                                                            store64(l6 + 16u, l12);
+                                                            store64(l6 + 8u, l9);
                                                             store64(l6, l8);
-                                                            l6 = l6 + 64ull;
-                                                            l4 = l4 + 64ull;
-                                                            l7 = l7 - 8ull;
-                                                            if (l7 > 8ull) goto L467;
+                                                            l9 = l15;
+                                                            goto L156;
                                                         }
-                                                        goto L465;
+                                                        if (l15 >= 4ull) {
+                                                            l5 = l7 + (l12 << 3);
+                                                            l6 = l7 + ((l12 + l14) << 3);
+                                                            {
+                                                                if (l14 <= 3ull) {
+                                                                    const u32 t227 = load16(l5);
+                                                                    store16(l6, (u16)t227);
+                                                                    const u32 t228 = load32(l5 + 4ull);
+                                                                    store32(l6 + 4ull, t228);
+                                                                    const u32 t229 = load16(l5 + 8u);
+                                                                    store16(l6 + 8u, (u16)t229);
+                                                                    const u32 t230 = load32(l5 + 12ull);
+                                                                    store32(l6 + 12ull, t230);
+                                                                    const u32 t231 = load16(l5 + 16u);
+                                                                    store16(l6 + 16u, (u16)t231);
+                                                                    const u32 t232 = load32(l5 + 20ull);
+                                                                    store32(l6 + 20ull, t232);
+                                                                    const u32 t233 = load16(l5 + 24u);
+                                                                    store16(l6 + 24u, (u16)t233);
+                                                                    const u32 t234 = load32(l5 + 28ull);
+                                                                    store32(l6 + 28ull, t234);
+                                                                    goto L225;
+                                                                }
+                                                                const u64 t235 = load64(l5);
+                                                                l8 = t235;
+                                                                const u64 t236 = load64(l5 + 8u);
+                                                                l9 = t236;
+                                                                const u64 t237 = load64(l5 + 16u);
+                                                                l12 = t237;
+                                                                const u64 t238 = load64(l5 + 24u);
+                                                                store64(l6 + 24u, t238);
+                                                                store64(l6 + 16u, l12);
+                                                                store64(l6 + 8u, l9);
+                                                                store64(l6, l8);
+                                                            }
+                                                            L225:;
+                                                            l6 = l13 + l31;
+                                                            l5 = l7 + (l6 << 3);
+                                                            l6 = l7 + ((l6 + l14) << 3);
+                                                            if (l14 <= 3ull) {
+                                                                const u32 t240 = load16(l5);
+                                                                store16(l6, (u16)t240);
+                                                                const u32 t241 = load32(l5 + 4ull);
+                                                                store32(l6 + 4ull, t241);
+                                                                const u32 t242 = load16(l5 + 8u);
+                                                                store16(l6 + 8u, (u16)t242);
+                                                                const u32 t243 = load32(l5 + 12ull);
+                                                                store32(l6 + 12ull, t243);
+                                                                const u32 t244 = load16(l5 + 16u);
+                                                                store16(l6 + 16u, (u16)t244);
+                                                                const u32 t245 = load32(l5 + 20ull);
+                                                                store32(l6 + 20ull, t245);
+                                                                const u32 t246 = load16(l5 + 24u);
+                                                                store16(l6 + 24u, (u16)t246);
+                                                                const u32 t247 = load32(l5 + 28ull);
+                                                                store32(l6 + 28ull, t247);
+                                                                l9 = l15;
+                                                                goto L156;
+                                                            }
+                                                            const u64 t248 = load64(l5);
+                                                            l8 = t248;
+                                                            const u64 t249 = load64(l5 + 8u);
+                                                            l9 = t249;
+                                                            const u64 t250 = load64(l5 + 16u);
+                                                            l12 = t250;
+                                                            const u64 t251 = load64(l5 + 24u);
+                                                            store64(l6 + 24u, t251);
+                                                            store64(l6 + 16u, l12);
+                                                            store64(l6 + 8u, l9);
+                                                            store64(l6, l8);
+                                                            l9 = l15;
+                                                            goto L156;
+                                                        }
+                                                        if (l15 == 0) {
+                                                            l9 = 0ull;
+                                                            goto L156;
+                                                        }
+                                                        l5 = l7 + (l12 << 3);
+                                                        l6 = l7 + ((l12 + l14) << 3);
+                                                        {
+                                                            if (l14 <= 1ull) {
+                                                                const u32 t255 = load16(l5);
+                                                                store16(l6, (u16)t255);
+                                                                const u32 t256 = load32(l5 + 4ull);
+                                                                store32(l6 + 4ull, t256);
+                                                                const u32 t257 = load16(l5 + 8u);
+                                                                store16(l6 + 8u, (u16)t257);
+                                                                const u32 t258 = load32(l5 + 12ull);
+                                                                store32(l6 + 12ull, t258);
+                                                                goto L253;
+                                                            }
+                                                            const u64 t259 = load64(l5);
+                                                            l8 = t259;
+                                                            const u64 t260 = load64(l5 + 8u);
+                                                            store64(l6 + 8u, t260);
+                                                            store64(l6, l8);
+                                                        }
+                                                        L253:;
+                                                        l6 = l13 + l36;
+                                                        l5 = l7 + (l6 << 3);
+                                                        l6 = l7 + ((l6 + l14) << 3);
+                                                        if (l14 <= 1ull) {
+                                                            const u32 t262 = load16(l5);
+                                                            store16(l6, (u16)t262);
+                                                            const u32 t263 = load32(l5 + 4ull);
+                                                            store32(l6 + 4ull, t263);
+                                                            const u32 t264 = load16(l5 + 8u);
+                                                            store16(l6 + 8u, (u16)t264);
+                                                            const u32 t265 = load32(l5 + 12ull);
+                                                            store32(l6 + 12ull, t265);
+                                                            l9 = l15;
+                                                            goto L156;
+                                                        }
+                                                        const u64 t266 = load64(l5);
+                                                        l8 = t266;
+                                                        const u64 t267 = load64(l5 + 8u);
+                                                        store64(l6 + 8u, t267);
+                                                        store64(l6, l8);
+                                                        l9 = l15;
+                                                        goto L156;
                                                     }
-                                                    l15 = l18 << 3;
-                                                    l16 = l6 << 3;
-                                                    l17 = (l18 + l19) << 3;
-                                                    l8 = l10;
-                                                    l11 = l13;
-                                                    L476:;
+                                                    if (l15 == 1ull) {
+                                                        l5 = l7 + (l12 << 3);
+                                                        const u32 t269 = load32(l5 + 4ull);
+                                                        l2 = t269;
+                                                        l1 = 0u;
+                                                        l3 = 2u;
+                                                        l37 = 0u;
+                                                        {
+                                                            {
+                                                                {
+                                                                    const u32 t273 = load8(l5);
+                                                                    l4 = t273;
+                                                                    switch ((u32)(((u64)l4 & 255ull)) - 3u) {
+                                                                    case 0: goto L270;
+                                                                    case 1: goto L272;
+                                                                    default: goto L271;
+                                                                    }
+                                                                }
+                                                                L272:;
+                                                                l3 = 0u;
+                                                                l37 = l2;
+                                                                goto L270;
+                                                            }
+                                                            L271:;
+                                                            const u32 t274 = load8(l5 + 1ull);
+                                                            l37 = t274;
+                                                            l1 = l2;
+                                                            l3 = l4;
+                                                        }
+                                                        L270:;
+                                                        l5 = l7 + (l10 << 3);
+                                                        store8(l5, (u8)l3);
+                                                        store32(l5 + 4ull, l1);
+                                                        l9 = 1ull;
+                                                        store8(l5 + 1ull, (u8)l37);
+                                                        goto L156;
+                                                    }
+                                                    l14 = (l10 - l12) & 4294967295ull;
                                                     {
-                                                        l4 = l8 + l17;
-                                                        l6 = l8 + l15;
-                                                        const u32 t477 = load16(l6);
-                                                        store16(l4, (u16)t477);
-                                                        const u32 t478 = load32(l6 + 4ull);
-                                                        store32(l4 + 4ull, t478);
-                                                        const u32 t479 = load16(l6 + 8ull);
-                                                        store16(l4 + 8ull, (u16)t479);
-                                                        l7 = (l8 + l30) + l16;
-                                                        const u32 t480 = load32(l7 + 12ull);
-                                                        store32(l4 + 12ull, t480);
-                                                        const u32 t481 = load16(l6 + 16ull);
-                                                        store16(l4 + 16ull, (u16)t481);
-                                                        const u32 t482 = load32(l7 + 20ull);
-                                                        store32(l4 + 20ull, t482);
-                                                        const u32 t483 = load16(l6 + 24ull);
-                                                        store16(l4 + 24ull, (u16)t483);
-                                                        const u32 t484 = load32(l7 + 28ull);
-                                                        store32(l4 + 28ull, t484);
-                                                        const u32 t485 = load16(l6 + 32ull);
-                                                        store16(l4 + 32ull, (u16)t485);
-                                                        const u32 t486 = load32(l7 + 36ull);
-                                                        store32(l4 + 36ull, t486);
-                                                        const u32 t487 = load16(l6 + 40ull);
-                                                        store16(l4 + 40ull, (u16)t487);
-                                                        const u32 t488 = load32(l7 + 44ull);
-                                                        store32(l4 + 44ull, t488);
-                                                        const u32 t489 = load16(l6 + 48ull);
-                                                        store16(l4 + 48ull, (u16)t489);
-                                                        const u32 t490 = load32(l7 + 52ull);
-                                                        store32(l4 + 52ull, t490);
-                                                        const u32 t491 = load16(l6 + 56ull);
-                                                        store16(l4 + 56ull, (u16)t491);
-                                                        const u32 t492 = load32(l7 + 60ull);
-                                                        store32(l4 + 60ull, t492);
-                                                        l8 = l8 + 64ull;
-                                                        l11 = l11 - 8ull;
-                                                        if (l11 > 8ull) goto L476;
+                                                        if (l15 >= 8ull) {
+                                                            if (l15 != 8ull) {
+                                                                l20 = l29 + (l6 << 3);
+                                                                l22 = ((l6 + l16) + l14) << 3;
+                                                                l9 = l15;
+                                                                l8 = l7;
+                                                                L278:;
+                                                                {
+                                                                    l5 = l8 + l20;
+                                                                    l6 = l8 + l22;
+                                                                    {
+                                                                        if (l14 <= 7ull) {
+                                                                            const u32 t281 = load8(l5 + 1ull);
+                                                                            l1 = t281;
+                                                                            const u32 t282 = load8(l5);
+                                                                            l3 = t282;
+                                                                            const u32 t283 = load32(l5 + 4ull);
+                                                                            store32(l6 + 4ull, t283);
+                                                                            store8(l6 + 1ull, (u8)l1);
+                                                                            store8(l6, (u8)l3);
+                                                                            const u32 t284 = load16(l5 + 8ull);
+                                                                            l1 = t284;
+                                                                            const u32 t285 = load32(l5 + 12ull);
+                                                                            store32(l6 + 12ull, t285);
+                                                                            store16(l6 + 8ull, (u16)l1);
+                                                                            const u32 t286 = load16(l5 + 16ull);
+                                                                            l1 = t286;
+                                                                            const u32 t287 = load32(l5 + 20ull);
+                                                                            store32(l6 + 20ull, t287);
+                                                                            store16(l6 + 16ull, (u16)l1);
+                                                                            const u32 t288 = load16(l5 + 24ull);
+                                                                            l1 = t288;
+                                                                            const u32 t289 = load32(l5 + 28ull);
+                                                                            store32(l6 + 28ull, t289);
+                                                                            store16(l6 + 24ull, (u16)l1);
+                                                                            const u32 t290 = load16(l5 + 32ull);
+                                                                            l1 = t290;
+                                                                            const u32 t291 = load32(l5 + 36ull);
+                                                                            store32(l6 + 36ull, t291);
+                                                                            store16(l6 + 32ull, (u16)l1);
+                                                                            const u32 t292 = load16(l5 + 40ull);
+                                                                            l1 = t292;
+                                                                            const u32 t293 = load32(l5 + 44ull);
+                                                                            store32(l6 + 44ull, t293);
+                                                                            store16(l6 + 40ull, (u16)l1);
+                                                                            const u32 t294 = load16(l5 + 48ull);
+                                                                            l1 = t294;
+                                                                            const u32 t295 = load32(l5 + 52ull);
+                                                                            store32(l6 + 52ull, t295);
+                                                                            store16(l6 + 48ull, (u16)l1);
+                                                                            const u32 t296 = load16(l5 + 56ull);
+                                                                            l1 = t296;
+                                                                            const u32 t297 = load32(l5 + 60ull);
+                                                                            store32(l6 + 60ull, t297);
+                                                                            store16(l6 + 56ull, (u16)l1);
+                                                                            goto L279;
+                                                                        }
+                                                                        const u64 t298 = load64(l5);
+                                                                        l23 = t298;
+                                                                        const u64 t299 = load64(l5 + 8u);
+                                                                        l25 = t299;
+                                                                        const u64 t300 = load64(l5 + 16u);
+                                                                        l26 = t300;
+                                                                        const u64 t301 = load64(l5 + 24u);
+                                                                        l27 = t301;
+                                                                        const u64 t302 = load64(l5 + 32u);
+                                                                        l28 = t302;
+                                                                        const u64 t303 = load64(l5 + 40u);
+                                                                        l32 = t303;
+                                                                        const u64 t304 = load64(l5 + 48u);
+                                                                        l35 = t304;
+                                                                        const u64 t305 = load64(l5 + 56u);
+                                                                        store64(l6 + 56u, t305);
+                                                                        store64(l6 + 48u, l35);
+                                                                        store64(l6 + 40u, l32);
+                                                                        store64(l6 + 32u, l28);
+                                                                        store64(l6 + 24u, l27);
+                                                                        store64(l6 + 16u, l26);
+                                                                        store64(l6 + 8u, l25);
+                                                                        store64(l6, l23);
+                                                                    }
+                                                                    L279:;
+                                                                    l8 = l8 + 64ull;
+                                                                    l9 = l9 - 8ull;
+                                                                    if (l9 > 8ull) goto L278;
+                                                                }
+                                                            }
+                                                            l6 = l13 + l30;
+                                                            l5 = l7 + (l6 << 3);
+                                                            l6 = l7 + ((l6 + l14) << 3);
+                                                            if (l14 <= 7ull) {
+                                                                const u32 t307 = load16(l5);
+                                                                store16(l6, (u16)t307);
+                                                                const u32 t308 = load32(l5 + 4ull);
+                                                                store32(l6 + 4ull, t308);
+                                                                const u32 t309 = load16(l5 + 8u);
+                                                                store16(l6 + 8u, (u16)t309);
+                                                                const u32 t310 = load32(l5 + 12ull);
+                                                                store32(l6 + 12ull, t310);
+                                                                const u32 t311 = load16(l5 + 16u);
+                                                                store16(l6 + 16u, (u16)t311);
+                                                                const u32 t312 = load32(l5 + 20ull);
+                                                                store32(l6 + 20ull, t312);
+                                                                const u32 t313 = load16(l5 + 24u);
+                                                                store16(l6 + 24u, (u16)t313);
+                                                                const u32 t314 = load32(l5 + 28ull);
+                                                                store32(l6 + 28ull, t314);
+                                                                const u32 t315 = load16(l5 + 32u);
+                                                                store16(l6 + 32u, (u16)t315);
+                                                                const u32 t316 = load32(l5 + 36ull);
+                                                                store32(l6 + 36ull, t316);
+                                                                const u32 t317 = load16(l5 + 40u);
+                                                                store16(l6 + 40u, (u16)t317);
+                                                                const u32 t318 = load32(l5 + 44ull);
+                                                                store32(l6 + 44ull, t318);
+                                                                const u32 t319 = load16(l5 + 48u);
+                                                                store16(l6 + 48u, (u16)t319);
+                                                                const u32 t320 = load32(l5 + 52ull);
+                                                                store32(l6 + 52ull, t320);
+                                                                const u32 t321 = load16(l5 + 56u);
+                                                                store16(l6 + 56u, (u16)t321);
+                                                                const u32 t322 = load32(l5 + 60ull);
+                                                                store32(l6 + 60ull, t322);
+                                                                goto L275;
+                                                            }
+                                                            const u64 t323 = load64(l5);
+                                                            l8 = t323;
+                                                            const u64 t324 = load64(l5 + 8u);
+                                                            l9 = t324;
+                                                            const u64 t325 = load64(l5 + 16u);
+                                                            l13 = t325;
+                                                            const u64 t326 = load64(l5 + 24u);
+                                                            l14 = t326;
+                                                            const u64 t327 = load64(l5 + 32u);
+                                                            l20 = t327;
+                                                            const u64 t328 = load64(l5 + 40u);
+                                                            l22 = t328;
+                                                            const u64 t329 = load64(l5 + 48u);
+                                                            l23 = t329;
+                                                            const u64 t330 = load64(l5 + 56u);
+                                                            store64(l6 + 56u, t330);
+                                                            store64(l6 + 48u, l23);
+                                                            store64(l6 + 40u, l22);
+                                                            store64(l6 + 32u, l20);
+                                                            store64(l6 + 24u, l14);
+                                                            store64(l6 + 16u, l13);
+                                                            store64(l6 + 8u, l9);
+                                                            store64(l6, l8);
+                                                            goto L275;
+                                                        }
+                                                        if (l15 >= 4ull) {
+                                                            l5 = l7 + (l12 << 3);
+                                                            l6 = l7 + ((l12 + l14) << 3);
+                                                            {
+                                                                if (l14 <= 3ull) {
+                                                                    const u32 t334 = load16(l5);
+                                                                    store16(l6, (u16)t334);
+                                                                    const u32 t335 = load32(l5 + 4ull);
+                                                                    store32(l6 + 4ull, t335);
+                                                                    const u32 t336 = load16(l5 + 8u);
+                                                                    store16(l6 + 8u, (u16)t336);
+                                                                    const u32 t337 = load32(l5 + 12ull);
+                                                                    store32(l6 + 12ull, t337);
+                                                                    const u32 t338 = load16(l5 + 16u);
+                                                                    store16(l6 + 16u, (u16)t338);
+                                                                    const u32 t339 = load32(l5 + 20ull);
+                                                                    store32(l6 + 20ull, t339);
+                                                                    const u32 t340 = load16(l5 + 24u);
+                                                                    store16(l6 + 24u, (u16)t340);
+                                                                    const u32 t341 = load32(l5 + 28ull);
+                                                                    store32(l6 + 28ull, t341);
+                                                                    goto L332;
+                                                                }
+                                                                const u64 t342 = load64(l5);
+                                                                l8 = t342;
+                                                                const u64 t343 = load64(l5 + 8u);
+                                                                l9 = t343;
+                                                                const u64 t344 = load64(l5 + 16u);
+                                                                l20 = t344;
+                                                                const u64 t345 = load64(l5 + 24u);
+                                                                store64(l6 + 24u, t345);
+                                                                store64(l6 + 16u, l20);
+                                                                store64(l6 + 8u, l9);
+                                                                store64(l6, l8);
+                                                            }
+                                                            L332:;
+                                                            l6 = l13 + l31;
+                                                            l5 = l7 + (l6 << 3);
+                                                            l6 = l7 + ((l6 + l14) << 3);
+                                                            if (l14 <= 3ull) {
+                                                                const u32 t347 = load16(l5);
+                                                                store16(l6, (u16)t347);
+                                                                const u32 t348 = load32(l5 + 4ull);
+                                                                store32(l6 + 4ull, t348);
+                                                                const u32 t349 = load16(l5 + 8u);
+                                                                store16(l6 + 8u, (u16)t349);
+                                                                const u32 t350 = load32(l5 + 12ull);
+                                                                store32(l6 + 12ull, t350);
+                                                                const u32 t351 = load16(l5 + 16u);
+                                                                store16(l6 + 16u, (u16)t351);
+                                                                const u32 t352 = load32(l5 + 20ull);
+                                                                store32(l6 + 20ull, t352);
+                                                                const u32 t353 = load16(l5 + 24u);
+                                                                store16(l6 + 24u, (u16)t353);
+                                                                const u32 t354 = load32(l5 + 28ull);
+                                                                store32(l6 + 28ull, t354);
+                                                                goto L275;
+                                                            }
+                                                            const u64 t355 = load64(l5);
+                                                            l8 = t355;
+                                                            const u64 t356 = load64(l5 + 8u);
+                                                            l9 = t356;
+                                                            const u64 t357 = load64(l5 + 16u);
+                                                            l13 = t357;
+                                                            const u64 t358 = load64(l5 + 24u);
+                                                            store64(l6 + 24u, t358);
+                                                            store64(l6 + 16u, l13);
+                                                            store64(l6 + 8u, l9);
+                                                            store64(l6, l8);
+                                                            goto L275;
+                                                        }
+                                                        if (l15 == 0) {
+                                                            l9 = 0ull;
+                                                            goto L157;
+                                                        }
+                                                        l5 = l7 + (l12 << 3);
+                                                        l6 = l7 + ((l12 + l14) << 3);
+                                                        {
+                                                            if (l14 <= 1ull) {
+                                                                const u32 t362 = load16(l5);
+                                                                store16(l6, (u16)t362);
+                                                                const u32 t363 = load32(l5 + 4ull);
+                                                                store32(l6 + 4ull, t363);
+                                                                const u32 t364 = load16(l5 + 8u);
+                                                                store16(l6 + 8u, (u16)t364);
+                                                                const u32 t365 = load32(l5 + 12ull);
+                                                                store32(l6 + 12ull, t365);
+                                                                goto L360;
+                                                            }
+                                                            const u64 t366 = load64(l5);
+                                                            l8 = t366;
+                                                            const u64 t367 = load64(l5 + 8u);
+                                                            store64(l6 + 8u, t367);
+                                                            store64(l6, l8);
+                                                        }
+                                                        L360:;
+                                                        l6 = l13 + l36;
+                                                        l5 = l7 + (l6 << 3);
+                                                        l6 = l7 + ((l6 + l14) << 3);
+                                                        if (l14 <= 1ull) {
+                                                            const u32 t369 = load16(l5);
+                                                            store16(l6, (u16)t369);
+                                                            const u32 t370 = load32(l5 + 4ull);
+                                                            store32(l6 + 4ull, t370);
+                                                            const u32 t371 = load16(l5 + 8u);
+                                                            store16(l6 + 8u, (u16)t371);
+                                                            const u32 t372 = load32(l5 + 12ull);
+                                                            store32(l6 + 12ull, t372);
+                                                            goto L275;
+                                                        }
+                                                        const u64 t373 = load64(l5);
+                                                        l8 = t373;
+                                                        const u64 t374 = load64(l5 + 8u);
+                                                        store64(l6 + 8u, t374);
+                                                        store64(l6, l8);
                                                     }
+                                                    L275:;
+                                                    l9 = l15;
+                                                    goto L157;
                                                 }
-                                                L465:;
-                                                l6 = (l13 + l18) - 8ull;
-                                                l4 = l10 + (l6 << 3);
-                                                l6 = l10 + ((l6 + l19) << 3);
-                                                if (l19 <= 7ull) {
-                                                    const u32 t494 = load16(l4);
-                                                    store16(l6, (u16)t494);
-                                                    const u32 t495 = load32(l4 + 4ull);
-                                                    store32(l6 + 4ull, t495);
-                                                    const u32 t496 = load16(l4 + 8u);
-                                                    store16(l6 + 8u, (u16)t496);
-                                                    const u32 t497 = load32(l4 + 12ull);
-                                                    store32(l6 + 12ull, t497);
-                                                    const u32 t498 = load16(l4 + 16u);
-                                                    store16(l6 + 16u, (u16)t498);
-                                                    const u32 t499 = load32(l4 + 20ull);
-                                                    store32(l6 + 20ull, t499);
-                                                    const u32 t500 = load16(l4 + 24u);
-                                                    store16(l6 + 24u, (u16)t500);
-                                                    const u32 t501 = load32(l4 + 28ull);
-                                                    store32(l6 + 28ull, t501);
-                                                    const u32 t502 = load16(l4 + 32u);
-                                                    store16(l6 + 32u, (u16)t502);
-                                                    const u32 t503 = load32(l4 + 36ull);
-                                                    store32(l6 + 36ull, t503);
-                                                    const u32 t504 = load16(l4 + 40u);
-                                                    store16(l6 + 40u, (u16)t504);
-                                                    const u32 t505 = load32(l4 + 44ull);
-                                                    store32(l6 + 44ull, t505);
-                                                    const u32 t506 = load16(l4 + 48u);
-                                                    store16(l6 + 48u, (u16)t506);
-                                                    const u32 t507 = load32(l4 + 52ull);
-                                                    store32(l6 + 52ull, t507);
-                                                    const u32 t508 = load16(l4 + 56u);
-                                                    store16(l6 + 56u, (u16)t508);
-                                                    const u32 t509 = load32(l4 + 60ull);
-                                                    store32(l6 + 60ull, t509);
-                                                    goto L463;
-                                                }
-                                                const u64 t510 = load64(l4);
-                                                l7 = t510;
-                                                const u64 t511 = load64(l4 + 8u);
-                                                l8 = t511;
-                                                const u64 t512 = load64(l4 + 16u);
-                                                l11 = t512;
-                                                const u64 t513 = load64(l4 + 24u);
-                                                l15 = t513;
-                                                const u64 t514 = load64(l4 + 32u);
-                                                l16 = t514;
-                                                const u64 t515 = load64(l4 + 40u);
-                                                l17 = t515;
-                                                const u64 t516 = load64(l4 + 48u);
-                                                l26 = t516;
-                                                const u64 t517 = load64(l4 + 56u);
-                                                store64(l6 + 56u, t517);
-                                                store64(l6 + 48u, l26);
-                                                store64(l6 + 40u, l17);
-                                                store64(l6 + 32u, l16);
-                                                store64(l6 + 24u, l15);
-                                                store64(l6 + 16u, l11);
-                                                store64(l6 + 8u, l8);
-                                                store64(l6, l7);
-                                                goto L463;
+                                                l9 = 0ull;
+                                                l12 = l16;
+                                                if (l18 == 0) goto L156;
                                             }
-                                            if (l13 >= 4ull) {
-                                                l4 = l10 + (l18 << 3);
-                                                l6 = l10 + ((l18 + l19) << 3);
+                                            L157:;
+                                            l5 = l33 - l12;
+                                            l6 = (l5 < l9) ? l5 : l9;
+                                            if (l6 == 0) goto L156;
+                                            l5 = l7 + (l10 << 3);
+                                            L375:;
+                                            {
+                                                l8 = l5 + 4ull;
+                                                const u32 t376 = load32(l8);
+                                                l2 = t376;
+                                                l1 = 0u;
+                                                l3 = 2u;
+                                                l37 = 0u;
                                                 {
-                                                    if (l19 <= 3ull) {
-                                                        const u32 t521 = load16(l4);
-                                                        store16(l6, (u16)t521);
-                                                        const u32 t522 = load32(l4 + 4ull);
-                                                        store32(l6 + 4ull, t522);
-                                                        const u32 t523 = load16(l4 + 8u);
-                                                        store16(l6 + 8u, (u16)t523);
-                                                        const u32 t524 = load32(l4 + 12ull);
-                                                        store32(l6 + 12ull, t524);
-                                                        const u32 t525 = load16(l4 + 16u);
-                                                        store16(l6 + 16u, (u16)t525);
-                                                        const u32 t526 = load32(l4 + 20ull);
-                                                        store32(l6 + 20ull, t526);
-                                                        const u32 t527 = load16(l4 + 24u);
-                                                        store16(l6 + 24u, (u16)t527);
-                                                        const u32 t528 = load32(l4 + 28ull);
-                                                        store32(l6 + 28ull, t528);
-                                                        goto L519;
+                                                    {
+                                                        {
+                                                            const u32 t380 = load8(l5);
+                                                            l4 = t380;
+                                                            switch ((u32)(((u64)l4 & 255ull)) - 3u) {
+                                                            case 0: goto L377;
+                                                            case 1: goto L379;
+                                                            default: goto L378;
+                                                            }
+                                                        }
+                                                        L379:;
+                                                        l3 = 0u;
+                                                        l37 = l2;
+                                                        goto L377;
                                                     }
-                                                    const u64 t529 = load64(l4);
-                                                    l7 = t529;
-                                                    const u64 t530 = load64(l4 + 8u);
-                                                    l8 = t530;
-                                                    const u64 t531 = load64(l4 + 16u);
-                                                    l11 = t531;
-                                                    const u64 t532 = load64(l4 + 24u);
-                                                    store64(l6 + 24u, t532);
-                                                    store64(l6 + 16u, l11);
-                                                    store64(l6 + 8u, l8);
-                                                    store64(l6, l7);
+                                                    L378:;
+                                                    const u32 t381 = load8(l5 + 1ull);
+                                                    l37 = t381;
+                                                    l1 = l2;
+                                                    l3 = l4;
                                                 }
-                                                L519:;
-                                                l6 = (l13 + l18) - 4ull;
-                                                l4 = l10 + (l6 << 3);
-                                                l6 = l10 + ((l6 + l19) << 3);
-                                                if (l19 <= 3ull) {
-                                                    const u32 t534 = load16(l4);
-                                                    store16(l6, (u16)t534);
-                                                    const u32 t535 = load32(l4 + 4ull);
-                                                    store32(l6 + 4ull, t535);
-                                                    const u32 t536 = load16(l4 + 8u);
-                                                    store16(l6 + 8u, (u16)t536);
-                                                    const u32 t537 = load32(l4 + 12ull);
-                                                    store32(l6 + 12ull, t537);
-                                                    const u32 t538 = load16(l4 + 16u);
-                                                    store16(l6 + 16u, (u16)t538);
-                                                    const u32 t539 = load32(l4 + 20ull);
-                                                    store32(l6 + 20ull, t539);
-                                                    const u32 t540 = load16(l4 + 24u);
-                                                    store16(l6 + 24u, (u16)t540);
-                                                    const u32 t541 = load32(l4 + 28ull);
-                                                    store32(l6 + 28ull, t541);
-                                                    goto L463;
-                                                }
-                                                const u64 t542 = load64(l4);
-                                                l7 = t542;
-                                                const u64 t543 = load64(l4 + 8u);
-                                                l8 = t543;
-                                                const u64 t544 = load64(l4 + 16u);
-                                                l11 = t544;
-                                                const u64 t545 = load64(l4 + 24u);
-                                                store64(l6 + 24u, t545);
-                                                store64(l6 + 16u, l11);
-                                                store64(l6 + 8u, l8);
-                                                store64(l6, l7);
-                                                goto L463;
+                                                L377:;
+                                                store8(l5, (u8)l3);
+                                                store32(l8, l1);
+                                                store8(l5 + 1ull, (u8)l37);
+                                                l5 = l5 + 8ull;
+                                                l6 = l6 - 1ull;
+                                                if (l6 != 0ull) goto L375;
                                             }
-                                            if (l13 == 0) goto L455;
-                                            core_slice_edits_slice_T_copy_from_slice(e, l10 + ((l18 + l19) << 3), l10 + (l18 << 3), 2ull);
-                                            l4 = (l13 + l18) - 2ull;
-                                            core_slice_edits_slice_T_copy_from_slice(e, l10 + ((l4 + l19) << 3), l10 + (l4 << 3), 2ull);
                                         }
-                                        L463:;
-                                        l4 = l13;
+                                        L156:;
+                                        l10 = l9 + l10;
+                                        v155 = l17 + 1ull;
                                     }
-                                    L455:;
-                                    l9 = l4 + l9;
-                                    v454 = l12 + 1ull;
+                                    l8 = v155;
+                                    if ((l10 + 8ull) <= l19) goto L134;
                                 }
-                                l8 = v454;
-                                if ((l9 + 8ull) <= l20) goto L433;
+                            }
+                            L132:;
+                            space_filling_fill_each(e, l21 + 24ull, l7, l8, l24, l10, l19, l21 + 40ull);
+                            const u32 t382 = load8(l21 + 24u);
+                            if (t382 != 1u) goto L131;
+                            const u64 t383 = load64(l21 + 32u);
+                            l5 = t383;
+                            goto L3;
+                        }
+                        L131:;
+                        l38 = 0u;
+                        space_space_Space_move_active(e, l0, 0u);
+                        const u32 t384 = load32(l0 + 24ull);
+                        l3 = t384;
+                        const u32 t385 = load32(l0 + 28ull);
+                        l37 = t385;
+                        const u32 t386 = load32(l0 + 20ull);
+                        l2 = t386;
+                        const u32 t387 = load32(l0 + 16ull);
+                        l1 = t387;
+                        const u64 t388 = load64(l0);
+                        l7 = t388;
+                        store64(l21 + 56u, l18);
+                        store64(l21 + 48u, l34);
+                        l16 = (u64)(l1 + l40);
+                        store64(l21 + 40u, l16);
+                        {
+                            l20 = (u64)(l37 - l3);
+                            l10 = (u64)(l1 + l2);
+                            if (l20 < (l10 + 8ull)) goto L389;
+                            l30 = l16 << 3;
+                            l33 = l16 - 8ull;
+                            l29 = l16 - 4ull;
+                            l31 = l16 - 2ull;
+                            l35 = l16 + l18;
+                            L390:;
+                            {
+                                l6 = (l10 - l11) & 4294967295ull;
+                                if (l6 < 8ull) goto L389;
+                                l5 = l7 + (l11 << 3);
+                                const u64 t391 = load64(l5);
+                                l8 = t391;
+                                const u64 t392 = load64(l5 + 8u);
+                                l17 = t392;
+                                const u64 t393 = load64(l5 + 16u);
+                                l9 = t393;
+                                const u64 t394 = load64(l5 + 24u);
+                                l12 = t394;
+                                const u64 t395 = load64(l5 + 32u);
+                                l15 = t395;
+                                const u64 t396 = load64(l5 + 40u);
+                                l13 = t396;
+                                const u64 t397 = load64(l5 + 48u);
+                                l14 = t397;
+                                l6 = l7 + ((l6 + l11) << 3);
+                                const u64 t398 = load64(l5 + 56u);
+                                store64(l6 + 56u, t398);
+                                store64(l6 + 48u, l14);
+                                store64(l6 + 40u, l13);
+                                store64(l6 + 32u, l15);
+                                store64(l6 + 24u, l12);
+                                store64(l6 + 16u, l9);
+                                store64(l6 + 8u, l17);
+                                store64(l6, l8);
+                                const u64 t399 = l24;
+                                const u64 t400 = l11;
+                                u64 v401;
+                                {
+                                    const u32 t402 = load8(l5);
+                                    if (t402) { v401 = 0ull; goto L401; }
+                                    const u32 t403 = load8(l5 + 8ull);
+                                    if (t403) { v401 = 1ull; goto L401; }
+                                    const u32 t404 = load8(l5 + 16ull);
+                                    if (t404) { v401 = 2ull; goto L401; }
+                                    const u32 t405 = load8(l5 + 24ull);
+                                    if (t405) { v401 = 3ull; goto L401; }
+                                    const u32 t406 = load8(l5 + 32ull);
+                                    if (t406) { v401 = 4ull; goto L401; }
+                                    const u32 t407 = load8(l5 + 40ull);
+                                    if (t407) { v401 = 5ull; goto L401; }
+                                    const u32 t408 = load8(l5 + 48ull);
+                                    if (t408) { v401 = 6ull; goto L401; }
+                                    const u32 t409 = load8(l5 + 56ull);
+                                    v401 = t409 ? 7ull : 8ull;
+                                }
+                                L401:;
+                                l5 = v401;
+                                l17 = t400 + l5;
+                                if (t399 <= l17) {
+                                    l5 = (l10 + l24) - l11;
+                                    goto L4;
+                                }
+                                l10 = l5 + l10;
+                                u64 v411;
+                                if (l5 == 8ull) {
+                                    v411 = l17;
+                                } else {
+                                    {
+                                        u64 v413;
+                                        {
+                                            {
+                                                l5 = l7 + (l17 << 3);
+                                                const u32 t415 = load32(l5 + 4ull);
+                                                const u32 t416 = load8(l5);
+                                                l5 = (t416 == 3u) ? (u64)(t415 - 1u) : 4294967295ull;
+                                                if (l5 <= l18) {
+                                                    u64 v418;
+                                                    if (l5 == 0) {
+                                                        v418 = 0ull;
+                                                    } else {
+                                                        const u32 t419 = load32((l7 + ((l5 + l16) << 3)) - 4ull);
+                                                        v418 = (u64)(((t419 >> 8) + 1u));
+                                                    }
+                                                    l6 = v418;
+                                                    l15 = l34;
+                                                    if (l5 != l18) {
+                                                        const u32 t421 = load32((l7 + ((l5 + l16) << 3)) + 4ull);
+                                                        l15 = (u64)(t421 >> 8);
+                                                    }
+                                                    l12 = l15 - l6;
+                                                    if (l12 <= (l20 - l10)) goto L414;
+                                                    goto L2;
+                                                }
+                                                l9 = l16;
+                                                l11 = 0ull;
+                                                if ((l18 == 0) == 0) { v413 = l11; goto L413; }
+                                                goto L412;
+                                            }
+                                            L414:;
+                                            l9 = l6 + l16;
+                                            if (l6 >= l18) {
+                                                l11 = 1ull;
+                                                if (l12 == 1ull) {
+                                                    l5 = l7 + (l10 << 3);
+                                                    l6 = l7 + (l9 << 3);
+                                                    const u32 t424 = load16(l6);
+                                                    store16(l5, (u16)t424);
+                                                    const u32 t425 = load32(l6 + 4ull);
+                                                    store32(l5 + 4ull, t425);
+                                                    goto L412;
+                                                }
+                                                l13 = (l10 - l9) & 4294967295ull;
+                                                if (l12 >= 8ull) {
+                                                    if (l12 != 8ull) {
+                                                        l9 = l30 + (l6 << 3);
+                                                        l14 = ((l6 + l16) + l13) << 3;
+                                                        l11 = l12;
+                                                        l8 = l7;
+                                                        L428:;
+                                                        {
+                                                            l5 = l8 + l9;
+                                                            l6 = l8 + l14;
+                                                            {
+                                                                if (l13 <= 7ull) {
+                                                                    const u32 t431 = load8(l5 + 1ull);
+                                                                    l1 = t431;
+                                                                    const u32 t432 = load8(l5);
+                                                                    l3 = t432;
+                                                                    const u32 t433 = load32(l5 + 4ull);
+                                                                    store32(l6 + 4ull, t433);
+                                                                    store8(l6 + 1ull, (u8)l1);
+                                                                    store8(l6, (u8)l3);
+                                                                    const u32 t434 = load16(l5 + 8ull);
+                                                                    l1 = t434;
+                                                                    const u32 t435 = load32(l5 + 12ull);
+                                                                    store32(l6 + 12ull, t435);
+                                                                    store16(l6 + 8ull, (u16)l1);
+                                                                    const u32 t436 = load16(l5 + 16ull);
+                                                                    l1 = t436;
+                                                                    const u32 t437 = load32(l5 + 20ull);
+                                                                    store32(l6 + 20ull, t437);
+                                                                    store16(l6 + 16ull, (u16)l1);
+                                                                    const u32 t438 = load16(l5 + 24ull);
+                                                                    l1 = t438;
+                                                                    const u32 t439 = load32(l5 + 28ull);
+                                                                    store32(l6 + 28ull, t439);
+                                                                    store16(l6 + 24ull, (u16)l1);
+                                                                    const u32 t440 = load16(l5 + 32ull);
+                                                                    l1 = t440;
+                                                                    const u32 t441 = load32(l5 + 36ull);
+                                                                    store32(l6 + 36ull, t441);
+                                                                    store16(l6 + 32ull, (u16)l1);
+                                                                    const u32 t442 = load16(l5 + 40ull);
+                                                                    l1 = t442;
+                                                                    const u32 t443 = load32(l5 + 44ull);
+                                                                    store32(l6 + 44ull, t443);
+                                                                    store16(l6 + 40ull, (u16)l1);
+                                                                    const u32 t444 = load16(l5 + 48ull);
+                                                                    l1 = t444;
+                                                                    const u32 t445 = load32(l5 + 52ull);
+                                                                    store32(l6 + 52ull, t445);
+                                                                    store16(l6 + 48ull, (u16)l1);
+                                                                    const u32 t446 = load16(l5 + 56ull);
+                                                                    l1 = t446;
+                                                                    const u32 t447 = load32(l5 + 60ull);
+                                                                    store32(l6 + 60ull, t447);
+                                                                    store16(l6 + 56ull, (u16)l1);
+                                                                    goto L429;
+                                                                }
+                                                                const u64 t448 = load64(l5);
+                                                                l19 = t448;
+                                                                const u64 t449 = load64(l5 + 8u);
+                                                                l22 = t449;
+                                                                const u64 t450 = load64(l5 + 16u);
+                                                                l23 = t450;
+                                                                const u64 t451 = load64(l5 + 24u);
+                                                                l25 = t451;
+                                                                const u64 t452 = load64(l5 + 32u);
+                                                                l26 = t452;
+                                                                const u64 t453 = load64(l5 + 40u);
+                                                                l27 = t453;
+                                                                const u64 t454 = load64(l5 + 48u);
+                                                                l28 = t454;
+                                                                const u64 t455 = load64(l5 + 56u);
+                                                                store64(l6 + 56u, t455);
+                                                                store64(l6 + 48u, l28);
+                                                                store64(l6 + 40u, l27);
+                                                                store64(l6 + 32u, l26);
+                                                                store64(l6 + 24u, l25);
+                                                                store64(l6 + 16u, l23);
+                                                                store64(l6 + 8u, l22);
+                                                                store64(l6, l19);
+                                                            }
+                                                            L429:;
+                                                            l8 = l8 + 64ull;
+                                                            l11 = l11 - 8ull;
+                                                            if (l11 > 8ull) goto L428;
+                                                        }
+                                                    }
+                                                    l6 = l15 + l33;
+                                                    l5 = l7 + (l6 << 3);
+                                                    l6 = l7 + ((l6 + l13) << 3);
+                                                    if (l13 <= 7ull) {
+                                                        const u32 t457 = load16(l5);
+                                                        store16(l6, (u16)t457);
+                                                        const u32 t458 = load32(l5 + 4ull);
+                                                        store32(l6 + 4ull, t458);
+                                                        const u32 t459 = load16(l5 + 8u);
+                                                        store16(l6 + 8u, (u16)t459);
+                                                        const u32 t460 = load32(l5 + 12ull);
+                                                        store32(l6 + 12ull, t460);
+                                                        const u32 t461 = load16(l5 + 16u);
+                                                        store16(l6 + 16u, (u16)t461);
+                                                        const u32 t462 = load32(l5 + 20ull);
+                                                        store32(l6 + 20ull, t462);
+                                                        const u32 t463 = load16(l5 + 24u);
+                                                        store16(l6 + 24u, (u16)t463);
+                                                        const u32 t464 = load32(l5 + 28ull);
+                                                        store32(l6 + 28ull, t464);
+                                                        const u32 t465 = load16(l5 + 32u);
+                                                        store16(l6 + 32u, (u16)t465);
+                                                        const u32 t466 = load32(l5 + 36ull);
+                                                        store32(l6 + 36ull, t466);
+                                                        const u32 t467 = load16(l5 + 40u);
+                                                        store16(l6 + 40u, (u16)t467);
+                                                        const u32 t468 = load32(l5 + 44ull);
+                                                        store32(l6 + 44ull, t468);
+                                                        const u32 t469 = load16(l5 + 48u);
+                                                        store16(l6 + 48u, (u16)t469);
+                                                        const u32 t470 = load32(l5 + 52ull);
+                                                        store32(l6 + 52ull, t470);
+                                                        const u32 t471 = load16(l5 + 56u);
+                                                        store16(l6 + 56u, (u16)t471);
+                                                        const u32 t472 = load32(l5 + 60ull);
+                                                        store32(l6 + 60ull, t472);
+                                                        l11 = l12;
+                                                        goto L412;
+                                                    }
+                                                    const u64 t473 = load64(l5);
+                                                    l8 = t473;
+                                                    const u64 t474 = load64(l5 + 8u);
+                                                    l11 = t474;
+                                                    const u64 t475 = load64(l5 + 16u);
+                                                    l9 = t475;
+                                                    const u64 t476 = load64(l5 + 24u);
+                                                    l15 = t476;
+                                                    const u64 t477 = load64(l5 + 32u);
+                                                    l13 = t477;
+                                                    const u64 t478 = load64(l5 + 40u);
+                                                    l14 = t478;
+                                                    const u64 t479 = load64(l5 + 48u);
+                                                    l19 = t479;
+                                                    const u64 t480 = load64(l5 + 56u);
+                                                    store64(l6 + 56u, t480);
+                                                    store64(l6 + 48u, l19);
+                                                    store64(l6 + 40u, l14);
+                                                    store64(l6 + 32u, l13);
+                                                    store64(l6 + 24u, l15);
+                                                    store64(l6 + 16u, l9);
+                                                    store64(l6 + 8u, l11);
+                                                    store64(l6, l8);
+                                                    l11 = l12;
+                                                    goto L412;
+                                                }
+                                                if (l12 >= 4ull) {
+                                                    l5 = l7 + (l9 << 3);
+                                                    l6 = l7 + ((l9 + l13) << 3);
+                                                    {
+                                                        if (l13 <= 3ull) {
+                                                            const u32 t484 = load16(l5);
+                                                            store16(l6, (u16)t484);
+                                                            const u32 t485 = load32(l5 + 4ull);
+                                                            store32(l6 + 4ull, t485);
+                                                            const u32 t486 = load16(l5 + 8u);
+                                                            store16(l6 + 8u, (u16)t486);
+                                                            const u32 t487 = load32(l5 + 12ull);
+                                                            store32(l6 + 12ull, t487);
+                                                            const u32 t488 = load16(l5 + 16u);
+                                                            store16(l6 + 16u, (u16)t488);
+                                                            const u32 t489 = load32(l5 + 20ull);
+                                                            store32(l6 + 20ull, t489);
+                                                            const u32 t490 = load16(l5 + 24u);
+                                                            store16(l6 + 24u, (u16)t490);
+                                                            const u32 t491 = load32(l5 + 28ull);
+                                                            store32(l6 + 28ull, t491);
+                                                            goto L482;
+                                                        }
+                                                        const u64 t492 = load64(l5);
+                                                        l8 = t492;
+                                                        const u64 t493 = load64(l5 + 8u);
+                                                        l11 = t493;
+                                                        const u64 t494 = load64(l5 + 16u);
+                                                        l9 = t494;
+                                                        const u64 t495 = load64(l5 + 24u);
+                                                        store64(l6 + 24u, t495);
+                                                        store64(l6 + 16u, l9);
+                                                        store64(l6 + 8u, l11);
+                                                        store64(l6, l8);
+                                                    }
+                                                    L482:;
+                                                    l6 = l15 + l29;
+                                                    l5 = l7 + (l6 << 3);
+                                                    l6 = l7 + ((l6 + l13) << 3);
+                                                    if (l13 <= 3ull) {
+                                                        const u32 t497 = load16(l5);
+                                                        store16(l6, (u16)t497);
+                                                        const u32 t498 = load32(l5 + 4ull);
+                                                        store32(l6 + 4ull, t498);
+                                                        const u32 t499 = load16(l5 + 8u);
+                                                        store16(l6 + 8u, (u16)t499);
+                                                        const u32 t500 = load32(l5 + 12ull);
+                                                        store32(l6 + 12ull, t500);
+                                                        const u32 t501 = load16(l5 + 16u);
+                                                        store16(l6 + 16u, (u16)t501);
+                                                        const u32 t502 = load32(l5 + 20ull);
+                                                        store32(l6 + 20ull, t502);
+                                                        const u32 t503 = load16(l5 + 24u);
+                                                        store16(l6 + 24u, (u16)t503);
+                                                        const u32 t504 = load32(l5 + 28ull);
+                                                        store32(l6 + 28ull, t504);
+                                                        l11 = l12;
+                                                        goto L412;
+                                                    }
+                                                    const u64 t505 = load64(l5);
+                                                    l8 = t505;
+                                                    const u64 t506 = load64(l5 + 8u);
+                                                    l11 = t506;
+                                                    const u64 t507 = load64(l5 + 16u);
+                                                    l9 = t507;
+                                                    const u64 t508 = load64(l5 + 24u);
+                                                    store64(l6 + 24u, t508);
+                                                    store64(l6 + 16u, l9);
+                                                    store64(l6 + 8u, l11);
+                                                    store64(l6, l8);
+                                                    l11 = l12;
+                                                    goto L412;
+                                                }
+                                                if (l12 == 0) {
+                                                    l11 = 0ull;
+                                                    goto L412;
+                                                }
+                                                core_slice_edits_slice_T_copy_from_slice(e, l7 + ((l9 + l13) << 3), l7 + (l9 << 3), 2ull);
+                                                l5 = l15 + l31;
+                                                core_slice_edits_slice_T_copy_from_slice(e, l7 + ((l5 + l13) << 3), l7 + (l5 << 3), 2ull);
+                                                l11 = l12;
+                                                goto L412;
+                                            }
+                                            if (l12 == 1ull) {
+                                                l5 = l7 + (l9 << 3);
+                                                const u32 t511 = load32(l5 + 4ull);
+                                                l2 = t511;
+                                                l1 = 0u;
+                                                l3 = 2u;
+                                                l37 = 0u;
+                                                {
+                                                    {
+                                                        {
+                                                            const u32 t515 = load8(l5);
+                                                            l4 = t515;
+                                                            switch ((u32)(((u64)l4 & 255ull)) - 3u) {
+                                                            case 0: goto L512;
+                                                            case 1: goto L514;
+                                                            default: goto L513;
+                                                            }
+                                                        }
+                                                        L514:;
+                                                        l3 = 0u;
+                                                        l37 = l2;
+                                                        goto L512;
+                                                    }
+                                                    L513:;
+                                                    const u32 t516 = load8(l5 + 1ull);
+                                                    l37 = t516;
+                                                    l1 = l2;
+                                                    l3 = l4;
+                                                }
+                                                L512:;
+                                                l5 = l7 + (l10 << 3);
+                                                store8(l5, (u8)l3);
+                                                store32(l5 + 4ull, l1);
+                                                l11 = 1ull;
+                                                store8(l5 + 1ull, (u8)l37);
+                                                goto L412;
+                                            }
+                                            l13 = (l10 - l9) & 4294967295ull;
+                                            {
+                                                if (l12 >= 8ull) {
+                                                    if (l12 != 8ull) {
+                                                        l14 = l30 + (l6 << 3);
+                                                        l19 = ((l6 + l16) + l13) << 3;
+                                                        l11 = l12;
+                                                        l8 = l7;
+                                                        L520:;
+                                                        {
+                                                            l5 = l8 + l14;
+                                                            l6 = l8 + l19;
+                                                            {
+                                                                if (l13 <= 7ull) {
+                                                                    const u32 t523 = load8(l5 + 1ull);
+                                                                    l1 = t523;
+                                                                    const u32 t524 = load8(l5);
+                                                                    l3 = t524;
+                                                                    const u32 t525 = load32(l5 + 4ull);
+                                                                    store32(l6 + 4ull, t525);
+                                                                    store8(l6 + 1ull, (u8)l1);
+                                                                    store8(l6, (u8)l3);
+                                                                    const u32 t526 = load16(l5 + 8ull);
+                                                                    l1 = t526;
+                                                                    const u32 t527 = load32(l5 + 12ull);
+                                                                    store32(l6 + 12ull, t527);
+                                                                    store16(l6 + 8ull, (u16)l1);
+                                                                    const u32 t528 = load16(l5 + 16ull);
+                                                                    l1 = t528;
+                                                                    const u32 t529 = load32(l5 + 20ull);
+                                                                    store32(l6 + 20ull, t529);
+                                                                    store16(l6 + 16ull, (u16)l1);
+                                                                    const u32 t530 = load16(l5 + 24ull);
+                                                                    l1 = t530;
+                                                                    const u32 t531 = load32(l5 + 28ull);
+                                                                    store32(l6 + 28ull, t531);
+                                                                    store16(l6 + 24ull, (u16)l1);
+                                                                    const u32 t532 = load16(l5 + 32ull);
+                                                                    l1 = t532;
+                                                                    const u32 t533 = load32(l5 + 36ull);
+                                                                    store32(l6 + 36ull, t533);
+                                                                    store16(l6 + 32ull, (u16)l1);
+                                                                    const u32 t534 = load16(l5 + 40ull);
+                                                                    l1 = t534;
+                                                                    const u32 t535 = load32(l5 + 44ull);
+                                                                    store32(l6 + 44ull, t535);
+                                                                    store16(l6 + 40ull, (u16)l1);
+                                                                    const u32 t536 = load16(l5 + 48ull);
+                                                                    l1 = t536;
+                                                                    const u32 t537 = load32(l5 + 52ull);
+                                                                    store32(l6 + 52ull, t537);
+                                                                    store16(l6 + 48ull, (u16)l1);
+                                                                    const u32 t538 = load16(l5 + 56ull);
+                                                                    l1 = t538;
+                                                                    const u32 t539 = load32(l5 + 60ull);
+                                                                    store32(l6 + 60ull, t539);
+                                                                    store16(l6 + 56ull, (u16)l1);
+                                                                    goto L521;
+                                                                }
+                                                                const u64 t540 = load64(l5);
+                                                                l22 = t540;
+                                                                const u64 t541 = load64(l5 + 8u);
+                                                                l23 = t541;
+                                                                const u64 t542 = load64(l5 + 16u);
+                                                                l25 = t542;
+                                                                const u64 t543 = load64(l5 + 24u);
+                                                                l26 = t543;
+                                                                const u64 t544 = load64(l5 + 32u);
+                                                                l27 = t544;
+                                                                const u64 t545 = load64(l5 + 40u);
+                                                                l28 = t545;
+                                                                const u64 t546 = load64(l5 + 48u);
+                                                                l32 = t546;
+                                                                const u64 t547 = load64(l5 + 56u);
+                                                                store64(l6 + 56u, t547);
+                                                                store64(l6 + 48u, l32);
+                                                                store64(l6 + 40u, l28);
+                                                                store64(l6 + 32u, l27);
+                                                                store64(l6 + 24u, l26);
+                                                                store64(l6 + 16u, l25);
+                                                                store64(l6 + 8u, l23);
+                                                                store64(l6, l22);
+                                                            }
+                                                            L521:;
+                                                            l8 = l8 + 64ull;
+                                                            l11 = l11 - 8ull;
+                                                            if (l11 > 8ull) goto L520;
+                                                        }
+                                                    }
+                                                    l6 = l15 + l33;
+                                                    l5 = l7 + (l6 << 3);
+                                                    l6 = l7 + ((l6 + l13) << 3);
+                                                    if (l13 <= 7ull) {
+                                                        const u32 t549 = load16(l5);
+                                                        store16(l6, (u16)t549);
+                                                        const u32 t550 = load32(l5 + 4ull);
+                                                        store32(l6 + 4ull, t550);
+                                                        const u32 t551 = load16(l5 + 8u);
+                                                        store16(l6 + 8u, (u16)t551);
+                                                        const u32 t552 = load32(l5 + 12ull);
+                                                        store32(l6 + 12ull, t552);
+                                                        const u32 t553 = load16(l5 + 16u);
+                                                        store16(l6 + 16u, (u16)t553);
+                                                        const u32 t554 = load32(l5 + 20ull);
+                                                        store32(l6 + 20ull, t554);
+                                                        const u32 t555 = load16(l5 + 24u);
+                                                        store16(l6 + 24u, (u16)t555);
+                                                        const u32 t556 = load32(l5 + 28ull);
+                                                        store32(l6 + 28ull, t556);
+                                                        const u32 t557 = load16(l5 + 32u);
+                                                        store16(l6 + 32u, (u16)t557);
+                                                        const u32 t558 = load32(l5 + 36ull);
+                                                        store32(l6 + 36ull, t558);
+                                                        const u32 t559 = load16(l5 + 40u);
+                                                        store16(l6 + 40u, (u16)t559);
+                                                        const u32 t560 = load32(l5 + 44ull);
+                                                        store32(l6 + 44ull, t560);
+                                                        const u32 t561 = load16(l5 + 48u);
+                                                        store16(l6 + 48u, (u16)t561);
+                                                        const u32 t562 = load32(l5 + 52ull);
+                                                        store32(l6 + 52ull, t562);
+                                                        const u32 t563 = load16(l5 + 56u);
+                                                        store16(l6 + 56u, (u16)t563);
+                                                        const u32 t564 = load32(l5 + 60ull);
+                                                        store32(l6 + 60ull, t564);
+                                                        goto L517;
+                                                    }
+                                                    const u64 t565 = load64(l5);
+                                                    l8 = t565;
+                                                    const u64 t566 = load64(l5 + 8u);
+                                                    l11 = t566;
+                                                    const u64 t567 = load64(l5 + 16u);
+                                                    l15 = t567;
+                                                    const u64 t568 = load64(l5 + 24u);
+                                                    l13 = t568;
+                                                    const u64 t569 = load64(l5 + 32u);
+                                                    l14 = t569;
+                                                    const u64 t570 = load64(l5 + 40u);
+                                                    l19 = t570;
+                                                    const u64 t571 = load64(l5 + 48u);
+                                                    l22 = t571;
+                                                    const u64 t572 = load64(l5 + 56u);
+                                                    store64(l6 + 56u, t572);
+                                                    store64(l6 + 48u, l22);
+                                                    store64(l6 + 40u, l19);
+                                                    store64(l6 + 32u, l14);
+                                                    store64(l6 + 24u, l13);
+                                                    store64(l6 + 16u, l15);
+                                                    store64(l6 + 8u, l11);
+                                                    store64(l6, l8);
+                                                    goto L517;
+                                                }
+                                                if (l12 >= 4ull) {
+                                                    l5 = l7 + (l9 << 3);
+                                                    l6 = l7 + ((l9 + l13) << 3);
+                                                    {
+                                                        if (l13 <= 3ull) {
+                                                            const u32 t576 = load16(l5);
+                                                            store16(l6, (u16)t576);
+                                                            const u32 t577 = load32(l5 + 4ull);
+                                                            store32(l6 + 4ull, t577);
+                                                            const u32 t578 = load16(l5 + 8u);
+                                                            store16(l6 + 8u, (u16)t578);
+                                                            const u32 t579 = load32(l5 + 12ull);
+                                                            store32(l6 + 12ull, t579);
+                                                            const u32 t580 = load16(l5 + 16u);
+                                                            store16(l6 + 16u, (u16)t580);
+                                                            const u32 t581 = load32(l5 + 20ull);
+                                                            store32(l6 + 20ull, t581);
+                                                            const u32 t582 = load16(l5 + 24u);
+                                                            store16(l6 + 24u, (u16)t582);
+                                                            const u32 t583 = load32(l5 + 28ull);
+                                                            store32(l6 + 28ull, t583);
+                                                            goto L574;
+                                                        }
+                                                        const u64 t584 = load64(l5);
+                                                        l8 = t584;
+                                                        const u64 t585 = load64(l5 + 8u);
+                                                        l11 = t585;
+                                                        const u64 t586 = load64(l5 + 16u);
+                                                        l14 = t586;
+                                                        const u64 t587 = load64(l5 + 24u);
+                                                        store64(l6 + 24u, t587);
+                                                        store64(l6 + 16u, l14);
+                                                        store64(l6 + 8u, l11);
+                                                        store64(l6, l8);
+                                                    }
+                                                    L574:;
+                                                    l6 = l15 + l29;
+                                                    l5 = l7 + (l6 << 3);
+                                                    l6 = l7 + ((l6 + l13) << 3);
+                                                    if (l13 <= 3ull) {
+                                                        const u32 t589 = load16(l5);
+                                                        store16(l6, (u16)t589);
+                                                        const u32 t590 = load32(l5 + 4ull);
+                                                        store32(l6 + 4ull, t590);
+                                                        const u32 t591 = load16(l5 + 8u);
+                                                        store16(l6 + 8u, (u16)t591);
+                                                        const u32 t592 = load32(l5 + 12ull);
+                                                        store32(l6 + 12ull, t592);
+                                                        const u32 t593 = load16(l5 + 16u);
+                                                        store16(l6 + 16u, (u16)t593);
+                                                        const u32 t594 = load32(l5 + 20ull);
+                                                        store32(l6 + 20ull, t594);
+                                                        const u32 t595 = load16(l5 + 24u);
+                                                        store16(l6 + 24u, (u16)t595);
+                                                        const u32 t596 = load32(l5 + 28ull);
+                                                        store32(l6 + 28ull, t596);
+                                                        goto L517;
+                                                    }
+                                                    const u64 t597 = load64(l5);
+                                                    l8 = t597;
+                                                    const u64 t598 = load64(l5 + 8u);
+                                                    l11 = t598;
+                                                    const u64 t599 = load64(l5 + 16u);
+                                                    l15 = t599;
+                                                    const u64 t600 = load64(l5 + 24u);
+                                                    store64(l6 + 24u, t600);
+                                                    store64(l6 + 16u, l15);
+                                                    store64(l6 + 8u, l11);
+                                                    store64(l6, l8);
+                                                    goto L517;
+                                                }
+                                                if (l12 == 0) { v413 = 0ull; goto L413; }
+                                                core_slice_edits_slice_T_copy_from_slice(e, l7 + ((l9 + l13) << 3), l7 + (l9 << 3), 2ull);
+                                                l5 = l15 + l31;
+                                                core_slice_edits_slice_T_copy_from_slice(e, l7 + ((l5 + l13) << 3), l7 + (l5 << 3), 2ull);
+                                            }
+                                            L517:;
+                                            v413 = l12;
+                                        }
+                                        L413:;
+                                        l11 = v413;
+                                        l5 = l35 - l9;
+                                        l6 = (l5 < l11) ? l5 : l11;
+                                        if (l6 == 0) goto L412;
+                                        l5 = l7 + (l10 << 3);
+                                        L601:;
+                                        {
+                                            l8 = l5 + 4ull;
+                                            const u32 t602 = load32(l8);
+                                            l2 = t602;
+                                            l1 = 0u;
+                                            l3 = 2u;
+                                            l37 = 0u;
+                                            {
+                                                {
+                                                    {
+                                                        const u32 t606 = load8(l5);
+                                                        l4 = t606;
+                                                        switch ((u32)(((u64)l4 & 255ull)) - 3u) {
+                                                        case 0: goto L603;
+                                                        case 1: goto L605;
+                                                        default: goto L604;
+                                                        }
+                                                    }
+                                                    L605:;
+                                                    l3 = 0u;
+                                                    l37 = l2;
+                                                    goto L603;
+                                                }
+                                                L604:;
+                                                const u32 t607 = load8(l5 + 1ull);
+                                                l37 = t607;
+                                                l1 = l2;
+                                                l3 = l4;
+                                            }
+                                            L603:;
+                                            store8(l5, (u8)l3);
+                                            store32(l8, l1);
+                                            store8(l5 + 1ull, (u8)l37);
+                                            l5 = l5 + 8ull;
+                                            l6 = l6 - 1ull;
+                                            if (l6 != 0ull) goto L601;
+                                        }
+                                    }
+                                    L412:;
+                                    l10 = l10 + l11;
+                                    v411 = l17 + 1ull;
+                                }
+                                l11 = v411;
+                                if ((l10 + 8ull) <= l20) goto L390;
                             }
                         }
-                        L432:;
-                        space_filling_fill_each(e, l22, l10, l8, l14, l9, l22 + 16ull);
-                        const u32 t546 = load8(l22);
-                        if (t546 != 1u) goto L431;
-                        const u64 t547 = load64(l22 + 8u);
-                        l4 = t547;
-                        goto L2;
+                        L389:;
+                        space_filling_fill_each(e, l21 + 8ull, l7, l11, l24, l10, l20, l21 + 40ull);
+                        const u32 t608 = load8(l21 + 8u);
+                        if (t608 != 1u) goto L2;
+                        const u64 t609 = load64(l21 + 16u);
+                        l5 = t609;
+                        goto L4;
                     }
-                    L431:;
-                    l4 = l0 + 24ull;
-                    const u32 t548 = load32(l4);
-                    store32(l4, t548 + (l32 ^ 4294967295u));
+                    trap();
                 }
-                const u32 t549 = store_fill_fill_without_list(e, l0, l33, l35, l2, l3);
-                l1 = t549;
-                goto L1;
+                L4:;
+                const u32 t610 = load32(l0 + 16ull);
+                store32(l0 + 20ull, (u32)l5 - t610);
+                l38 = 1u;
+                goto L2;
             }
-            trap();
+            L3:;
+            const u32 t611 = load32(l0 + 16ull);
+            store32(l0 + 20ull, (u32)l5 - t611);
         }
         L2:;
-        const u32 t550 = load32(l0 + 16ull);
-        store32(l0 + 20ull, (u32)l4 - t550);
-        l4 = l0 + 24ull;
-        const u32 t551 = load32(l4);
-        store32(l4, t551 + (l32 ^ 4294967295u));
-        l1 = 1u;
+        if (l39 == 0) goto L1;
+        const u32 t612 = load32(l0 + 16ull);
+        l1 = t612;
+        l5 = (u64)(l1 + l40);
+        l6 = (u64)((l1 + (l39 + l40))) - l5;
+        const u64 t613 = load64(l0);
+        l5 = t613 + (l5 << 3);
+        L614:;
+        {
+            l8 = l5 + 4ull;
+            const u32 t615 = load32(l8);
+            l2 = t615;
+            l1 = 0u;
+            l3 = 2u;
+            l37 = 0u;
+            {
+                {
+                    {
+                        const u32 t619 = load8(l5);
+                        l4 = t619;
+                        switch ((u32)(((u64)l4 & 255ull)) - 3u) {
+                        case 0: goto L616;
+                        case 1: goto L618;
+                        default: goto L617;
+                        }
+                    }
+                    L618:;
+                    l3 = 0u;
+                    l37 = l2;
+                    goto L616;
+                }
+                L617:;
+                const u32 t620 = load8(l5 + 1ull);
+                l37 = t620;
+                l1 = l2;
+                l3 = l4;
+            }
+            L616:;
+            store8(l5, (u8)l3);
+            store32(l8, l1);
+            store8(l5 + 1ull, (u8)l37);
+            l5 = l5 + 8ull;
+            l6 = l6 - 1ull;
+            if ((l6 == 0) == 0) goto L614;
+        }
     }
     L1:;
-    e->stack_pointer = l22 + 48ull;
-    return l1;
+    e->stack_pointer = l21 + 64ull;
+    return l38;
 }
 
 static void core_delivery_deliver(struct engine *e, u64 l0, u32 l1, u32 l2) {
@@ -13181,7 +13867,7 @@ static u32 store_index_index_fitting(struct engine *e, u64 l0, u32 l1) {
                         l3 = l4 << 3;
                         l10 = l2 << 3;
                         l2 = l8 + l10;
-                        if (l3 > (l2 - (TABLES + 780u))) {
+                        if (l3 > (l2 - (TABLES + 768u))) {
                             l3 = l4 & 3ull;
                             l5 = 0ull;
                             const u64 t15 = l8;
@@ -13630,9 +14316,9 @@ static void itoa_Buffer_format(struct engine *e, u64 l0, u64 l1, u32 l2) {
                 l4 = l4 / 10000ull;
                 l2 = (u32)((l6 - (l4 * 10000ull)));
                 l7 = (l2 & 65535u) / 100u;
-                const u32 t4 = load16(((u64)l7 << 1) + TABLES + 2812u);
+                const u32 t4 = load16(((u64)l7 << 1) + TABLES + 2800u);
                 store16(l5 - 4ull, (u16)t4);
-                const u32 t5 = load16((((u64)((l2 - (l7 * 100u))) & 65535ull) << 1) + TABLES + 2812u);
+                const u32 t5 = load16((((u64)((l2 - (l7 * 100u))) & 65535ull) << 1) + TABLES + 2800u);
                 store16(l5 - 2ull, (u16)t5);
                 l3 = l3 - 4ull;
                 if (l6 > 99999999ull) goto L3;
@@ -13646,14 +14332,14 @@ static void itoa_Buffer_format(struct engine *e, u64 l0, u64 l1, u32 l2) {
                     goto L6;
                 }
                 l3 = l3 - 2ull;
-                const u32 t9 = load16((l4 << 1) + TABLES + 2812u);
+                const u32 t9 = load16((l4 << 1) + TABLES + 2800u);
                 store16(l1 + l3, (u16)t9);
                 goto L6;
             }
             l2 = (u32)l4;
             const u32 t10 = l2;
             l2 = (l2 & 65535u) / 100u;
-            const u32 t11 = load16((((u64)((t10 - (l2 * 100u))) & 65535ull) << 1) + TABLES + 2812u);
+            const u32 t11 = load16((((u64)((t10 - (l2 * 100u))) & 65535ull) << 1) + TABLES + 2800u);
             store16((l1 + l3) - 2ull, (u16)t11);
             if (l4 <= 999ull) {
                 l3 = l3 - 3ull;
@@ -13661,7 +14347,7 @@ static void itoa_Buffer_format(struct engine *e, u64 l0, u64 l1, u32 l2) {
                 goto L6;
             }
             l3 = l3 - 4ull;
-            const u32 t13 = load16(((u64)l2 << 1) + TABLES + 2812u);
+            const u32 t13 = load16(((u64)l2 << 1) + TABLES + 2800u);
             store16(l1 + l3, (u16)t13);
         }
         L6:;
@@ -15412,6 +16098,116 @@ static u32 space_space_Space_copy_store(struct engine *e, u64 l0, u32 l1, u32 l2
     return 0;
 }
 
+static void store_borders_lay_borders(struct engine *e, u64 l0, u32 l1, u32 l2) {
+    u64 l3 = 0;
+    u64 l4 = 0;
+    u64 l5 = 0;
+    u64 l6 = 0;
+    u64 l7 = 0;
+    u32 l8 = 0;
+    u32 l9 = 0;
+    u32 l10 = 0;
+    u32 l11 = 0;
+    if ((i64)(e->stack_pointer - e->stack) >= (i64)16ull) {
+        l2 = l2 - l1;
+        if (l2 >= 2u) {
+            l6 = (u64)l2;
+            l2 = 0u;
+            l4 = 1ull;
+            L3:;
+            {
+                {
+                    {
+                        const u64 t6 = load64(l0);
+                        l7 = t6;
+                        const u32 t7 = load32(l0 + 16ull);
+                        l10 = t7;
+                        l5 = l7 + ((u64)(l10 + l1) << 3);
+                        l3 = l5 + (l4 << 3);
+                        const u32 t8 = load8(l3);
+                        if (t8 == 0) {
+                            const u32 t10 = load8(l3 + 1ull);
+                            l9 = t10;
+                            goto L5;
+                        }
+                        l8 = 3u;
+                        if (l2 == 0) {
+                            l9 = 0u;
+                            l2 = 0u;
+                            goto L4;
+                        }
+                        L12:;
+                        {
+                            l9 = 0u;
+                            l3 = l5 + ((u64)l2 << 3);
+                            const u32 t13 = load8(l3 - 8ull);
+                            if (((t13 - 5u) & 255u) < 254u) {
+                                l2 = 0u;
+                                goto L4;
+                            }
+                            const u32 t15 = load32(l3 - 4ull);
+                            l2 = t15 >> 8;
+                            if (l2) goto L12;
+                        }
+                        l2 = 0u;
+                        goto L4;
+                    }
+                    L5:;
+                    u32 v16;
+                    {
+                        L17:;
+                        {
+                            l8 = 0u;
+                            {
+                                {
+                                    {
+                                        l3 = l5 + ((u64)l2 << 3);
+                                        const u32 t21 = load8(l3);
+                                        l11 = t21;
+                                        switch ((u32)(((u64)l11 & 255ull)) - 3u) {
+                                        case 0: goto L18;
+                                        case 1: goto L20;
+                                        default: goto L19;
+                                        }
+                                    }
+                                    L20:;
+                                    const u32 t22 = load32(l3 + 4ull);
+                                    l8 = t22;
+                                    goto L18;
+                                }
+                                L19:;
+                                const u32 t23 = load8(l3 + 1ull);
+                                l8 = l11 ? 0u : t23;
+                            }
+                            L18:;
+                            if ((l8 & 255u) != l9) {
+                                if (l2 == 0) { v16 = 0u; goto L16; }
+                                const u32 t25 = load32(l3 - 4ull);
+                                const u32 t26 = load8(l3 - 8ull);
+                                l2 = (((t26 - 3u) & 255u) < 2u) ? (t25 >> 8) : 0u;
+                                goto L17;
+                            }
+                        }
+                        v16 = l2 + 1u;
+                    }
+                    L16:;
+                    l2 = v16;
+                    l8 = 4u;
+                }
+                L4:;
+                l3 = l7 + ((u64)(((l1 + (u32)l4) + l10)) << 3);
+                store8(l3, (u8)l8);
+                store32(l3 + 4ull, (l2 << 8) | l9);
+                store8(l3 + 1ull, (u8)0u);
+                l4 = l4 + 1ull;
+                if (l4 != l6) goto L3;
+            }
+        }
+        return;
+    }
+    trap();
+}
+
 static void space_space_Space_write_part(struct engine *e, u64 l0, u32 l1, u32 l2, u32 l3) {
     u64 l4 = 0;
     u64 l5 = 0;
@@ -15983,8 +16779,36 @@ static void space_space_Space_remove_store(struct engine *e, u64 l0, u32 l1, u32
     trap();
 }
 
-static void space_filling_fill_each(struct engine *e, u64 l0, u64 l1, u64 l2, u64 l3, u64 l4, u64 l5) {
-    u64 l6 = 0;
+static u32 forms_work_Work_fill_body(struct engine *e, u64 l0, u32 l1, u32 l2, u32 l3) {
+    u64 l4 = 0;
+    l4 = e->stack_pointer;
+    if ((i64)(l4 - e->stack) >= (i64)16ull) {
+        const u32 t2 = load32(l0 + 44ull);
+        if (l1 != t2) {
+            const u32 t4 = forms_work_Work_fill_other(e, l0, l1, l2, l3);
+            l1 = t4;
+            e->stack_pointer = l4;
+            return l1;
+        }
+        const u64 t5 = load64(l0);
+        const u32 t6 = load32(l0 + 48ull);
+        l1 = t6;
+        const u64 t7 = l0;
+        l0 = t5 + ((u64)l1 << 3);
+        const u32 t8 = load32(l0 + 20ull);
+        const u32 t9 = load32(l0 + 4ull);
+        l1 = (l1 + t9) + 3u;
+        const u32 t10 = load32(l0 + 12ull);
+        const u32 t11 = store_fill_fill_items(e, t7, t8 + l1, l1 + t10, l2, l3);
+        l1 = t11;
+        e->stack_pointer = l4;
+        return l1;
+    }
+    trap();
+    return 0;
+}
+
+static void space_filling_fill_each(struct engine *e, u64 l0, u64 l1, u64 l2, u64 l3, u64 l4, u64 l5, u64 l6) {
     u64 l7 = 0;
     u64 l8 = 0;
     u64 l9 = 0;
@@ -16007,772 +16831,703 @@ static void space_filling_fill_each(struct engine *e, u64 l0, u64 l1, u64 l2, u6
     u32 l26 = 0;
     u32 l27 = 0;
     u32 l28 = 0;
-    {
-        {
-            if ((i64)(e->stack_pointer - e->stack) >= (i64)16ull) {
-                l27 = 1u;
-                if (l2 >= l3) goto L1;
-                const u64 t4 = load64(l5);
-                l15 = t4;
-                l17 = l15 << 3;
-                const u64 t5 = load64(l5 + 24u);
-                l18 = t5;
-                const u64 t6 = load64(l5 + 16u);
-                l16 = t6;
-                l19 = l18 + l16;
-                L7:;
-                {
-                    {
-                        {
-                            {
-                                {
-                                    l5 = l1 + (l2 << 3);
-                                    const u32 t12 = load8(l5);
-                                    l26 = t12;
-                                    if (l26) {
-                                        const u32 t14 = load32(l5 + 4ull);
-                                        l5 = (l26 == 3u) ? (u64)(t14 - 1u) : 4294967295ull;
-                                        if (l5 >= l18) {
-                                            l9 = 0ull;
-                                            goto L8;
-                                        }
-                                        l5 = l1 + ((l19 - l5) << 3);
-                                        const u64 t16 = load32(l5 - 4ull);
-                                        const u64 t17 = load32(l5 + 4ull);
-                                        l5 = t17;
-                                        l9 = t16 + (l5 ^ 18446744073709551615ull);
-                                        if (l9 <= (l16 - l4)) goto L11;
-                                        goto L2;
-                                    }
-                                    l10 = l2;
-                                    if (l4 == l16) goto L2;
-                                    goto L10;
-                                }
-                                L11:;
-                                l10 = l5 + l15;
-                                if (l9 != 1ull) goto L9;
-                            }
-                            L10:;
-                            l5 = l1 + (l4 << 3);
-                            l6 = l1 + (l10 << 3);
-                            const u32 t18 = load16(l6);
-                            store16(l5, (u16)t18);
-                            const u32 t19 = load32(l6 + 4ull);
-                            store32(l5 + 4ull, t19);
-                            l9 = 1ull;
-                            goto L8;
-                        }
-                        L9:;
-                        l7 = (l4 - l10) & 4294967295ull;
-                        if (l9 >= 8ull) {
-                            if (l9 != 8ull) {
-                                l12 = l17 + (l5 << 3);
-                                l13 = ((l5 + l15) + l7) << 3;
-                                l11 = l9;
-                                l8 = l1;
-                                L22:;
-                                {
-                                    l5 = l8 + l12;
-                                    l6 = l8 + l13;
-                                    {
-                                        if (l7 <= 7ull) {
-                                            const u32 t25 = load8(l5 + 1ull);
-                                            l26 = t25;
-                                            const u32 t26 = load8(l5);
-                                            l28 = t26;
-                                            const u32 t27 = load32(l5 + 4ull);
-                                            store32(l6 + 4ull, t27);
-                                            store8(l6 + 1ull, (u8)l26);
-                                            store8(l6, (u8)l28);
-                                            const u32 t28 = load16(l5 + 8ull);
-                                            l26 = t28;
-                                            const u32 t29 = load32(l5 + 12ull);
-                                            store32(l6 + 12ull, t29);
-                                            store16(l6 + 8ull, (u16)l26);
-                                            const u32 t30 = load16(l5 + 16ull);
-                                            l26 = t30;
-                                            const u32 t31 = load32(l5 + 20ull);
-                                            store32(l6 + 20ull, t31);
-                                            store16(l6 + 16ull, (u16)l26);
-                                            const u32 t32 = load16(l5 + 24ull);
-                                            l26 = t32;
-                                            const u32 t33 = load32(l5 + 28ull);
-                                            store32(l6 + 28ull, t33);
-                                            store16(l6 + 24ull, (u16)l26);
-                                            const u32 t34 = load16(l5 + 32ull);
-                                            l26 = t34;
-                                            const u32 t35 = load32(l5 + 36ull);
-                                            store32(l6 + 36ull, t35);
-                                            store16(l6 + 32ull, (u16)l26);
-                                            const u32 t36 = load16(l5 + 40ull);
-                                            l26 = t36;
-                                            const u32 t37 = load32(l5 + 44ull);
-                                            store32(l6 + 44ull, t37);
-                                            store16(l6 + 40ull, (u16)l26);
-                                            const u32 t38 = load16(l5 + 48ull);
-                                            l26 = t38;
-                                            const u32 t39 = load32(l5 + 52ull);
-                                            store32(l6 + 52ull, t39);
-                                            store16(l6 + 48ull, (u16)l26);
-                                            const u32 t40 = load16(l5 + 56ull);
-                                            l26 = t40;
-                                            const u32 t41 = load32(l5 + 60ull);
-                                            store32(l6 + 60ull, t41);
-                                            store16(l6 + 56ull, (u16)l26);
-                                            goto L23;
-                                        }
-                                        const u64 t42 = load64(l5);
-                                        l14 = t42;
-                                        const u64 t43 = load64(l5 + 8u);
-                                        l20 = t43;
-                                        const u64 t44 = load64(l5 + 16u);
-                                        l21 = t44;
-                                        const u64 t45 = load64(l5 + 24u);
-                                        l22 = t45;
-                                        const u64 t46 = load64(l5 + 32u);
-                                        l23 = t46;
-                                        const u64 t47 = load64(l5 + 40u);
-                                        l24 = t47;
-                                        const u64 t48 = load64(l5 + 48u);
-                                        l25 = t48;
-                                        const u64 t49 = load64(l5 + 56u);
-                                        store64(l6 + 56u, t49);
-                                        store64(l6 + 48u, l25);
-                                        store64(l6 + 40u, l24);
-                                        store64(l6 + 32u, l23);
-                                        store64(l6 + 24u, l22);
-                                        store64(l6 + 16u, l21);
-                                        store64(l6 + 8u, l20);
-                                        store64(l6, l14);
-                                    }
-                                    L23:;
-                                    l8 = l8 + 64ull;
-                                    l11 = l11 - 8ull;
-                                    if (l11 > 8ull) goto L22;
-                                }
-                            }
-                            l6 = (l9 + l10) - 8ull;
-                            l5 = l1 + (l6 << 3);
-                            l6 = l1 + ((l6 + l7) << 3);
-                            if (l7 <= 7ull) {
-                                const u32 t51 = load16(l5);
-                                store16(l6, (u16)t51);
-                                const u32 t52 = load32(l5 + 4ull);
-                                store32(l6 + 4ull, t52);
-                                const u32 t53 = load16(l5 + 8u);
-                                store16(l6 + 8u, (u16)t53);
-                                const u32 t54 = load32(l5 + 12ull);
-                                store32(l6 + 12ull, t54);
-                                const u32 t55 = load16(l5 + 16u);
-                                store16(l6 + 16u, (u16)t55);
-                                const u32 t56 = load32(l5 + 20ull);
-                                store32(l6 + 20ull, t56);
-                                const u32 t57 = load16(l5 + 24u);
-                                store16(l6 + 24u, (u16)t57);
-                                const u32 t58 = load32(l5 + 28ull);
-                                store32(l6 + 28ull, t58);
-                                const u32 t59 = load16(l5 + 32u);
-                                store16(l6 + 32u, (u16)t59);
-                                const u32 t60 = load32(l5 + 36ull);
-                                store32(l6 + 36ull, t60);
-                                const u32 t61 = load16(l5 + 40u);
-                                store16(l6 + 40u, (u16)t61);
-                                const u32 t62 = load32(l5 + 44ull);
-                                store32(l6 + 44ull, t62);
-                                const u32 t63 = load16(l5 + 48u);
-                                store16(l6 + 48u, (u16)t63);
-                                const u32 t64 = load32(l5 + 52ull);
-                                store32(l6 + 52ull, t64);
-                                const u32 t65 = load16(l5 + 56u);
-                                store16(l6 + 56u, (u16)t65);
-                                const u32 t66 = load32(l5 + 60ull);
-                                store32(l6 + 60ull, t66);
-                                goto L8;
-                            }
-                            const u64 t67 = load64(l5);
-                            l8 = t67;
-                            const u64 t68 = load64(l5 + 8u);
-                            l11 = t68;
-                            const u64 t69 = load64(l5 + 16u);
-                            l7 = t69;
-                            const u64 t70 = load64(l5 + 24u);
-                            l10 = t70;
-                            const u64 t71 = load64(l5 + 32u);
-                            l12 = t71;
-                            const u64 t72 = load64(l5 + 40u);
-                            l13 = t72;
-                            const u64 t73 = load64(l5 + 48u);
-                            l14 = t73;
-                            const u64 t74 = load64(l5 + 56u);
-                            store64(l6 + 56u, t74);
-                            store64(l6 + 48u, l14);
-                            store64(l6 + 40u, l13);
-                            store64(l6 + 32u, l12);
-                            store64(l6 + 24u, l10);
-                            store64(l6 + 16u, l7);
-                            store64(l6 + 8u, l11);
-                            store64(l6, l8);
-                            goto L8;
-                        }
-                        if (l9 >= 4ull) {
-                            l5 = l1 + (l10 << 3);
-                            l6 = l1 + ((l7 + l10) << 3);
-                            {
-                                if (l7 <= 3ull) {
-                                    const u32 t78 = load16(l5);
-                                    store16(l6, (u16)t78);
-                                    const u32 t79 = load32(l5 + 4ull);
-                                    store32(l6 + 4ull, t79);
-                                    const u32 t80 = load16(l5 + 8u);
-                                    store16(l6 + 8u, (u16)t80);
-                                    const u32 t81 = load32(l5 + 12ull);
-                                    store32(l6 + 12ull, t81);
-                                    const u32 t82 = load16(l5 + 16u);
-                                    store16(l6 + 16u, (u16)t82);
-                                    const u32 t83 = load32(l5 + 20ull);
-                                    store32(l6 + 20ull, t83);
-                                    const u32 t84 = load16(l5 + 24u);
-                                    store16(l6 + 24u, (u16)t84);
-                                    const u32 t85 = load32(l5 + 28ull);
-                                    store32(l6 + 28ull, t85);
-                                    goto L76;
-                                }
-                                const u64 t86 = load64(l5);
-                                l8 = t86;
-                                const u64 t87 = load64(l5 + 8u);
-                                l11 = t87;
-                                const u64 t88 = load64(l5 + 16u);
-                                l12 = t88;
-                                const u64 t89 = load64(l5 + 24u);
-                                store64(l6 + 24u, t89);
-                                store64(l6 + 16u, l12);
-                                store64(l6 + 8u, l11);
-                                store64(l6, l8);
-                            }
-                            L76:;
-                            l6 = (l9 + l10) - 4ull;
-                            l5 = l1 + (l6 << 3);
-                            l6 = l1 + ((l6 + l7) << 3);
-                            if (l7 <= 3ull) {
-                                const u32 t91 = load16(l5);
-                                store16(l6, (u16)t91);
-                                const u32 t92 = load32(l5 + 4ull);
-                                store32(l6 + 4ull, t92);
-                                const u32 t93 = load16(l5 + 8u);
-                                store16(l6 + 8u, (u16)t93);
-                                const u32 t94 = load32(l5 + 12ull);
-                                store32(l6 + 12ull, t94);
-                                const u32 t95 = load16(l5 + 16u);
-                                store16(l6 + 16u, (u16)t95);
-                                const u32 t96 = load32(l5 + 20ull);
-                                store32(l6 + 20ull, t96);
-                                const u32 t97 = load16(l5 + 24u);
-                                store16(l6 + 24u, (u16)t97);
-                                const u32 t98 = load32(l5 + 28ull);
-                                store32(l6 + 28ull, t98);
-                                goto L8;
-                            }
-                            const u64 t99 = load64(l5);
-                            l8 = t99;
-                            const u64 t100 = load64(l5 + 8u);
-                            l11 = t100;
-                            const u64 t101 = load64(l5 + 16u);
-                            l7 = t101;
-                            const u64 t102 = load64(l5 + 24u);
-                            store64(l6 + 24u, t102);
-                            store64(l6 + 16u, l7);
-                            store64(l6 + 8u, l11);
-                            store64(l6, l8);
-                            goto L8;
-                        }
-                        if (l9 == 0) {
-                            l9 = 0ull;
-                            goto L8;
-                        }
-                        l5 = l1 + (l10 << 3);
-                        l6 = l1 + ((l7 + l10) << 3);
-                        {
-                            if (l7 <= 1ull) {
-                                const u32 t106 = load16(l5);
-                                store16(l6, (u16)t106);
-                                const u32 t107 = load32(l5 + 4ull);
-                                store32(l6 + 4ull, t107);
-                                const u32 t108 = load16(l5 + 8u);
-                                store16(l6 + 8u, (u16)t108);
-                                const u32 t109 = load32(l5 + 12ull);
-                                store32(l6 + 12ull, t109);
-                                goto L104;
-                            }
-                            const u64 t110 = load64(l5);
-                            l8 = t110;
-                            const u64 t111 = load64(l5 + 8u);
-                            store64(l6 + 8u, t111);
-                            store64(l6, l8);
-                        }
-                        L104:;
-                        l6 = (l9 + l10) - 2ull;
-                        l5 = l1 + (l6 << 3);
-                        l6 = l1 + ((l6 + l7) << 3);
-                        if (l7 <= 1ull) {
-                            const u32 t113 = load16(l5);
-                            store16(l6, (u16)t113);
-                            const u32 t114 = load32(l5 + 4ull);
-                            store32(l6 + 4ull, t114);
-                            const u32 t115 = load16(l5 + 8u);
-                            store16(l6 + 8u, (u16)t115);
-                            const u32 t116 = load32(l5 + 12ull);
-                            store32(l6 + 12ull, t116);
-                            goto L8;
-                        }
-                        const u64 t117 = load64(l5);
-                        l8 = t117;
-                        const u64 t118 = load64(l5 + 8u);
-                        store64(l6 + 8u, t118);
-                        store64(l6, l8);
-                    }
-                    L8:;
-                    l4 = l4 + l9;
-                    l2 = l2 + 1ull;
-                    if (l2 != l3) goto L7;
-                }
-                goto L1;
-            }
-            trap();
-        }
-        L2:;
-        l27 = 0u;
-        l4 = 0ull;
-    }
-    L1:;
-    store64(l0 + 8u, l4);
-    store8(l0, (u8)l27);
-}
-
-static u32 store_fill_fill_without_list(struct engine *e, u64 l0, u32 l1, u32 l2, u32 l3, u32 l4) {
-    u64 l5 = 0;
-    u64 l6 = 0;
-    u64 l7 = 0;
-    u64 l8 = 0;
-    u64 l9 = 0;
-    u64 l10 = 0;
-    u64 l11 = 0;
-    u64 l12 = 0;
-    u64 l13 = 0;
-    u64 l14 = 0;
-    u64 l15 = 0;
-    u64 l16 = 0;
-    u64 l17 = 0;
-    u64 l18 = 0;
-    u64 l19 = 0;
-    u64 l20 = 0;
-    u64 l21 = 0;
-    u64 l22 = 0;
-    u32 l23 = 0;
-    u32 l24 = 0;
-    u32 l25 = 0;
-    u32 l26 = 0;
-    u32 l27 = 0;
-    u32 l28 = 0;
     u32 l29 = 0;
     u32 l30 = 0;
-    l5 = e->stack_pointer - 16ull;
-    e->stack_pointer = l5;
-    {
+    u32 l31 = 0;
+    if ((i64)(e->stack_pointer - e->stack) >= (i64)16ull) {
+        l31 = 1u;
         {
-            l12 = l5;
-            if ((i64)(l12 - e->stack) >= (i64)16ull) {
-                space_space_Space_move_active(e, l0, 0u);
-                const u32 t4 = load32(l0 + 28ull);
-                const u32 t5 = load32(l0 + 24ull);
-                const u32 t6 = load32(l0 + 20ull);
-                l27 = t6;
-                const u32 t7 = load32(l0 + 16ull);
-                l23 = t7;
-                l24 = t4 - (t5 + (l27 + l23));
-                l25 = l27;
-                L8:;
+            if (l2 >= l3) goto L2;
+            const u64 t3 = load64(l6 + 8u);
+            l25 = t3;
+            const u64 t4 = load64(l6 + 16u);
+            l24 = t4;
+            const u64 t5 = load64(l6);
+            l17 = t5;
+            l18 = l24 + l17;
+            L6:;
+            {
                 {
-                    l26 = l2 - l1;
-                    l26 = (l24 > l26) ? l26 : l24;
-                    l13 = (u64)l26;
-                    l25 = l23 + l25;
-                    const u64 t9 = load64(l0);
-                    l11 = t9;
-                    l14 = (u64)l1;
-                    l8 = 0ull;
-                    u64 v10;
+                    u64 v8;
                     {
-                        u64 v11;
                         {
-                            if (l26 < 8u) {
-                                l9 = l13;
-                                v11 = 0ull; goto L11;
-                            }
-                            l15 = l14 << 3;
-                            l23 = l25 - l1;
-                            l16 = (l14 + (u64)l23) << 3;
-                            l10 = 0ull;
-                            l7 = l11;
-                            L13:;
                             {
-                                l5 = l7 + l15;
-                                l6 = l7 + l16;
+                                u64 v11;
                                 {
-                                    if (l23 <= 7u) {
-                                        const u32 t16 = load8(l5);
-                                        store8(l6, (u8)t16);
-                                        const u32 t17 = load8(l5 + 1ull);
-                                        store8(l6 + 1ull, (u8)t17);
-                                        const u32 t18 = load32(l5 + 4ull);
-                                        store32(l6 + 4ull, t18);
-                                        const u32 t19 = load16(l5 + 8ull);
-                                        store16(l6 + 8ull, (u16)t19);
-                                        const u32 t20 = load32(l5 + 12ull);
-                                        store32(l6 + 12ull, t20);
-                                        const u32 t21 = load16(l5 + 16ull);
-                                        store16(l6 + 16ull, (u16)t21);
-                                        const u32 t22 = load32(l5 + 20ull);
-                                        store32(l6 + 20ull, t22);
-                                        const u32 t23 = load16(l5 + 24ull);
-                                        store16(l6 + 24ull, (u16)t23);
-                                        const u32 t24 = load32(l5 + 28ull);
-                                        store32(l6 + 28ull, t24);
-                                        const u32 t25 = load16(l5 + 32ull);
-                                        store16(l6 + 32ull, (u16)t25);
-                                        const u32 t26 = load32(l5 + 36ull);
-                                        store32(l6 + 36ull, t26);
-                                        const u32 t27 = load16(l5 + 40ull);
-                                        store16(l6 + 40ull, (u16)t27);
-                                        const u32 t28 = load32(l5 + 44ull);
-                                        store32(l6 + 44ull, t28);
-                                        const u32 t29 = load16(l5 + 48ull);
-                                        store16(l6 + 48ull, (u16)t29);
-                                        const u32 t30 = load32(l5 + 52ull);
-                                        store32(l6 + 52ull, t30);
-                                        const u32 t31 = load16(l5 + 56ull);
-                                        l26 = t31;
-                                        const u32 t32 = load32(l5 + 60ull);
-                                        store32(l6 + 60ull, t32);
-                                        store16(l6 + 56ull, (u16)l26);
-                                        goto L14;
+                                    l6 = l1 + (l2 << 3);
+                                    const u32 t12 = load8(l6);
+                                    l26 = t12;
+                                    if (l26 == 0) {
+                                        l11 = l2;
+                                        v11 = 1ull; goto L11;
                                     }
-                                    const u64 t33 = load64(l5);
-                                    l9 = t33;
-                                    const u64 t34 = load64(l5 + 8u);
-                                    l17 = t34;
-                                    const u64 t35 = load64(l5 + 16u);
-                                    l18 = t35;
-                                    const u64 t36 = load64(l5 + 24u);
-                                    l19 = t36;
-                                    const u64 t37 = load64(l5 + 32u);
-                                    l20 = t37;
-                                    const u64 t38 = load64(l5 + 40u);
-                                    l21 = t38;
-                                    const u64 t39 = load64(l5 + 48u);
-                                    l22 = t39;
-                                    const u64 t40 = load64(l5 + 56u);
-                                    store64(l6 + 56u, t40);
-                                    store64(l6 + 48u, l22);
-                                    store64(l6 + 40u, l21);
-                                    store64(l6 + 32u, l20);
-                                    store64(l6 + 24u, l19);
-                                    store64(l6 + 16u, l18);
-                                    store64(l6 + 8u, l17);
-                                    store64(l6, l9);
+                                    const u32 t14 = load32(l6 + 4ull);
+                                    l6 = (l26 == 3u) ? (u64)(t14 - 1u) : 4294967295ull;
+                                    if (l24 < l6) goto L10;
+                                    l8 = l25;
+                                    u64 v15;
+                                    if (l6 == 0) {
+                                        v15 = 0ull;
+                                    } else {
+                                        const u32 t16 = load32((l1 + ((l6 + l17) << 3)) - 4ull);
+                                        v15 = (u64)(((t16 >> 8) + 1u));
+                                    }
+                                    l7 = v15;
+                                    l11 = l7 + l17;
+                                    u64 v17;
+                                    if (l6 != l24) {
+                                        const u32 t18 = load32((l1 + ((l6 + l17) << 3)) + 4ull);
+                                        v17 = (u64)(t18 >> 8);
+                                    } else {
+                                        v17 = l8;
+                                    }
+                                    v11 = v17 - l7;
                                 }
-                                L14:;
-                                const u32 t41 = load8(l5);
-                                if (t41) { v10 = 0ull - l10; goto L10; }
-                                const u32 t42 = load8(l5 + 8ull);
-                                if (t42) { v10 = 1ull - l10; goto L10; }
-                                const u32 t43 = load8(l5 + 16ull);
-                                if (t43) { v10 = 2ull - l10; goto L10; }
-                                const u32 t44 = load8(l5 + 24ull);
-                                if (t44) { v10 = 3ull - l10; goto L10; }
-                                const u32 t45 = load8(l5 + 32ull);
-                                if (t45) { v10 = 4ull - l10; goto L10; }
-                                const u32 t46 = load8(l5 + 40ull);
-                                if (t46) { v10 = 5ull - l10; goto L10; }
-                                const u32 t47 = load8(l5 + 48ull);
-                                if (t47) { v10 = 6ull - l10; goto L10; }
-                                const u32 t48 = load8(l5 + 56ull);
-                                if (t48) { v10 = 7ull - l10; goto L10; }
-                                l7 = l7 + 64ull;
-                                l10 = l10 - 8ull;
-                                l9 = l13 + l10;
-                                if (l9 > 7ull) goto L13;
+                                L11:;
+                                l12 = v11;
+                                if (l12 <= (l5 - l4)) goto L9;
+                                l31 = 0u;
+                                l4 = 0ull;
+                                goto L2;
                             }
-                            v11 = 0ull - l10;
+                            L10:;
+                            l9 = 0ull;
+                            l11 = l17;
+                            if (l18 > l11) { v8 = l9; goto L8; }
+                            goto L7;
                         }
-                        L11:;
-                        l7 = v11;
-                        {
-                            if (l9 == 0) goto L49;
-                            l6 = l11 + ((l7 + l14) << 3);
-                            l5 = l11 + ((l7 + (u64)l25) << 3);
-                            L50:;
-                            {
-                                const u32 t51 = load8(l6);
-                                if (t51) goto L49;
-                                const u32 t52 = load8(l6 + 1ull);
-                                l23 = t52;
-                                store32(l5 + 4ull, 0u);
-                                store8(l5 + 1ull, (u8)l23);
-                                store8(l5, (u8)0u);
-                                l6 = l6 + 8ull;
-                                l5 = l5 + 8ull;
-                                l8 = l8 + 1ull;
-                                if (l9 != l8) goto L50;
+                        L9:;
+                        if (l11 >= l18) {
+                            l9 = 1ull;
+                            if (l12 == 1ull) {
+                                l6 = l1 + (l4 << 3);
+                                l7 = l1 + (l11 << 3);
+                                const u32 t21 = load16(l7);
+                                store16(l6, (u16)t21);
+                                const u32 t22 = load32(l7 + 4ull);
+                                store32(l6 + 4ull, t22);
+                                goto L7;
                             }
-                            l8 = l9;
-                        }
-                        L49:;
-                        v10 = l7 + l8;
-                    }
-                    L10:;
-                    l5 = v10;
-                    l6 = l0 + 20ull;
-                    l23 = (u32)l5;
-                    const u32 t53 = load32(l6);
-                    l29 = l23 + t53;
-                    store32(l6, l29);
-                    l26 = l1 + l23;
-                    l30 = l26 == l2;
-                    if (l30) goto L1;
-                    const u64 t54 = load64(l0);
-                    l5 = t54;
-                    l6 = l5 + ((u64)l26 << 3);
-                    const u32 t55 = load8(l6);
-                    l28 = t55;
-                    if (l28 == 0) {
-                        const u32 t57 = load32(l0 + 16ull);
-                        l23 = t57;
-                        goto L2;
-                    }
-                    l25 = l24 - l23;
-                    l1 = 0u;
-                    u32 v58;
-                    {
-                        if (l28 != 3u) { v58 = 0u; goto L58; }
-                        const u32 t59 = load32(l6 + 4ull);
-                        l23 = t59;
-                        if (l23 == 0) { v58 = 0u; goto L58; }
-                        l9 = l0;
-                        l24 = l3;
-                        l1 = l4;
-                        l11 = l12 + 8ull;
-                        const u64 t60 = l11;
-                        u32 v61;
-                        {
-                            {
-                                {
-                                    l13 = e->stack_pointer;
-                                    if ((i64)(l13 - e->stack) >= (i64)16ull) {
-                                        if (l23 >= 2u) {
-                                            l23 = l23 - 1u;
-                                            L66:;
-                                            {
-                                                if (l1 < l24) goto L62;
-                                                const u64 t67 = load64(l9);
-                                                const u32 t68 = load32(l9 + 16ull);
-                                                l28 = t68;
-                                                l8 = (u64)(l28 + l24);
-                                                l7 = t67 + (l8 << 3);
-                                                u32 v69;
-                                                {
-                                                    {
-                                                        l8 = (u64)(l1 + l28) - l8;
-                                                        if (l8 <= 3ull) {
-                                                            {
-                                                                const u64 t73 = l8;
-                                                                u64 v74;
-                                                                if (l8 < 2ull) {
-                                                                    v74 = 0ull;
-                                                                } else {
-                                                                    const u32 t75 = load8(l7);
-                                                                    if (t75 == 2u) { v69 = 0u; goto L69; }
-                                                                    const u32 t76 = load8(l7 + 8u);
-                                                                    if (t76 == 2u) goto L70;
-                                                                    v74 = 2ull;
-                                                                }
-                                                                l8 = v74;
-                                                                if (t73 <= l8) goto L72;
-                                                                const u32 t77 = load8(l7 + (l8 << 3));
-                                                                if (t77 == 2u) goto L72;
-                                                                v69 = (u32)l8 | 1u; goto L69;
-                                                            }
-                                                            L72:;
-                                                            v69 = (u32)l8; goto L69;
-                                                        }
-                                                        const u32 t78 = load8(l7);
-                                                        if (t78 == 2u) { v69 = 0u; goto L69; }
-                                                        const u32 t79 = load8(l7 + 8u);
-                                                        if (t79 == 2u) { v69 = 1u; goto L69; }
-                                                        const u32 t80 = load8(l7 + 16u);
-                                                        if (t80 == 2u) { v69 = 2u; goto L69; }
-                                                        const u32 t81 = load8(l7 + 24u);
-                                                        if (t81 == 2u) { v69 = 3u; goto L69; }
-                                                        const u32 t82 = store_arguments_before_far_comma(e, l7, l8);
-                                                        v69 = t82; goto L69;
-                                                    }
-                                                    L70:;
-                                                    v69 = 1u;
-                                                }
-                                                L69:;
-                                                l24 = (v69 + l24) + 1u;
-                                                l23 = l23 - 1u;
-                                                if (l23) goto L66;
-                                            }
-                                        }
-                                        if (l1 < l24) goto L62;
-                                        const u64 t83 = load64(l9);
-                                        const u32 t84 = load32(l9 + 16ull);
-                                        l23 = t84;
-                                        l9 = (u64)(l23 + l24);
-                                        l7 = t83 + (l9 << 3);
+                            l10 = (l4 - l11) & 4294967295ull;
+                            if (l12 >= 8ull) {
+                                if (l12 != 8ull) {
+                                    l13 = l11 << 3;
+                                    l14 = (l10 + l11) << 3;
+                                    l9 = l12;
+                                    l8 = l1;
+                                    L25:;
+                                    {
+                                        l6 = l8 + l13;
+                                        l7 = l8 + l14;
                                         {
-                                            l9 = (u64)(l1 + l23) - l9;
-                                            if (l9 <= 3ull) {
-                                                {
-                                                    u64 v88;
-                                                    if (l9 < 2ull) {
-                                                        v88 = 0ull;
-                                                    } else {
-                                                        const u32 t89 = load8(l7);
-                                                        if (t89 == 2u) {
-                                                            l1 = 0u;
-                                                            goto L63;
-                                                        }
-                                                        const u32 t91 = load8(l7 + 8u);
-                                                        if (t91 == 2u) goto L85;
-                                                        v88 = 2ull;
-                                                    }
-                                                    l8 = v88;
-                                                    if (l8 >= l9) goto L87;
-                                                    const u32 t92 = load8(l7 + (l8 << 3));
-                                                    if (t92 == 2u) goto L87;
-                                                    l1 = (u32)l8 | 1u;
-                                                    goto L63;
-                                                }
-                                                L87:;
-                                                l1 = (u32)l8;
-                                                goto L63;
+                                            if (l10 <= 7ull) {
+                                                const u32 t28 = load8(l6);
+                                                store8(l7, (u8)t28);
+                                                const u32 t29 = load8(l6 + 1ull);
+                                                store8(l7 + 1ull, (u8)t29);
+                                                const u32 t30 = load32(l6 + 4ull);
+                                                store32(l7 + 4ull, t30);
+                                                const u32 t31 = load16(l6 + 8ull);
+                                                store16(l7 + 8ull, (u16)t31);
+                                                const u32 t32 = load32(l6 + 12ull);
+                                                store32(l7 + 12ull, t32);
+                                                const u32 t33 = load16(l6 + 16ull);
+                                                store16(l7 + 16ull, (u16)t33);
+                                                const u32 t34 = load32(l6 + 20ull);
+                                                store32(l7 + 20ull, t34);
+                                                const u32 t35 = load16(l6 + 24ull);
+                                                store16(l7 + 24ull, (u16)t35);
+                                                const u32 t36 = load32(l6 + 28ull);
+                                                store32(l7 + 28ull, t36);
+                                                const u32 t37 = load16(l6 + 32ull);
+                                                store16(l7 + 32ull, (u16)t37);
+                                                const u32 t38 = load32(l6 + 36ull);
+                                                store32(l7 + 36ull, t38);
+                                                const u32 t39 = load16(l6 + 40ull);
+                                                store16(l7 + 40ull, (u16)t39);
+                                                const u32 t40 = load32(l6 + 44ull);
+                                                store32(l7 + 44ull, t40);
+                                                const u32 t41 = load16(l6 + 48ull);
+                                                store16(l7 + 48ull, (u16)t41);
+                                                const u32 t42 = load32(l6 + 52ull);
+                                                store32(l7 + 52ull, t42);
+                                                const u32 t43 = load16(l6 + 56ull);
+                                                l26 = t43;
+                                                const u32 t44 = load32(l6 + 60ull);
+                                                store32(l7 + 60ull, t44);
+                                                store16(l7 + 56ull, (u16)l26);
+                                                goto L26;
                                             }
-                                            const u32 t93 = load8(l7);
-                                            if (t93 == 2u) {
-                                                l1 = 0u;
-                                                goto L63;
-                                            }
-                                            const u32 t95 = load8(l7 + 8u);
-                                            if (t95 == 2u) {
-                                                l1 = 1u;
-                                                goto L63;
-                                            }
-                                            l1 = 2u;
-                                            const u32 t97 = load8(l7 + 16u);
-                                            if (t97 == 2u) goto L63;
-                                            const u32 t98 = load8(l7 + 24u);
-                                            if (t98 == 2u) {
-                                                l1 = 3u;
-                                                goto L63;
-                                            }
-                                            const u32 t100 = store_arguments_before_far_comma(e, l7, l9);
-                                            l1 = t100;
-                                            goto L63;
+                                            const u64 t45 = load64(l6);
+                                            l15 = t45;
+                                            const u64 t46 = load64(l6 + 8u);
+                                            l16 = t46;
+                                            const u64 t47 = load64(l6 + 16u);
+                                            l19 = t47;
+                                            const u64 t48 = load64(l6 + 24u);
+                                            l20 = t48;
+                                            const u64 t49 = load64(l6 + 32u);
+                                            l21 = t49;
+                                            const u64 t50 = load64(l6 + 40u);
+                                            l22 = t50;
+                                            const u64 t51 = load64(l6 + 48u);
+                                            l23 = t51;
+                                            const u64 t52 = load64(l6 + 56u);
+                                            store64(l7 + 56u, t52);
+                                            store64(l7 + 48u, l23);
+                                            store64(l7 + 40u, l22);
+                                            store64(l7 + 32u, l21);
+                                            store64(l7 + 24u, l20);
+                                            store64(l7 + 16u, l19);
+                                            store64(l7 + 8u, l16);
+                                            store64(l7, l15);
                                         }
-                                        L85:;
-                                        l1 = 1u;
-                                        goto L63;
+                                        L26:;
+                                        l8 = l8 + 64ull;
+                                        l9 = l9 - 8ull;
+                                        if (l9 > 8ull) goto L25;
                                     }
-                                    trap();
                                 }
-                                L63:;
-                                v61 = l1 + l24; goto L61;
+                                l7 = (l11 + l12) - 8ull;
+                                l6 = l1 + (l7 << 3);
+                                l7 = l1 + ((l7 + l10) << 3);
+                                if (l10 <= 7ull) {
+                                    const u32 t54 = load16(l6);
+                                    store16(l7, (u16)t54);
+                                    const u32 t55 = load32(l6 + 4ull);
+                                    store32(l7 + 4ull, t55);
+                                    const u32 t56 = load16(l6 + 8u);
+                                    store16(l7 + 8u, (u16)t56);
+                                    const u32 t57 = load32(l6 + 12ull);
+                                    store32(l7 + 12ull, t57);
+                                    const u32 t58 = load16(l6 + 16u);
+                                    store16(l7 + 16u, (u16)t58);
+                                    const u32 t59 = load32(l6 + 20ull);
+                                    store32(l7 + 20ull, t59);
+                                    const u32 t60 = load16(l6 + 24u);
+                                    store16(l7 + 24u, (u16)t60);
+                                    const u32 t61 = load32(l6 + 28ull);
+                                    store32(l7 + 28ull, t61);
+                                    const u32 t62 = load16(l6 + 32u);
+                                    store16(l7 + 32u, (u16)t62);
+                                    const u32 t63 = load32(l6 + 36ull);
+                                    store32(l7 + 36ull, t63);
+                                    const u32 t64 = load16(l6 + 40u);
+                                    store16(l7 + 40u, (u16)t64);
+                                    const u32 t65 = load32(l6 + 44ull);
+                                    store32(l7 + 44ull, t65);
+                                    const u32 t66 = load16(l6 + 48u);
+                                    store16(l7 + 48u, (u16)t66);
+                                    const u32 t67 = load32(l6 + 52ull);
+                                    store32(l7 + 52ull, t67);
+                                    const u32 t68 = load16(l6 + 56u);
+                                    store16(l7 + 56u, (u16)t68);
+                                    const u32 t69 = load32(l6 + 60ull);
+                                    store32(l7 + 60ull, t69);
+                                    l9 = l12;
+                                    goto L7;
+                                }
+                                const u64 t70 = load64(l6);
+                                l8 = t70;
+                                const u64 t71 = load64(l6 + 8u);
+                                l11 = t71;
+                                const u64 t72 = load64(l6 + 16u);
+                                l9 = t72;
+                                const u64 t73 = load64(l6 + 24u);
+                                l10 = t73;
+                                const u64 t74 = load64(l6 + 32u);
+                                l13 = t74;
+                                const u64 t75 = load64(l6 + 40u);
+                                l14 = t75;
+                                const u64 t76 = load64(l6 + 48u);
+                                l15 = t76;
+                                const u64 t77 = load64(l6 + 56u);
+                                store64(l7 + 56u, t77);
+                                store64(l7 + 48u, l15);
+                                store64(l7 + 40u, l14);
+                                store64(l7 + 32u, l13);
+                                store64(l7 + 24u, l10);
+                                store64(l7 + 16u, l9);
+                                store64(l7 + 8u, l11);
+                                store64(l7, l8);
+                                l9 = l12;
+                                goto L7;
                             }
-                            L62:;
-                            l24 = 0u;
-                            v61 = 0u;
+                            if (l12 >= 4ull) {
+                                l6 = l1 + (l11 << 3);
+                                l7 = l1 + ((l10 + l11) << 3);
+                                {
+                                    if (l10 <= 3ull) {
+                                        const u32 t81 = load16(l6);
+                                        store16(l7, (u16)t81);
+                                        const u32 t82 = load32(l6 + 4ull);
+                                        store32(l7 + 4ull, t82);
+                                        const u32 t83 = load16(l6 + 8u);
+                                        store16(l7 + 8u, (u16)t83);
+                                        const u32 t84 = load32(l6 + 12ull);
+                                        store32(l7 + 12ull, t84);
+                                        const u32 t85 = load16(l6 + 16u);
+                                        store16(l7 + 16u, (u16)t85);
+                                        const u32 t86 = load32(l6 + 20ull);
+                                        store32(l7 + 20ull, t86);
+                                        const u32 t87 = load16(l6 + 24u);
+                                        store16(l7 + 24u, (u16)t87);
+                                        const u32 t88 = load32(l6 + 28ull);
+                                        store32(l7 + 28ull, t88);
+                                        goto L79;
+                                    }
+                                    const u64 t89 = load64(l6);
+                                    l8 = t89;
+                                    const u64 t90 = load64(l6 + 8u);
+                                    l9 = t90;
+                                    const u64 t91 = load64(l6 + 16u);
+                                    l13 = t91;
+                                    const u64 t92 = load64(l6 + 24u);
+                                    store64(l7 + 24u, t92);
+                                    store64(l7 + 16u, l13);
+                                    store64(l7 + 8u, l9);
+                                    store64(l7, l8);
+                                }
+                                L79:;
+                                l7 = (l11 + l12) - 4ull;
+                                l6 = l1 + (l7 << 3);
+                                l7 = l1 + ((l7 + l10) << 3);
+                                if (l10 <= 3ull) {
+                                    const u32 t94 = load16(l6);
+                                    store16(l7, (u16)t94);
+                                    const u32 t95 = load32(l6 + 4ull);
+                                    store32(l7 + 4ull, t95);
+                                    const u32 t96 = load16(l6 + 8u);
+                                    store16(l7 + 8u, (u16)t96);
+                                    const u32 t97 = load32(l6 + 12ull);
+                                    store32(l7 + 12ull, t97);
+                                    const u32 t98 = load16(l6 + 16u);
+                                    store16(l7 + 16u, (u16)t98);
+                                    const u32 t99 = load32(l6 + 20ull);
+                                    store32(l7 + 20ull, t99);
+                                    const u32 t100 = load16(l6 + 24u);
+                                    store16(l7 + 24u, (u16)t100);
+                                    const u32 t101 = load32(l6 + 28ull);
+                                    store32(l7 + 28ull, t101);
+                                    l9 = l12;
+                                    goto L7;
+                                }
+                                const u64 t102 = load64(l6);
+                                l8 = t102;
+                                const u64 t103 = load64(l6 + 8u);
+                                l11 = t103;
+                                const u64 t104 = load64(l6 + 16u);
+                                l9 = t104;
+                                const u64 t105 = load64(l6 + 24u);
+                                store64(l7 + 24u, t105);
+                                store64(l7 + 16u, l9);
+                                store64(l7 + 8u, l11);
+                                store64(l7, l8);
+                                l9 = l12;
+                                goto L7;
+                            }
+                            if (l12 == 0) {
+                                l9 = 0ull;
+                                goto L7;
+                            }
+                            l6 = l1 + (l11 << 3);
+                            l7 = l1 + ((l10 + l11) << 3);
+                            {
+                                if (l10 <= 1ull) {
+                                    const u32 t109 = load16(l6);
+                                    store16(l7, (u16)t109);
+                                    const u32 t110 = load32(l6 + 4ull);
+                                    store32(l7 + 4ull, t110);
+                                    const u32 t111 = load16(l6 + 8u);
+                                    store16(l7 + 8u, (u16)t111);
+                                    const u32 t112 = load32(l6 + 12ull);
+                                    store32(l7 + 12ull, t112);
+                                    goto L107;
+                                }
+                                const u64 t113 = load64(l6);
+                                l8 = t113;
+                                const u64 t114 = load64(l6 + 8u);
+                                store64(l7 + 8u, t114);
+                                store64(l7, l8);
+                            }
+                            L107:;
+                            l7 = (l11 + l12) - 2ull;
+                            l6 = l1 + (l7 << 3);
+                            l7 = l1 + ((l7 + l10) << 3);
+                            if (l10 <= 1ull) {
+                                const u32 t116 = load16(l6);
+                                store16(l7, (u16)t116);
+                                const u32 t117 = load32(l6 + 4ull);
+                                store32(l7 + 4ull, t117);
+                                const u32 t118 = load16(l6 + 8u);
+                                store16(l7 + 8u, (u16)t118);
+                                const u32 t119 = load32(l6 + 12ull);
+                                store32(l7 + 12ull, t119);
+                                l9 = l12;
+                                goto L7;
+                            }
+                            const u64 t120 = load64(l6);
+                            l8 = t120;
+                            const u64 t121 = load64(l6 + 8u);
+                            store64(l7 + 8u, t121);
+                            store64(l7, l8);
+                            l9 = l12;
+                            goto L7;
                         }
-                        L61:;
-                        store32(t60 + 4u, v61);
-                        store32(l11, l24);
-                        e->stack_pointer = l13;
-                        const u32 t101 = load32(l12 + 12u);
-                        l1 = t101;
-                        const u32 t102 = load32(l12 + 8u);
-                        v58 = t102;
+                        if (l12 == 1ull) {
+                            l6 = l1 + (l11 << 3);
+                            const u32 t123 = load32(l6 + 4ull);
+                            l29 = t123;
+                            l26 = 0u;
+                            l27 = 2u;
+                            l28 = 0u;
+                            {
+                                {
+                                    {
+                                        const u32 t127 = load8(l6);
+                                        l30 = t127;
+                                        switch ((u32)(((u64)l30 & 255ull)) - 3u) {
+                                        case 0: goto L124;
+                                        case 1: goto L126;
+                                        default: goto L125;
+                                        }
+                                    }
+                                    L126:;
+                                    l27 = 0u;
+                                    l28 = l29;
+                                    goto L124;
+                                }
+                                L125:;
+                                const u32 t128 = load8(l6 + 1ull);
+                                l28 = t128;
+                                l26 = l29;
+                                l27 = l30;
+                            }
+                            L124:;
+                            l6 = l1 + (l4 << 3);
+                            store8(l6, (u8)l27);
+                            store32(l6 + 4ull, l26);
+                            l9 = 1ull;
+                            store8(l6 + 1ull, (u8)l28);
+                            goto L7;
+                        }
+                        l10 = (l4 - l11) & 4294967295ull;
+                        {
+                            if (l12 >= 8ull) {
+                                if (l12 != 8ull) {
+                                    l13 = l11 << 3;
+                                    l14 = (l10 + l11) << 3;
+                                    l9 = l12;
+                                    l8 = l1;
+                                    L132:;
+                                    {
+                                        l6 = l8 + l13;
+                                        l7 = l8 + l14;
+                                        {
+                                            if (l10 <= 7ull) {
+                                                const u32 t135 = load8(l6);
+                                                store8(l7, (u8)t135);
+                                                const u32 t136 = load8(l6 + 1ull);
+                                                store8(l7 + 1ull, (u8)t136);
+                                                const u32 t137 = load32(l6 + 4ull);
+                                                store32(l7 + 4ull, t137);
+                                                const u32 t138 = load16(l6 + 8ull);
+                                                store16(l7 + 8ull, (u16)t138);
+                                                const u32 t139 = load32(l6 + 12ull);
+                                                store32(l7 + 12ull, t139);
+                                                const u32 t140 = load16(l6 + 16ull);
+                                                store16(l7 + 16ull, (u16)t140);
+                                                const u32 t141 = load32(l6 + 20ull);
+                                                store32(l7 + 20ull, t141);
+                                                const u32 t142 = load16(l6 + 24ull);
+                                                store16(l7 + 24ull, (u16)t142);
+                                                const u32 t143 = load32(l6 + 28ull);
+                                                store32(l7 + 28ull, t143);
+                                                const u32 t144 = load16(l6 + 32ull);
+                                                store16(l7 + 32ull, (u16)t144);
+                                                const u32 t145 = load32(l6 + 36ull);
+                                                store32(l7 + 36ull, t145);
+                                                const u32 t146 = load16(l6 + 40ull);
+                                                store16(l7 + 40ull, (u16)t146);
+                                                const u32 t147 = load32(l6 + 44ull);
+                                                store32(l7 + 44ull, t147);
+                                                const u32 t148 = load16(l6 + 48ull);
+                                                store16(l7 + 48ull, (u16)t148);
+                                                const u32 t149 = load32(l6 + 52ull);
+                                                store32(l7 + 52ull, t149);
+                                                const u32 t150 = load16(l6 + 56ull);
+                                                l26 = t150;
+                                                const u32 t151 = load32(l6 + 60ull);
+                                                store32(l7 + 60ull, t151);
+                                                store16(l7 + 56ull, (u16)l26);
+                                                goto L133;
+                                            }
+                                            const u64 t152 = load64(l6);
+                                            l15 = t152;
+                                            const u64 t153 = load64(l6 + 8u);
+                                            l16 = t153;
+                                            const u64 t154 = load64(l6 + 16u);
+                                            l19 = t154;
+                                            const u64 t155 = load64(l6 + 24u);
+                                            l20 = t155;
+                                            const u64 t156 = load64(l6 + 32u);
+                                            l21 = t156;
+                                            const u64 t157 = load64(l6 + 40u);
+                                            l22 = t157;
+                                            const u64 t158 = load64(l6 + 48u);
+                                            l23 = t158;
+                                            const u64 t159 = load64(l6 + 56u);
+                                            store64(l7 + 56u, t159);
+                                            store64(l7 + 48u, l23);
+                                            store64(l7 + 40u, l22);
+                                            store64(l7 + 32u, l21);
+                                            store64(l7 + 24u, l20);
+                                            store64(l7 + 16u, l19);
+                                            store64(l7 + 8u, l16);
+                                            store64(l7, l15);
+                                        }
+                                        L133:;
+                                        l8 = l8 + 64ull;
+                                        l9 = l9 - 8ull;
+                                        if (l9 > 8ull) goto L132;
+                                    }
+                                }
+                                l7 = (l11 + l12) - 8ull;
+                                l6 = l1 + (l7 << 3);
+                                l7 = l1 + ((l7 + l10) << 3);
+                                if (l10 <= 7ull) {
+                                    const u32 t161 = load16(l6);
+                                    store16(l7, (u16)t161);
+                                    const u32 t162 = load32(l6 + 4ull);
+                                    store32(l7 + 4ull, t162);
+                                    const u32 t163 = load16(l6 + 8u);
+                                    store16(l7 + 8u, (u16)t163);
+                                    const u32 t164 = load32(l6 + 12ull);
+                                    store32(l7 + 12ull, t164);
+                                    const u32 t165 = load16(l6 + 16u);
+                                    store16(l7 + 16u, (u16)t165);
+                                    const u32 t166 = load32(l6 + 20ull);
+                                    store32(l7 + 20ull, t166);
+                                    const u32 t167 = load16(l6 + 24u);
+                                    store16(l7 + 24u, (u16)t167);
+                                    const u32 t168 = load32(l6 + 28ull);
+                                    store32(l7 + 28ull, t168);
+                                    const u32 t169 = load16(l6 + 32u);
+                                    store16(l7 + 32u, (u16)t169);
+                                    const u32 t170 = load32(l6 + 36ull);
+                                    store32(l7 + 36ull, t170);
+                                    const u32 t171 = load16(l6 + 40u);
+                                    store16(l7 + 40u, (u16)t171);
+                                    const u32 t172 = load32(l6 + 44ull);
+                                    store32(l7 + 44ull, t172);
+                                    const u32 t173 = load16(l6 + 48u);
+                                    store16(l7 + 48u, (u16)t173);
+                                    const u32 t174 = load32(l6 + 52ull);
+                                    store32(l7 + 52ull, t174);
+                                    const u32 t175 = load16(l6 + 56u);
+                                    store16(l7 + 56u, (u16)t175);
+                                    const u32 t176 = load32(l6 + 60ull);
+                                    store32(l7 + 60ull, t176);
+                                    goto L129;
+                                }
+                                const u64 t177 = load64(l6);
+                                l8 = t177;
+                                const u64 t178 = load64(l6 + 8u);
+                                l9 = t178;
+                                const u64 t179 = load64(l6 + 16u);
+                                l10 = t179;
+                                const u64 t180 = load64(l6 + 24u);
+                                l13 = t180;
+                                const u64 t181 = load64(l6 + 32u);
+                                l14 = t181;
+                                const u64 t182 = load64(l6 + 40u);
+                                l15 = t182;
+                                const u64 t183 = load64(l6 + 48u);
+                                l16 = t183;
+                                const u64 t184 = load64(l6 + 56u);
+                                store64(l7 + 56u, t184);
+                                store64(l7 + 48u, l16);
+                                store64(l7 + 40u, l15);
+                                store64(l7 + 32u, l14);
+                                store64(l7 + 24u, l13);
+                                store64(l7 + 16u, l10);
+                                store64(l7 + 8u, l9);
+                                store64(l7, l8);
+                                goto L129;
+                            }
+                            if (l12 >= 4ull) {
+                                l6 = l1 + (l11 << 3);
+                                l7 = l1 + ((l10 + l11) << 3);
+                                {
+                                    if (l10 <= 3ull) {
+                                        const u32 t188 = load16(l6);
+                                        store16(l7, (u16)t188);
+                                        const u32 t189 = load32(l6 + 4ull);
+                                        store32(l7 + 4ull, t189);
+                                        const u32 t190 = load16(l6 + 8u);
+                                        store16(l7 + 8u, (u16)t190);
+                                        const u32 t191 = load32(l6 + 12ull);
+                                        store32(l7 + 12ull, t191);
+                                        const u32 t192 = load16(l6 + 16u);
+                                        store16(l7 + 16u, (u16)t192);
+                                        const u32 t193 = load32(l6 + 20ull);
+                                        store32(l7 + 20ull, t193);
+                                        const u32 t194 = load16(l6 + 24u);
+                                        store16(l7 + 24u, (u16)t194);
+                                        const u32 t195 = load32(l6 + 28ull);
+                                        store32(l7 + 28ull, t195);
+                                        goto L186;
+                                    }
+                                    const u64 t196 = load64(l6);
+                                    l8 = t196;
+                                    const u64 t197 = load64(l6 + 8u);
+                                    l9 = t197;
+                                    const u64 t198 = load64(l6 + 16u);
+                                    l13 = t198;
+                                    const u64 t199 = load64(l6 + 24u);
+                                    store64(l7 + 24u, t199);
+                                    store64(l7 + 16u, l13);
+                                    store64(l7 + 8u, l9);
+                                    store64(l7, l8);
+                                }
+                                L186:;
+                                l7 = (l11 + l12) - 4ull;
+                                l6 = l1 + (l7 << 3);
+                                l7 = l1 + ((l7 + l10) << 3);
+                                if (l10 <= 3ull) {
+                                    const u32 t201 = load16(l6);
+                                    store16(l7, (u16)t201);
+                                    const u32 t202 = load32(l6 + 4ull);
+                                    store32(l7 + 4ull, t202);
+                                    const u32 t203 = load16(l6 + 8u);
+                                    store16(l7 + 8u, (u16)t203);
+                                    const u32 t204 = load32(l6 + 12ull);
+                                    store32(l7 + 12ull, t204);
+                                    const u32 t205 = load16(l6 + 16u);
+                                    store16(l7 + 16u, (u16)t205);
+                                    const u32 t206 = load32(l6 + 20ull);
+                                    store32(l7 + 20ull, t206);
+                                    const u32 t207 = load16(l6 + 24u);
+                                    store16(l7 + 24u, (u16)t207);
+                                    const u32 t208 = load32(l6 + 28ull);
+                                    store32(l7 + 28ull, t208);
+                                    goto L129;
+                                }
+                                const u64 t209 = load64(l6);
+                                l8 = t209;
+                                const u64 t210 = load64(l6 + 8u);
+                                l9 = t210;
+                                const u64 t211 = load64(l6 + 16u);
+                                l10 = t211;
+                                const u64 t212 = load64(l6 + 24u);
+                                store64(l7 + 24u, t212);
+                                store64(l7 + 16u, l10);
+                                store64(l7 + 8u, l9);
+                                store64(l7, l8);
+                                goto L129;
+                            }
+                            if (l12 == 0) { v8 = 0ull; goto L8; }
+                            l6 = l1 + (l11 << 3);
+                            l7 = l1 + ((l10 + l11) << 3);
+                            {
+                                if (l10 <= 1ull) {
+                                    const u32 t215 = load16(l6);
+                                    store16(l7, (u16)t215);
+                                    const u32 t216 = load32(l6 + 4ull);
+                                    store32(l7 + 4ull, t216);
+                                    const u32 t217 = load16(l6 + 8u);
+                                    store16(l7 + 8u, (u16)t217);
+                                    const u32 t218 = load32(l6 + 12ull);
+                                    store32(l7 + 12ull, t218);
+                                    goto L213;
+                                }
+                                const u64 t219 = load64(l6);
+                                l8 = t219;
+                                const u64 t220 = load64(l6 + 8u);
+                                store64(l7 + 8u, t220);
+                                store64(l7, l8);
+                            }
+                            L213:;
+                            l7 = (l11 + l12) - 2ull;
+                            l6 = l1 + (l7 << 3);
+                            l7 = l1 + ((l7 + l10) << 3);
+                            if (l10 <= 1ull) {
+                                const u32 t222 = load16(l6);
+                                store16(l7, (u16)t222);
+                                const u32 t223 = load32(l6 + 4ull);
+                                store32(l7 + 4ull, t223);
+                                const u32 t224 = load16(l6 + 8u);
+                                store16(l7 + 8u, (u16)t224);
+                                const u32 t225 = load32(l6 + 12ull);
+                                store32(l7 + 12ull, t225);
+                                goto L129;
+                            }
+                            const u64 t226 = load64(l6);
+                            l8 = t226;
+                            const u64 t227 = load64(l6 + 8u);
+                            store64(l7 + 8u, t227);
+                            store64(l7, l8);
+                        }
+                        L129:;
+                        v8 = l12;
                     }
-                    L58:;
-                    l24 = v58;
-                    const u32 t103 = load32(l0 + 16ull);
-                    l23 = t103;
-                    l28 = l1 - l24;
-                    if (l25 < l28) goto L2;
-                    l6 = (u64)(l23 + l29);
+                    L8:;
+                    l9 = v8;
+                    l6 = l18 - l11;
+                    l7 = (l6 < l9) ? l6 : l9;
+                    if (l7 == 0) goto L7;
+                    l6 = l1 + (l4 << 3);
+                    L228:;
                     {
-                        l9 = (u64)(l1 + l23);
-                        l8 = (u64)(l23 + l24);
-                        if ((l9 - l8) == 1ull) {
-                            l6 = l5 + (l6 << 3);
-                            l5 = l5 + (l8 << 3);
-                            const u32 t106 = load16(l5);
-                            store16(l6, (u16)t106);
-                            const u32 t107 = load32(l5 + 4ull);
-                            store32(l6 + 4ull, t107);
-                            goto L104;
+                        l8 = l6 + 4ull;
+                        const u32 t229 = load32(l8);
+                        l29 = t229;
+                        l26 = 0u;
+                        l27 = 2u;
+                        l28 = 0u;
+                        {
+                            {
+                                {
+                                    const u32 t233 = load8(l6);
+                                    l30 = t233;
+                                    switch ((u32)(((u64)l30 & 255ull)) - 3u) {
+                                    case 0: goto L230;
+                                    case 1: goto L232;
+                                    default: goto L231;
+                                    }
+                                }
+                                L232:;
+                                l27 = 0u;
+                                l28 = l29;
+                                goto L230;
+                            }
+                            L231:;
+                            const u32 t234 = load8(l6 + 1ull);
+                            l28 = t234;
+                            l26 = l29;
+                            l27 = l30;
                         }
-                        space_copies_copy_more(e, l5, l8, l9, l6);
+                        L230:;
+                        store8(l6, (u8)l27);
+                        store32(l8, l26);
+                        store8(l6 + 1ull, (u8)l28);
+                        l6 = l6 + 8ull;
+                        l7 = l7 - 1ull;
+                        if (l7 != 0ull) goto L228;
                     }
-                    L104:;
-                    l24 = l25 - l28;
-                    l5 = l0 + 20ull;
-                    const u32 t108 = load32(l5);
-                    l25 = t108 + l28;
-                    store32(l5, l25);
-                    l1 = l26 + 1u;
-                    const u32 t109 = load32(l0 + 16ull);
-                    l23 = t109;
-                    goto L8;
                 }
-                trap();
+                L7:;
+                l4 = l4 + l9;
+                l2 = l2 + 1ull;
+                if (l2 != l3) goto L6;
             }
-            trap();
         }
         L2:;
-        l5 = l5 + ((u64)l23 << 3);
-        {
-            {
-                const u32 t112 = load32(l0 + 32ull);
-                l23 = t112;
-                l1 = l23 <= l27;
-                if (l1) goto L111;
-                if ((l23 - l27) != 1u) goto L111;
-                const u32 t113 = load32((l5 + ((u64)l27 << 3)) + 4ull);
-                l23 = t113;
-                l1 = l23 ? ((l27 - l23) + 1u) : 0u;
-                goto L110;
-            }
-            L111:;
-            if (l1) {
-                l1 = l23;
-                goto L110;
-            }
-            L115:;
-            {
-                const u32 t116 = load32((l5 + ((u64)(l23 - 1u) << 3)) + 4ull);
-                l1 = t116;
-                l23 = l23 - l1;
-                l1 = l1 ? l23 : 0u;
-                if (l27 < l1) goto L115;
-            }
-        }
-        L110:;
-        store32(l0 + 20ull, l27);
-        store32(l0 + 32ull, l1);
+        store64(l0 + 8u, l4);
+        store8(l0, (u8)l31);
+        return;
     }
-    L1:;
-    e->stack_pointer = l12 + 16ull;
-    return l30;
+    trap();
 }
 
 static void forms_work_Work_form(struct engine *e, u64 l0, u64 l1, u32 l2) {
@@ -17718,11 +18473,11 @@ static void engine_run(struct engine *e, u64 l0, u64 l1, u64 l2, u64 l3, u64 l4,
     u32 l48 = 0;
     u32 l49 = 0;
     u32 l50 = 0;
-    l8 = e->stack_pointer - 208ull;
-    e->stack_pointer = l8;
+    l10 = e->stack_pointer - 208ull;
+    e->stack_pointer = l10;
     {
-        l10 = l8;
-        if ((i64)(l10 - e->stack) >= (i64)16ull) {
+        l9 = l10;
+        if ((i64)(l9 - e->stack) >= (i64)16ull) {
             {
                 if (l2 >= 16777217ull) {
                     store64(l0 + 4u, 0ull);
@@ -17733,83 +18488,83 @@ static void engine_run(struct engine *e, u64 l0, u64 l1, u64 l2, u64 l3, u64 l4,
                     store32(l0 + 36u, 0u);
                     goto L3;
                 }
-                l9 = l6 + ((l6 == 0) ? 4096ull : 0ull);
+                l8 = l6 + ((l6 == 0) ? 4096ull : 0ull);
                 l11 = l4 + ((l4 == 0) ? 4096ull : 0ull);
                 {
                     if (l2 == 0) goto L5;
                     l6 = l2 & 3ull;
                     if (l2 >= 4ull) {
-                        l8 = (l2 >> 2) & 8388607ull;
-                        l12 = l8 << 2;
-                        l13 = l8 << 5;
+                        l10 = (l2 >> 2) & 8388607ull;
+                        l12 = l10 << 2;
+                        l13 = l10 << 5;
                         l4 = 0ull;
                         L7:;
                         {
-                            l8 = l1 + l4;
-                            store16(l8, (u16)2u);
-                            store32(l8 + 28ull, 0u);
-                            store16(l8 + 24ull, (u16)2u);
-                            store32(l8 + 20ull, 0u);
-                            store16(l8 + 16ull, (u16)2u);
-                            store32(l8 + 12ull, 0u);
-                            store16(l8 + 8ull, (u16)2u);
-                            store32(l8 + 4ull, 0u);
+                            l10 = l1 + l4;
+                            store16(l10, (u16)2u);
+                            store32(l10 + 28ull, 0u);
+                            store16(l10 + 24ull, (u16)2u);
+                            store32(l10 + 20ull, 0u);
+                            store16(l10 + 16ull, (u16)2u);
+                            store32(l10 + 12ull, 0u);
+                            store16(l10 + 8ull, (u16)2u);
+                            store32(l10 + 4ull, 0u);
                             l4 = l4 + 32ull;
                             if (l13 != l4) goto L7;
                         }
                         if (l6 == 0) goto L5;
                     }
-                    l8 = l1 + (l12 << 3);
+                    l10 = l1 + (l12 << 3);
                     L8:;
                     {
-                        store16(l8, (u16)2u);
-                        store32(l8 + 4ull, 0u);
-                        l8 = l8 + 8ull;
+                        store16(l10, (u16)2u);
+                        store32(l10 + 4ull, 0u);
+                        l10 = l10 + 8ull;
                         l6 = l6 - 1ull;
                         if (l6 != 0ull) goto L8;
                     }
                 }
                 L5:;
-                store64(l10 + 56u, 0ull);
-                store64(l10 + 40u, l11);
-                store64(l10 + 64u, 0ull);
-                store64(l10 + 24u, 0ull);
-                store64(l10 + 16u, l7);
-                store64(l10 + 8u, l9);
-                store64(l10 + 32u, 0ull);
-                store64(l10 + 48u, l5);
-                store64(l10 + 104u, 0ull);
-                store32(l10 + 100u, (u32)l2);
-                store32(l10 + 96u, 0u);
-                store64(l10 + 88u, 0ull);
-                store64(l10 + 80u, l2);
-                store64(l10 + 72u, l1);
-                store64(l10 + 112u, 0ull);
-                store64(l10 + 120u, 0ull);
-                store32(l10 + 129u, 0u);
-                store8(l10 + 128u, (u8)39u);
-                store32(l10 + 132u, 0u);
-                store64(l10 + 144u, 0ull);
-                store64(l10 + 136u, l3);
-                store64(l10 + 152u, 0ull);
-                store64(l10 + 200u, 0ull);
-                store64(l10 + 192u, 0ull);
-                store64(l10 + 184u, l3);
-                store64(l10 + 160u, 0ull);
-                store64(l10 + 168u, 0ull);
-                store64(l10 + 176u, 0ull);
-                l15 = l10 + 160ull;
-                l4 = l10 + 72ull;
-                l19 = l10 + 128ull;
-                l13 = l10 + 184ull;
-                l12 = l10 + 40ull;
-                l14 = l10 + 8ull;
+                store64(l9 + 56u, 0ull);
+                store64(l9 + 40u, l11);
+                store64(l9 + 64u, 0ull);
+                store64(l9 + 24u, 0ull);
+                store64(l9 + 16u, l7);
+                store64(l9 + 8u, l8);
+                store64(l9 + 32u, 0ull);
+                store64(l9 + 48u, l5);
+                store64(l9 + 104u, 0ull);
+                store32(l9 + 100u, (u32)l2);
+                store32(l9 + 96u, 0u);
+                store64(l9 + 88u, 0ull);
+                store64(l9 + 80u, l2);
+                store64(l9 + 72u, l1);
+                store64(l9 + 112u, 0ull);
+                store64(l9 + 120u, 0ull);
+                store32(l9 + 129u, 0u);
+                store8(l9 + 128u, (u8)39u);
+                store32(l9 + 132u, 0u);
+                store64(l9 + 144u, 0ull);
+                store64(l9 + 136u, l3);
+                store64(l9 + 152u, 0ull);
+                store64(l9 + 200u, 0ull);
+                store64(l9 + 192u, 0ull);
+                store64(l9 + 184u, l3);
+                store64(l9 + 160u, 0ull);
+                store64(l9 + 168u, 0ull);
+                store64(l9 + 176u, 0ull);
+                l14 = l9 + 160ull;
+                l4 = l9 + 72ull;
+                l19 = l9 + 128ull;
+                l3 = l9 + 184ull;
+                l12 = l9 + 40ull;
+                l13 = l9 + 8ull;
                 l8 = e->stack_pointer - 208ull;
                 e->stack_pointer = l8;
                 {
                     {
                         if ((i64)(l8 - e->stack) >= (i64)16ull) {
-                            const u64 t12 = load64(l13);
+                            const u64 t12 = load64(l3);
                             l17 = t12;
                             store64(l8 + 72u, 0ull);
                             store64(l8 + 80u, 0ull);
@@ -17817,29 +18572,29 @@ static void engine_run(struct engine *e, u64 l0, u64 l1, u64 l2, u64 l3, u64 l4,
                             const u32 t13 = load32(l4 + 20ull);
                             l37 = t13;
                             store32(l8 + 92u, l37);
-                            const u32 t14 = load32(l13 + 16u);
-                            l41 = t14;
+                            const u32 t14 = load32(l3 + 16u);
+                            l43 = t14;
                             {
-                                const u64 t16 = load64(l13 + 8u);
-                                l13 = l17 - t16;
-                                if ((l13 == 0) == 0) {
+                                const u64 t16 = load64(l3 + 8u);
+                                l15 = l17 - t16;
+                                if ((l15 == 0) == 0) {
                                     const u32 t18 = load32(l4 + 24ull);
                                     const u32 t19 = load32(l4 + 16ull);
-                                    l39 = t18 + (l37 + t19);
+                                    l40 = t18 + (l37 + t19);
                                     l20 = l8 + 109ull;
                                     l21 = l8 + 197ull;
                                     l22 = l8 + 157ull;
                                     l23 = l8 + 141ull;
                                     L20:;
                                     {
-                                        core_scan_pass(e, l8 + 72ull, l4, l13, l8 + 92ull, l8 + 88ull);
-                                        u64 v21;
+                                        core_scan_pass(e, l8 + 72ull, l4, l15, l8 + 92ull, l8 + 88ull);
+                                        u32 v21;
                                         {
                                             const u32 t22 = load8(l8 + 72u);
                                             if (t22 == 0) {
-                                                l41 = (l39 > l41) ? l39 : l41;
                                                 const u64 t24 = load64(l8 + 80u);
-                                                v21 = l13 - t24; goto L21;
+                                                l15 = l15 - t24;
+                                                v21 = (l40 > l43) ? l40 : l43; goto L21;
                                             }
                                             {
                                                 {
@@ -17848,51 +18603,73 @@ static void engine_run(struct engine *e, u64 l0, u64 l1, u64 l2, u64 l3, u64 l4,
                                                             const u32 t29 = load8(l8 + 76u);
                                                             if (t29 == 0) {
                                                                 store32(l4 + 32ull, 0u);
-                                                                l9 = l4 + 20ull;
-                                                                store32(l9, 0u);
+                                                                l16 = l4 + 20ull;
+                                                                store32(l16, 0u);
                                                                 const u32 t31 = load32(l4 + 28ull);
-                                                                l39 = t31;
-                                                                l2 = l4 + 24ull;
-                                                                const u32 t32 = load32(l2);
+                                                                l40 = t31;
+                                                                l7 = l4 + 24ull;
+                                                                const u32 t32 = load32(l7);
                                                                 l37 = t32;
-                                                                l16 = l4 + 16ull;
-                                                                const u32 t33 = load32(l16);
-                                                                if ((l39 - (l37 + t33)) <= 10u) {
+                                                                l6 = l4 + 16ull;
+                                                                const u32 t33 = load32(l6);
+                                                                if ((l40 - (l37 + t33)) <= 10u) {
                                                                     const u32 t35 = space_space_Space_find_way(e, l4, 11ull);
                                                                     if (t35 == 0) goto L28;
                                                                     const u32 t36 = load32(l4 + 28ull);
-                                                                    l39 = t36;
+                                                                    l40 = t36;
                                                                     const u32 t37 = load32(l4 + 24ull);
                                                                     l37 = t37;
                                                                 }
                                                                 const u64 t38 = load64(l4);
                                                                 l37 = l37 + 11u;
-                                                                space_space_write_bytes(e, t38 + ((u64)(l39 - l37) << 3), TABLES + 768u, 11ull);
-                                                                store32(l2, l37);
-                                                                const u32 t39 = load32(l9);
-                                                                l39 = t39;
-                                                                const u32 t40 = load32(l16);
+                                                                l3 = t38 + ((u64)(l40 - l37) << 3);
+                                                                store64(l3 + 56u, 0ull);
+                                                                store64(l3 + 48u, 0ull);
+                                                                store64(l3 + 40u, 0ull);
+                                                                store64(l3 + 32u, 0ull);
+                                                                store64(l3 + 24u, 0ull);
+                                                                store64(l3 + 16u, 0ull);
+                                                                store64(l3 + 8u, 0ull);
+                                                                store64(l3, 0ull);
+                                                                store16(l3 + 80u, (u16)10496u);
+                                                                store16(l3 + 72u, (u16)10496u);
+                                                                store16(l3 + 64u, (u16)29440u);
+                                                                store32(l3 + 84ull, 0u);
+                                                                store32(l3 + 76ull, 0u);
+                                                                store32(l3 + 68ull, 0u);
+                                                                store8(l3 + 57ull, (u8)114u);
+                                                                store8(l3 + 49ull, (u8)40u);
+                                                                store8(l3 + 41ull, (u8)35u);
+                                                                store8(l3 + 33ull, (u8)44u);
+                                                                store8(l3 + 25ull, (u8)115u);
+                                                                store8(l3 + 17ull, (u8)112u);
+                                                                store8(l3 + 9ull, (u8)40u);
+                                                                store8(l3 + 1ull, (u8)35u);
+                                                                store32(l7, l37);
+                                                                const u32 t39 = load32(l16);
+                                                                l40 = t39;
+                                                                const u32 t40 = load32(l6);
                                                                 l45 = t40;
-                                                                l37 = l39 + (l45 + l37);
+                                                                l37 = l40 + (l45 + l37);
                                                                 goto L25;
                                                             }
                                                             const u64 t41 = load64(l8 + 80u);
                                                             l16 = t41;
-                                                            l9 = l4 + 24ull;
-                                                            const u32 t42 = load32(l9);
+                                                            l3 = l4 + 24ull;
+                                                            const u32 t42 = load32(l3);
                                                             l45 = t42 - 1u;
-                                                            store32(l9, l45);
+                                                            store32(l3, l45);
                                                             const u32 t43 = load32(l4 + 20ull);
-                                                            l40 = t43;
+                                                            l41 = t43;
                                                             const u32 t44 = load32(l4 + 16ull);
                                                             l37 = t44;
                                                             store64(l8 + 112u, 0ull);
                                                             store64(l8 + 96u, 0ull);
                                                             store64(l8 + 104u, 0ull);
                                                             const u64 t45 = load64(l4);
-                                                            l9 = t45;
-                                                            l39 = (u32)l16;
-                                                            const u32 t46 = load8((l9 + ((u64)(l37 + l39) << 3)) + 1ull);
+                                                            l3 = t45;
+                                                            l40 = (u32)l16;
+                                                            const u32 t46 = load8((l3 + ((u64)(l37 + l40) << 3)) + 1ull);
                                                             l34 = t46;
                                                             store8(l8 + 146u, (u8)0u);
                                                             store16(l8 + 144u, (u16)0u);
@@ -17909,22 +18686,22 @@ static void engine_run(struct engine *e, u64 l0, u64 l1, u64 l2, u64 l3, u64 l4,
                                                                                                 {
                                                                                                     {
                                                                                                         {
-                                                                                                            l47 = l37 + l40;
-                                                                                                            l50 = l39 + 1u;
-                                                                                                            l2 = (u64)(l37 + l50);
-                                                                                                            l3 = (u64)l47 - l2;
-                                                                                                            if (l3 < 2ull) goto L58;
-                                                                                                            l2 = l9 + (l2 << 3);
-                                                                                                            if (l3 != 2ull) {
-                                                                                                                const u32 t60 = load8(l2 + 16ull);
+                                                                                                            l47 = l37 + l41;
+                                                                                                            l50 = l40 + 1u;
+                                                                                                            l6 = (u64)(l37 + l50);
+                                                                                                            l7 = (u64)l47 - l6;
+                                                                                                            if (l7 < 2ull) goto L58;
+                                                                                                            l6 = l3 + (l6 << 3);
+                                                                                                            if (l7 != 2ull) {
+                                                                                                                const u32 t60 = load8(l6 + 16ull);
                                                                                                                 if (t60 != 2u) goto L58;
                                                                                                             }
-                                                                                                            functions_function_function_of(e, l8 + 144ull, l2, l2 + 8ull);
+                                                                                                            functions_function_function_of(e, l8 + 144ull, l6, l6 + 8ull);
                                                                                                             const u32 t61 = load8(l8 + 144u);
                                                                                                             if (t61 != 1u) goto L58;
                                                                                                             l38 = (u32)(l16 >> 32);
-                                                                                                            l42 = l34 == 0;
-                                                                                                            l43 = l39 + 4u;
+                                                                                                            l39 = l34 == 0;
+                                                                                                            l44 = l40 + 4u;
                                                                                                             {
                                                                                                                 {
                                                                                                                     {
@@ -17971,26 +18748,26 @@ static void engine_run(struct engine *e, u64 l0, u64 l1, u64 l2, u64 l3, u64 l4,
                                                                                                                                     L72:;
                                                                                                                                     {
                                                                                                                                         const u64 t73 = load64(l12 + 8u);
-                                                                                                                                        l9 = t73;
-                                                                                                                                        if (l9 == 0) {
+                                                                                                                                        l3 = t73;
+                                                                                                                                        if (l3 == 0) {
                                                                                                                                             const u32 t75 = load8(l12 + 16ull);
                                                                                                                                             if (t75) goto L69;
                                                                                                                                             store8(l12 + 17ull, (u8)1u);
                                                                                                                                             goto L70;
                                                                                                                                         }
-                                                                                                                                        store64(l12 + 8u, l9 - 1ull);
+                                                                                                                                        store64(l12 + 8u, l3 - 1ull);
                                                                                                                                         const u64 t76 = load64(l12);
-                                                                                                                                        l9 = t76;
-                                                                                                                                        store64(l12, l9 + 1ull);
-                                                                                                                                        const u32 t77 = load8(l9);
+                                                                                                                                        l3 = t76;
+                                                                                                                                        store64(l12, l3 + 1ull);
+                                                                                                                                        const u32 t77 = load8(l3);
                                                                                                                                         l34 = t77;
                                                                                                                                         if (l34 == (l35 & 255u)) goto L50;
                                                                                                                                         store64(l8 + 144u, 0ull);
                                                                                                                                         store8(l8 + 145u, (u8)l34);
                                                                                                                                         {
                                                                                                                                             const u32 t79 = load32(l4 + 28ull);
-                                                                                                                                            l9 = l4 + 20ull;
-                                                                                                                                            const u32 t80 = load32(l9);
+                                                                                                                                            l3 = l4 + 20ull;
+                                                                                                                                            const u32 t80 = load32(l3);
                                                                                                                                             l36 = t80;
                                                                                                                                             const u32 t81 = load32(l4 + 16ull);
                                                                                                                                             l38 = l36 + t81;
@@ -18000,16 +18777,16 @@ static void engine_run(struct engine *e, u64 l0, u64 l1, u64 l2, u64 l3, u64 l4,
                                                                                                                                                 if (t84) goto L78;
                                                                                                                                                 goto L51;
                                                                                                                                             }
-                                                                                                                                            l3 = l4 + 32ull;
-                                                                                                                                            const u32 t85 = load32(l3);
-                                                                                                                                            l42 = t85;
+                                                                                                                                            l7 = l4 + 32ull;
+                                                                                                                                            const u32 t85 = load32(l7);
+                                                                                                                                            l39 = t85;
                                                                                                                                             const u64 t86 = load64(l4);
-                                                                                                                                            l2 = t86 + ((u64)l38 << 3);
-                                                                                                                                            store8(l2, (u8)0u);
-                                                                                                                                            store32(l2 + 4ull, 0u);
-                                                                                                                                            store8(l2 + 1ull, (u8)l34);
-                                                                                                                                            store32(l9, l36 + 1u);
-                                                                                                                                            store32(l3, l42);
+                                                                                                                                            l6 = t86 + ((u64)l38 << 3);
+                                                                                                                                            store8(l6, (u8)0u);
+                                                                                                                                            store32(l6 + 4ull, 0u);
+                                                                                                                                            store8(l6 + 1ull, (u8)l34);
+                                                                                                                                            store32(l3, l36 + 1u);
+                                                                                                                                            store32(l7, l39);
                                                                                                                                         }
                                                                                                                                         L78:;
                                                                                                                                         devices_slice_source_SliceSourceSource_take_held(e, l12, l35, l4);
@@ -18019,13 +18796,13 @@ static void engine_run(struct engine *e, u64 l0, u64 l1, u64 l2, u64 l3, u64 l4,
                                                                                                                                 }
                                                                                                                                 L70:;
                                                                                                                                 const u32 t88 = load32(l4 + 20ull);
-                                                                                                                                l36 = t88 == l40;
+                                                                                                                                l36 = t88 == l41;
                                                                                                                                 v49 = l36 ? 4u : 1u; goto L49;
                                                                                                                             }
                                                                                                                             L69:;
-                                                                                                                            l9 = l12 + 24ull;
-                                                                                                                            const u64 t89 = load64(l9);
-                                                                                                                            store64(l9, t89 + 1ull);
+                                                                                                                            l3 = l12 + 24ull;
+                                                                                                                            const u64 t89 = load64(l3);
+                                                                                                                            store64(l3, t89 + 1ull);
                                                                                                                             goto L52;
                                                                                                                         }
                                                                                                                         L65:;
@@ -18036,40 +18813,40 @@ static void engine_run(struct engine *e, u64 l0, u64 l1, u64 l2, u64 l3, u64 l4,
                                                                                                                         }
                                                                                                                         {
                                                                                                                             const u64 t93 = load64(l12 + 8u);
-                                                                                                                            l9 = t93;
-                                                                                                                            if (l9 == 0) {
+                                                                                                                            l3 = t93;
+                                                                                                                            if (l3 == 0) {
                                                                                                                                 const u32 t95 = load8(l12 + 16ull);
                                                                                                                                 if (t95) goto L92;
                                                                                                                                 l36 = 1u;
                                                                                                                                 store8(l12 + 17ull, (u8)1u);
                                                                                                                                 v49 = 4u; goto L49;
                                                                                                                             }
-                                                                                                                            store64(l12 + 8u, l9 - 1ull);
+                                                                                                                            store64(l12 + 8u, l3 - 1ull);
                                                                                                                             const u64 t96 = load64(l12);
-                                                                                                                            l9 = t96;
-                                                                                                                            store64(l12, l9 + 1ull);
-                                                                                                                            const u32 t97 = load8(l9);
+                                                                                                                            l3 = t96;
+                                                                                                                            store64(l12, l3 + 1ull);
+                                                                                                                            const u32 t97 = load8(l3);
                                                                                                                             l34 = t97;
                                                                                                                             store64(l8 + 144u, 0ull);
                                                                                                                             store8(l8 + 145u, (u8)l34);
                                                                                                                             const u32 t98 = load32(l4 + 28ull);
-                                                                                                                            l9 = l4 + 20ull;
-                                                                                                                            const u32 t99 = load32(l9);
+                                                                                                                            l3 = l4 + 20ull;
+                                                                                                                            const u32 t99 = load32(l3);
                                                                                                                             l35 = t99;
                                                                                                                             const u32 t100 = load32(l4 + 16ull);
                                                                                                                             l36 = l35 + t100;
                                                                                                                             const u32 t101 = load32(l4 + 24ull);
                                                                                                                             if (t98 != (l36 + t101)) {
-                                                                                                                                l3 = l4 + 32ull;
-                                                                                                                                const u32 t103 = load32(l3);
+                                                                                                                                l7 = l4 + 32ull;
+                                                                                                                                const u32 t103 = load32(l7);
                                                                                                                                 l38 = t103;
                                                                                                                                 const u64 t104 = load64(l4);
-                                                                                                                                l2 = t104 + ((u64)l36 << 3);
-                                                                                                                                store8(l2, (u8)0u);
-                                                                                                                                store32(l2 + 4ull, 0u);
-                                                                                                                                store8(l2 + 1ull, (u8)l34);
-                                                                                                                                store32(l9, l35 + 1u);
-                                                                                                                                store32(l3, l38);
+                                                                                                                                l6 = t104 + ((u64)l36 << 3);
+                                                                                                                                store8(l6, (u8)0u);
+                                                                                                                                store32(l6 + 4ull, 0u);
+                                                                                                                                store8(l6 + 1ull, (u8)l34);
+                                                                                                                                store32(l3, l35 + 1u);
+                                                                                                                                store32(l7, l38);
                                                                                                                                 goto L50;
                                                                                                                             }
                                                                                                                             const u32 t105 = space_space_Space_push_in_way(e, l4, l8 + 144ull);
@@ -18077,18 +18854,18 @@ static void engine_run(struct engine *e, u64 l0, u64 l1, u64 l2, u64 l3, u64 l4,
                                                                                                                             goto L51;
                                                                                                                         }
                                                                                                                         L92:;
-                                                                                                                        l9 = l12 + 24ull;
-                                                                                                                        const u64 t106 = load64(l9);
-                                                                                                                        store64(l9, t106 + 1ull);
+                                                                                                                        l3 = l12 + 24ull;
+                                                                                                                        const u64 t106 = load64(l3);
+                                                                                                                        store64(l3, t106 + 1ull);
                                                                                                                         goto L52;
                                                                                                                     }
                                                                                                                     L64:;
                                                                                                                     store16(l21, (u16)0u);
                                                                                                                     store8(l21 + 2u, (u8)0u);
-                                                                                                                    store8(l8 + 196u, (u8)l42);
+                                                                                                                    store8(l8 + 196u, (u8)l39);
                                                                                                                     store32(l8 + 192u, l38);
-                                                                                                                    store32(l8 + 188u, l40);
-                                                                                                                    store32(l8 + 184u, l43);
+                                                                                                                    store32(l8 + 188u, l41);
+                                                                                                                    store32(l8 + 184u, l44);
                                                                                                                     functions_arguments_Arguments_next(e, l8 + 16ull, l8 + 184ull, l4);
                                                                                                                     const u32 t107 = load32(l8 + 20u);
                                                                                                                     l34 = t107;
@@ -18114,22 +18891,22 @@ static void engine_run(struct engine *e, u64 l0, u64 l1, u64 l2, u64 l3, u64 l4,
                                                                                                                                 }
                                                                                                                                 {
                                                                                                                                     if (l36 == 0) goto L116;
-                                                                                                                                    const u64 t117 = load32(l9 + 4ull);
-                                                                                                                                    l3 = (u64)(l34 + l37);
-                                                                                                                                    l2 = (u64)(l35 + l37);
-                                                                                                                                    if (t117 != (l3 - l2)) goto L116;
-                                                                                                                                    l11 = 17ull - (l2 << 3);
-                                                                                                                                    l2 = (l3 ^ 18446744073709551615ull) + l2;
-                                                                                                                                    l9 = l9 + (l3 << 3);
+                                                                                                                                    const u64 t117 = load32(l3 + 4ull);
+                                                                                                                                    l7 = (u64)(l34 + l37);
+                                                                                                                                    l6 = (u64)(l35 + l37);
+                                                                                                                                    if (t117 != (l7 - l6)) goto L116;
+                                                                                                                                    l11 = 17ull - (l6 << 3);
+                                                                                                                                    l6 = (l7 ^ 18446744073709551615ull) + l6;
+                                                                                                                                    l3 = l3 + (l7 << 3);
                                                                                                                                     L118:;
                                                                                                                                     {
-                                                                                                                                        l2 = l2 + 1ull;
-                                                                                                                                        if (l2 == 0) goto L110;
-                                                                                                                                        l3 = l9 - 7ull;
-                                                                                                                                        l6 = l9 + l11;
-                                                                                                                                        l9 = l9 - 8ull;
-                                                                                                                                        const u32 t119 = load8(l6);
-                                                                                                                                        const u32 t120 = load8(l3);
+                                                                                                                                        l6 = l6 + 1ull;
+                                                                                                                                        if (l6 == 0) goto L110;
+                                                                                                                                        l7 = l3 - 7ull;
+                                                                                                                                        l10 = l3 + l11;
+                                                                                                                                        l3 = l3 - 8ull;
+                                                                                                                                        const u32 t119 = load8(l10);
+                                                                                                                                        const u32 t120 = load8(l7);
                                                                                                                                         if (t119 == t120) goto L118;
                                                                                                                                     }
                                                                                                                                 }
@@ -18152,14 +18929,14 @@ static void engine_run(struct engine *e, u64 l0, u64 l1, u64 l2, u64 l3, u64 l4,
                                                                                                                     }
                                                                                                                     L109:;
                                                                                                                     forms_work_Work_stored(e, l8 + 144ull, l4, l35);
-                                                                                                                    const u32 t123 = core_display_show_form(e, l8 + 144ull, l14);
+                                                                                                                    const u32 t123 = core_display_show_form(e, l8 + 144ull, l13);
                                                                                                                     l34 = t123 & 255u;
                                                                                                                     l36 = l34 ? 5u : 0u;
                                                                                                                     v49 = l34 + 3u; goto L49;
                                                                                                                 }
                                                                                                                 L63:;
                                                                                                                 const u32 t124 = load8(l8 + 146u);
-                                                                                                                l44 = t124;
+                                                                                                                l42 = t124;
                                                                                                                 {
                                                                                                                     if ((l35 - 5u) < 20u) goto L125;
                                                                                                                     l34 = 0u;
@@ -18174,23 +18951,23 @@ static void engine_run(struct engine *e, u64 l0, u64 l1, u64 l2, u64 l3, u64 l4,
                                                                                                                     L126:;
                                                                                                                     store16(l22, (u16)0u);
                                                                                                                     store8(l22 + 2u, (u8)0u);
-                                                                                                                    store8(l8 + 156u, (u8)l42);
+                                                                                                                    store8(l8 + 156u, (u8)l39);
                                                                                                                     store32(l8 + 152u, l38);
-                                                                                                                    store32(l8 + 148u, l40);
-                                                                                                                    store32(l8 + 144u, l43);
+                                                                                                                    store32(l8 + 148u, l41);
+                                                                                                                    store32(l8 + 144u, l44);
                                                                                                                     functions_arguments_Arguments_next(e, l8 + 24ull, l8 + 144ull, l4);
                                                                                                                     const u32 t127 = load32(l8 + 24u);
                                                                                                                     l35 = t127;
                                                                                                                     const u32 t128 = load32(l8 + 28u);
                                                                                                                     if (l35 != t128) {
-                                                                                                                        l9 = l9 + ((u64)(l35 + l37) << 3);
-                                                                                                                        const u32 t130 = load8(l9);
+                                                                                                                        l3 = l3 + ((u64)(l35 + l37) << 3);
+                                                                                                                        const u32 t130 = load8(l3);
                                                                                                                         const u64 t131 = l19;
                                                                                                                         u32 v132;
                                                                                                                         if (t130) {
                                                                                                                             v132 = 0u;
                                                                                                                         } else {
-                                                                                                                            const u32 t133 = load8(l9 + 1ull);
+                                                                                                                            const u32 t133 = load8(l3 + 1ull);
                                                                                                                             v132 = t133;
                                                                                                                         }
                                                                                                                         store8(t131, (u8)v132);
@@ -18201,10 +18978,10 @@ static void engine_run(struct engine *e, u64 l0, u64 l1, u64 l2, u64 l3, u64 l4,
                                                                                                                 L125:;
                                                                                                                 store16(l23, (u16)0u);
                                                                                                                 store8(l23 + 2u, (u8)0u);
-                                                                                                                store8(l8 + 140u, (u8)l42);
+                                                                                                                store8(l8 + 140u, (u8)l39);
                                                                                                                 store32(l8 + 136u, l38);
-                                                                                                                store32(l8 + 132u, l40);
-                                                                                                                store32(l8 + 128u, l43);
+                                                                                                                store32(l8 + 132u, l41);
+                                                                                                                store32(l8 + 128u, l44);
                                                                                                                 store64(l8 + 120u, 0ull);
                                                                                                                 {
                                                                                                                     {
@@ -18258,7 +19035,7 @@ static void engine_run(struct engine *e, u64 l0, u64 l1, u64 l2, u64 l3, u64 l4,
                                                                                                                                                                                         goto L54;
                                                                                                                                                                                     }
                                                                                                                                                                                     L151:;
-                                                                                                                                                                                    functions_arithmetic_arithmetic(e, l8 + 120ull, l4, l44, l8 + 128ull);
+                                                                                                                                                                                    functions_arithmetic_arithmetic(e, l8 + 120ull, l4, l42, l8 + 128ull);
                                                                                                                                                                                     goto L54;
                                                                                                                                                                                 }
                                                                                                                                                                                 L150:;
@@ -18281,22 +19058,22 @@ static void engine_run(struct engine *e, u64 l0, u64 l1, u64 l2, u64 l3, u64 l4,
                                                                                                                                                                         l38 = t156;
                                                                                                                                                                         const u32 t157 = load32(l8 + 36u);
                                                                                                                                                                         l36 = t157;
-                                                                                                                                                                        l3 = (u64)(l36 + l37);
-                                                                                                                                                                        l2 = (u64)(l38 + l37) - l3;
-                                                                                                                                                                        l9 = (l9 + (l3 << 3)) - 8ull;
+                                                                                                                                                                        l7 = (u64)(l36 + l37);
+                                                                                                                                                                        l6 = (u64)(l38 + l37) - l7;
+                                                                                                                                                                        l3 = (l3 + (l7 << 3)) - 8ull;
                                                                                                                                                                         l35 = l36;
                                                                                                                                                                         L158:;
                                                                                                                                                                         {
                                                                                                                                                                             {
                                                                                                                                                                                 l34 = l35;
-                                                                                                                                                                                if (l2 == 0) goto L159;
-                                                                                                                                                                                const u32 t160 = load8(l9);
+                                                                                                                                                                                if (l6 == 0) goto L159;
+                                                                                                                                                                                const u32 t160 = load8(l3);
                                                                                                                                                                                 if (t160) goto L159;
-                                                                                                                                                                                l2 = l2 + 1ull;
+                                                                                                                                                                                l6 = l6 + 1ull;
                                                                                                                                                                                 l35 = l34 - 1u;
-                                                                                                                                                                                l3 = l9 + 1ull;
-                                                                                                                                                                                l9 = l9 - 8ull;
-                                                                                                                                                                                const u32 t161 = load8(l3);
+                                                                                                                                                                                l7 = l3 + 1ull;
+                                                                                                                                                                                l3 = l3 - 8ull;
+                                                                                                                                                                                const u32 t161 = load8(l7);
                                                                                                                                                                                 if ((t161 & 248u) == 48u) goto L158;
                                                                                                                                                                             }
                                                                                                                                                                             L159:;
@@ -18366,35 +19143,35 @@ static void engine_run(struct engine *e, u64 l0, u64 l1, u64 l2, u64 l3, u64 l4,
                                                                                                                                     if (l38 >= 8u) {
                                                                                                                                         forms_work_Work_find_among_more(e, l8 + 48ull, l4, l35, l34);
                                                                                                                                         const u32 t172 = load32(l8 + 52u);
-                                                                                                                                        l44 = t172;
+                                                                                                                                        l42 = t172;
                                                                                                                                         const u32 t173 = load8(l8 + 48u);
                                                                                                                                         v169 = t173; goto L169;
                                                                                                                                     }
                                                                                                                                     {
                                                                                                                                         if (l38 == 0) goto L174;
-                                                                                                                                        const u64 t175 = load32(l9 + 4ull);
-                                                                                                                                        l3 = (u64)(l34 + l37);
-                                                                                                                                        l2 = (u64)(l35 + l37);
-                                                                                                                                        if (t175 != (l3 - l2)) goto L174;
-                                                                                                                                        l11 = 17ull - (l2 << 3);
-                                                                                                                                        l2 = (l3 ^ 18446744073709551615ull) + l2;
-                                                                                                                                        l9 = l9 + (l3 << 3);
+                                                                                                                                        const u64 t175 = load32(l3 + 4ull);
+                                                                                                                                        l7 = (u64)(l34 + l37);
+                                                                                                                                        l6 = (u64)(l35 + l37);
+                                                                                                                                        if (t175 != (l7 - l6)) goto L174;
+                                                                                                                                        l11 = 17ull - (l6 << 3);
+                                                                                                                                        l6 = (l7 ^ 18446744073709551615ull) + l6;
+                                                                                                                                        l3 = l3 + (l7 << 3);
                                                                                                                                         L176:;
                                                                                                                                         {
-                                                                                                                                            l2 = l2 + 1ull;
-                                                                                                                                            if (l2 == 0) goto L57;
-                                                                                                                                            l3 = l9 - 7ull;
-                                                                                                                                            l6 = l9 + l11;
-                                                                                                                                            l9 = l9 - 8ull;
-                                                                                                                                            const u32 t177 = load8(l6);
-                                                                                                                                            const u32 t178 = load8(l3);
+                                                                                                                                            l6 = l6 + 1ull;
+                                                                                                                                            if (l6 == 0) goto L57;
+                                                                                                                                            l7 = l3 - 7ull;
+                                                                                                                                            l10 = l3 + l11;
+                                                                                                                                            l3 = l3 - 8ull;
+                                                                                                                                            const u32 t177 = load8(l10);
+                                                                                                                                            const u32 t178 = load8(l7);
                                                                                                                                             if (t177 == t178) goto L176;
                                                                                                                                         }
                                                                                                                                     }
                                                                                                                                     L174:;
                                                                                                                                     forms_work_Work_find_among_few(e, l8 + 56ull, l4, l35, l34);
                                                                                                                                     const u32 t179 = load32(l8 + 60u);
-                                                                                                                                    l44 = t179;
+                                                                                                                                    l42 = t179;
                                                                                                                                     const u32 t180 = load8(l8 + 56u);
                                                                                                                                     v169 = t180;
                                                                                                                                 }
@@ -18421,58 +19198,58 @@ static void engine_run(struct engine *e, u64 l0, u64 l1, u64 l2, u64 l3, u64 l4,
                                                                                                             L62:;
                                                                                                             store16(l20, (u16)0u);
                                                                                                             store8(l20 + 2u, (u8)0u);
-                                                                                                            store8(l8 + 108u, (u8)l42);
+                                                                                                            store8(l8 + 108u, (u8)l39);
                                                                                                             store32(l8 + 104u, l38);
-                                                                                                            store32(l8 + 100u, l40);
-                                                                                                            store32(l8 + 96u, l43);
+                                                                                                            store32(l8 + 100u, l41);
+                                                                                                            store32(l8 + 96u, l44);
                                                                                                             l7 = l8 + 112ull;
-                                                                                                            l1 = l4;
+                                                                                                            l2 = l4;
                                                                                                             l6 = l8 + 96ull;
                                                                                                             l3 = e->stack_pointer - 32ull;
                                                                                                             e->stack_pointer = l3;
                                                                                                             {
-                                                                                                                l2 = l3;
-                                                                                                                if ((i64)(l2 - e->stack) >= (i64)16ull) {
+                                                                                                                l1 = l3;
+                                                                                                                if ((i64)(l1 - e->stack) >= (i64)16ull) {
                                                                                                                     const u64 t183 = load64(l6 + 8u);
-                                                                                                                    store64(l2 + 24u, t183);
+                                                                                                                    store64(l1 + 24u, t183);
                                                                                                                     const u64 t184 = load64(l6);
-                                                                                                                    store64(l2 + 16u, t184);
-                                                                                                                    functions_arguments_Arguments_next(e, l2 + 8ull, l2 + 16ull, l1);
-                                                                                                                    l36 = 3u;
+                                                                                                                    store64(l1 + 16u, t184);
+                                                                                                                    functions_arguments_Arguments_next(e, l1 + 8ull, l1 + 16ull, l2);
+                                                                                                                    l35 = 3u;
                                                                                                                     u32 v185;
                                                                                                                     {
-                                                                                                                        const u32 t186 = load32(l2 + 12u);
-                                                                                                                        l35 = t186;
-                                                                                                                        const u32 t187 = load32(l2 + 8u);
-                                                                                                                        l34 = t187;
-                                                                                                                        if (l35 == l34) { v185 = 0u; goto L185; }
-                                                                                                                        const u64 t188 = load64(l1);
-                                                                                                                        const u32 t189 = load32(l1 + 16ull);
-                                                                                                                        const u32 t190 = l34;
-                                                                                                                        l34 = t189;
-                                                                                                                        l1 = (u64)(t190 + l34);
-                                                                                                                        l6 = t188 + (l1 << 3);
+                                                                                                                        const u32 t186 = load32(l1 + 12u);
+                                                                                                                        l39 = t186;
+                                                                                                                        const u32 t187 = load32(l1 + 8u);
+                                                                                                                        l42 = t187;
+                                                                                                                        if (l39 == l42) { v185 = 0u; goto L185; }
+                                                                                                                        const u64 t188 = load64(l2);
+                                                                                                                        const u32 t189 = load32(l2 + 16ull);
+                                                                                                                        const u32 t190 = l42;
+                                                                                                                        l42 = t189;
+                                                                                                                        l2 = (u64)(t190 + l42);
+                                                                                                                        l6 = t188 + (l2 << 3);
                                                                                                                         {
-                                                                                                                            l3 = (u64)(l34 + l35) - l1;
+                                                                                                                            l3 = (u64)(l39 + l42) - l2;
                                                                                                                             if (l3 <= 15ull) {
                                                                                                                                 {
                                                                                                                                     L194:;
                                                                                                                                     {
-                                                                                                                                        l35 = 0u;
+                                                                                                                                        l39 = 0u;
                                                                                                                                         const u32 t195 = load8(l6);
                                                                                                                                         if (t195 == 0) {
                                                                                                                                             const u32 t197 = load8(l6 + 1ull);
-                                                                                                                                            l35 = t197;
+                                                                                                                                            l39 = t197;
                                                                                                                                         }
-                                                                                                                                        l1 = l14 + 16ull;
-                                                                                                                                        const u64 t198 = load64(l1);
-                                                                                                                                        l9 = t198;
-                                                                                                                                        const u64 t199 = load64(l14 + 8ull);
-                                                                                                                                        if (l9 >= t199) goto L193;
-                                                                                                                                        const u64 t200 = load64(l14);
-                                                                                                                                        store8(t200 + l9, (u8)l35);
-                                                                                                                                        const u64 t201 = load64(l1);
-                                                                                                                                        store64(l1, t201 + 1ull);
+                                                                                                                                        l2 = l13 + 16ull;
+                                                                                                                                        const u64 t198 = load64(l2);
+                                                                                                                                        l10 = t198;
+                                                                                                                                        const u64 t199 = load64(l13 + 8ull);
+                                                                                                                                        if (l10 >= t199) goto L193;
+                                                                                                                                        const u64 t200 = load64(l13);
+                                                                                                                                        store8(t200 + l10, (u8)l39);
+                                                                                                                                        const u64 t201 = load64(l2);
+                                                                                                                                        store64(l2, t201 + 1ull);
                                                                                                                                         l6 = l6 + 8ull;
                                                                                                                                         l3 = l3 - 1ull;
                                                                                                                                         if ((l3 == 0) == 0) goto L194;
@@ -18480,34 +19257,34 @@ static void engine_run(struct engine *e, u64 l0, u64 l1, u64 l2, u64 l3, u64 l4,
                                                                                                                                     v185 = 0u; goto L185;
                                                                                                                                 }
                                                                                                                                 L193:;
-                                                                                                                                l6 = l14 + 24ull;
+                                                                                                                                l6 = l13 + 24ull;
                                                                                                                                 const u64 t202 = load64(l6);
                                                                                                                                 store64(l6, t202 + 1ull);
                                                                                                                                 goto L191;
                                                                                                                             }
-                                                                                                                            l1 = l14 + 16ull;
-                                                                                                                            const u64 t203 = load64(l1);
-                                                                                                                            const u64 t204 = load64(l14);
-                                                                                                                            const u64 t205 = load64(l14 + 8ull);
+                                                                                                                            l2 = l13 + 16ull;
+                                                                                                                            const u64 t203 = load64(l2);
+                                                                                                                            const u64 t204 = load64(l13);
+                                                                                                                            const u64 t205 = load64(l13 + 8ull);
                                                                                                                             const u64 t206 = c_filling_put_characters(e, l6, l3, t203, t204, t205);
                                                                                                                             l6 = t206;
-                                                                                                                            const u64 t207 = load64(l1);
-                                                                                                                            store64(l1, l6 + t207);
+                                                                                                                            const u64 t207 = load64(l2);
+                                                                                                                            store64(l2, l6 + t207);
                                                                                                                             if (l3 <= l6) { v185 = 0u; goto L185; }
-                                                                                                                            l6 = l14 + 24ull;
+                                                                                                                            l6 = l13 + 24ull;
                                                                                                                             const u64 t208 = load64(l6);
                                                                                                                             store64(l6, t208 + 1ull);
                                                                                                                         }
                                                                                                                         L191:;
-                                                                                                                        l36 = 4u;
+                                                                                                                        l35 = 4u;
                                                                                                                         v185 = 5u;
                                                                                                                     }
                                                                                                                     L185:;
-                                                                                                                    l35 = v185;
-                                                                                                                    store8(l7, (u8)l36);
+                                                                                                                    l39 = v185;
+                                                                                                                    store8(l7, (u8)l35);
                                                                                                                     store32(l7 + 4ull, 0u);
-                                                                                                                    store8(l7 + 1ull, (u8)l35);
-                                                                                                                    e->stack_pointer = l2 + 32ull;
+                                                                                                                    store8(l7 + 1ull, (u8)l39);
+                                                                                                                    e->stack_pointer = l1 + 32ull;
                                                                                                                     goto L181;
                                                                                                                 }
                                                                                                                 trap();
@@ -18527,7 +19304,7 @@ static void engine_run(struct engine *e, u64 l0, u64 l1, u64 l2, u64 l3, u64 l4,
                                                                                                     }
                                                                                                     L57:;
                                                                                                     store64(l4 + 44ull, 0ull);
-                                                                                                    l44 = 0u;
+                                                                                                    l42 = 0u;
                                                                                                     goto L55;
                                                                                                 }
                                                                                                 L56:;
@@ -18548,28 +19325,28 @@ static void engine_run(struct engine *e, u64 l0, u64 l1, u64 l2, u64 l3, u64 l4,
                                                                                                 {
                                                                                                     const u32 t217 = load32(l4 + 44ull);
                                                                                                     l35 = t217;
-                                                                                                    if (l44 == l35) goto L216;
-                                                                                                    if (l35 < l44) {
-                                                                                                        l38 = l44 - l35;
+                                                                                                    if (l42 == l35) goto L216;
+                                                                                                    if (l35 < l42) {
+                                                                                                        l38 = l42 - l35;
                                                                                                         const u32 t219 = load32(l4 + 16ull);
-                                                                                                        l42 = t219;
+                                                                                                        l39 = t219;
                                                                                                         L220:;
                                                                                                         {
                                                                                                             l35 = 3u;
-                                                                                                            if (l34 < l42) {
+                                                                                                            if (l34 < l39) {
                                                                                                                 const u64 t222 = load64(l4);
-                                                                                                                l9 = t222 + ((u64)l34 << 3);
-                                                                                                                const u32 t223 = load32(l9 + 4ull);
-                                                                                                                const u32 t224 = load8(l9);
+                                                                                                                l3 = t222 + ((u64)l34 << 3);
+                                                                                                                const u32 t223 = load32(l3 + 4ull);
+                                                                                                                const u32 t224 = load8(l3);
                                                                                                                 l35 = (t224 == 4u) ? (t223 + 3u) : 3u;
                                                                                                             }
-                                                                                                            l43 = l34 + 1u;
+                                                                                                            l44 = l34 + 1u;
                                                                                                             u32 v225;
-                                                                                                            if (l42 > l43) {
+                                                                                                            if (l39 > l44) {
                                                                                                                 const u64 t226 = load64(l4);
-                                                                                                                l9 = t226 + ((u64)l43 << 3);
-                                                                                                                const u32 t227 = load32(l9 + 4ull);
-                                                                                                                const u32 t228 = load8(l9);
+                                                                                                                l3 = t226 + ((u64)l44 << 3);
+                                                                                                                const u32 t227 = load32(l3 + 4ull);
+                                                                                                                const u32 t228 = load8(l3);
                                                                                                                 v225 = (t228 == 4u) ? t227 : 0u;
                                                                                                             } else {
                                                                                                                 v225 = 0u;
@@ -18580,53 +19357,53 @@ static void engine_run(struct engine *e, u64 l0, u64 l1, u64 l2, u64 l3, u64 l4,
                                                                                                         }
                                                                                                         goto L216;
                                                                                                     }
-                                                                                                    if (l44 == 0) {
+                                                                                                    if (l42 == 0) {
                                                                                                         l34 = 0u;
                                                                                                         goto L216;
                                                                                                     }
                                                                                                     const u32 t230 = load32(l4 + 16ull);
                                                                                                     l38 = t230;
                                                                                                     l34 = 0u;
-                                                                                                    l42 = l44;
+                                                                                                    l39 = l42;
                                                                                                     L231:;
                                                                                                     {
                                                                                                         l35 = 3u;
                                                                                                         if (l34 < l38) {
                                                                                                             const u64 t233 = load64(l4);
-                                                                                                            l9 = t233 + ((u64)l34 << 3);
-                                                                                                            const u32 t234 = load32(l9 + 4ull);
-                                                                                                            const u32 t235 = load8(l9);
+                                                                                                            l3 = t233 + ((u64)l34 << 3);
+                                                                                                            const u32 t234 = load32(l3 + 4ull);
+                                                                                                            const u32 t235 = load8(l3);
                                                                                                             l35 = (t235 == 4u) ? (t234 + 3u) : 3u;
                                                                                                         }
-                                                                                                        l43 = l34 + 1u;
+                                                                                                        l44 = l34 + 1u;
                                                                                                         u32 v236;
-                                                                                                        if (l38 > l43) {
+                                                                                                        if (l38 > l44) {
                                                                                                             const u64 t237 = load64(l4);
-                                                                                                            l9 = t237 + ((u64)l43 << 3);
-                                                                                                            const u32 t238 = load32(l9 + 4ull);
-                                                                                                            const u32 t239 = load8(l9);
+                                                                                                            l3 = t237 + ((u64)l44 << 3);
+                                                                                                            const u32 t238 = load32(l3 + 4ull);
+                                                                                                            const u32 t239 = load8(l3);
                                                                                                             v236 = (t239 == 4u) ? t238 : 0u;
                                                                                                         } else {
                                                                                                             v236 = 0u;
                                                                                                         }
                                                                                                         l34 = v236 + (l34 + l35);
-                                                                                                        l42 = l42 - 1u;
-                                                                                                        if (l42) goto L231;
+                                                                                                        l39 = l39 - 1u;
+                                                                                                        if (l39) goto L231;
                                                                                                     }
                                                                                                 }
                                                                                                 L216:;
                                                                                                 l35 = 0u;
                                                                                                 const u64 t240 = load64(l4);
-                                                                                                l3 = t240;
-                                                                                                l9 = l3 + ((u64)l34 << 3);
-                                                                                                const u32 t241 = load32(l9 + 12ull);
+                                                                                                l7 = t240;
+                                                                                                l3 = l7 + ((u64)l34 << 3);
+                                                                                                const u32 t241 = load32(l3 + 12ull);
                                                                                                 l38 = t241;
-                                                                                                const u32 t242 = load32(l9 + 20ull);
+                                                                                                const u32 t242 = load32(l3 + 20ull);
                                                                                                 l36 = t242;
                                                                                                 if (l38 != l36) {
-                                                                                                    const u32 t244 = load32(l9 + 4ull);
-                                                                                                    l42 = (l34 + t244) + 3u;
-                                                                                                    l35 = l42 + l36;
+                                                                                                    const u32 t244 = load32(l3 + 4ull);
+                                                                                                    l39 = (l34 + t244) + 3u;
+                                                                                                    l35 = l39 + l36;
                                                                                                     u32 v245;
                                                                                                     {
                                                                                                         l34 = l38 - l36;
@@ -18634,10 +19411,10 @@ static void engine_run(struct engine *e, u64 l0, u64 l1, u64 l2, u64 l3, u64 l4,
                                                                                                         l46 = t246;
                                                                                                         const u32 t247 = load32(l4 + 20ull);
                                                                                                         const u32 t248 = load32(l4 + 24ull);
-                                                                                                        l43 = t248;
+                                                                                                        l44 = t248;
                                                                                                         const u32 t249 = load32(l4 + 16ull);
-                                                                                                        if (l34 > (l46 - (t247 + (l43 + t249)))) {
-                                                                                                            store_fill_load_items_in_way(e, l8 + 40ull, l4, l35, l38 + l42);
+                                                                                                        if (l34 > (l46 - (t247 + (l44 + t249)))) {
+                                                                                                            store_fill_load_items_in_way(e, l8 + 40ull, l4, l35, l38 + l39);
                                                                                                             const u32 t251 = load8(l8 + 40u);
                                                                                                             l36 = t251;
                                                                                                             const u32 t252 = load32(l8 + 44u);
@@ -18653,68 +19430,68 @@ static void engine_run(struct engine *e, u64 l0, u64 l1, u64 l2, u64 l3, u64 l4,
                                                                                                                             {
                                                                                                                                 if (l34 >= 8u) {
                                                                                                                                     if (l34 == 8u) goto L257;
-                                                                                                                                    l9 = l3 + (l11 << 3);
-                                                                                                                                    l2 = l1;
+                                                                                                                                    l3 = l7 + (l11 << 3);
+                                                                                                                                    l6 = l1;
                                                                                                                                     goto L258;
                                                                                                                                 }
                                                                                                                                 if (l34 >= 4u) {
                                                                                                                                     l36 = 0u;
-                                                                                                                                    l9 = l3 + (l11 << 3);
-                                                                                                                                    const u32 t261 = load8(l9 + 24ull);
-                                                                                                                                    const u32 t262 = load8(l9 + 16ull);
-                                                                                                                                    const u32 t263 = load8(l9 + 8ull);
-                                                                                                                                    const u32 t264 = load8(l9);
+                                                                                                                                    l3 = l7 + (l11 << 3);
+                                                                                                                                    const u32 t261 = load8(l3 + 24ull);
+                                                                                                                                    const u32 t262 = load8(l3 + 16ull);
+                                                                                                                                    const u32 t263 = load8(l3 + 8ull);
+                                                                                                                                    const u32 t264 = load8(l3);
                                                                                                                                     if (((t261 + t262) | (t263 + t264)) & 255u) { v245 = 0u; goto L245; }
-                                                                                                                                    l2 = l1 + l11;
-                                                                                                                                    l9 = l3 + (l2 << 3);
-                                                                                                                                    const u32 t265 = load8(l9 - 8ull);
-                                                                                                                                    const u32 t266 = load8(l9 - 16ull);
-                                                                                                                                    const u32 t267 = load8(l9 - 24ull);
-                                                                                                                                    const u32 t268 = load8(l9 - 32ull);
+                                                                                                                                    l6 = l1 + l11;
+                                                                                                                                    l3 = l7 + (l6 << 3);
+                                                                                                                                    const u32 t265 = load8(l3 - 8ull);
+                                                                                                                                    const u32 t266 = load8(l3 - 16ull);
+                                                                                                                                    const u32 t267 = load8(l3 - 24ull);
+                                                                                                                                    const u32 t268 = load8(l3 - 32ull);
                                                                                                                                     if (((t265 + t266) | (t267 + t268)) & 255u) { v245 = 0u; goto L245; }
-                                                                                                                                    l36 = l34 + l43;
-                                                                                                                                    l9 = (u64)(l46 - l36);
-                                                                                                                                    core_slice_edits_slice_T_copy_from_slice(e, l3 + (l9 << 3), l3 + (l11 << 3), 4ull);
-                                                                                                                                    const u64 t269 = l9 - l11;
-                                                                                                                                    l9 = l2 - 4ull;
-                                                                                                                                    core_slice_edits_slice_T_copy_from_slice(e, l3 + ((t269 + l9) << 3), l3 + (l9 << 3), 4ull);
+                                                                                                                                    l36 = l34 + l44;
+                                                                                                                                    l3 = (u64)(l46 - l36);
+                                                                                                                                    core_slice_edits_slice_T_copy_from_slice(e, l7 + (l3 << 3), l7 + (l11 << 3), 4ull);
+                                                                                                                                    const u64 t269 = l3 - l11;
+                                                                                                                                    l3 = l6 - 4ull;
+                                                                                                                                    core_slice_edits_slice_T_copy_from_slice(e, l7 + ((t269 + l3) << 3), l7 + (l3 << 3), 4ull);
                                                                                                                                     goto L254;
                                                                                                                                 }
-                                                                                                                                l9 = l3 + (l11 << 3);
-                                                                                                                                const u32 t270 = load8(l9);
+                                                                                                                                l3 = l7 + (l11 << 3);
+                                                                                                                                const u32 t270 = load8(l3);
                                                                                                                                 l38 = t270;
                                                                                                                                 if (l34 < 2u) goto L256;
                                                                                                                                 l36 = 0u;
-                                                                                                                                const u32 t271 = load8(l9 + 8ull);
+                                                                                                                                const u32 t271 = load8(l3 + 8ull);
                                                                                                                                 if (t271 | (l38 & 255u)) { v245 = 0u; goto L245; }
-                                                                                                                                l2 = l1 + l11;
-                                                                                                                                l9 = l3 + (l2 << 3);
-                                                                                                                                const u32 t272 = load8(l9 - 8ull);
-                                                                                                                                const u32 t273 = load8(l9 - 16ull);
+                                                                                                                                l6 = l1 + l11;
+                                                                                                                                l3 = l7 + (l6 << 3);
+                                                                                                                                const u32 t272 = load8(l3 - 8ull);
+                                                                                                                                const u32 t273 = load8(l3 - 16ull);
                                                                                                                                 if (t272 | t273) { v245 = 0u; goto L245; }
-                                                                                                                                l36 = l34 + l43;
-                                                                                                                                l9 = (u64)(l46 - l36);
-                                                                                                                                core_slice_edits_slice_T_copy_from_slice(e, l3 + (l9 << 3), l3 + (l11 << 3), 2ull);
-                                                                                                                                const u64 t274 = l9 - l11;
-                                                                                                                                l9 = l2 - 2ull;
-                                                                                                                                core_slice_edits_slice_T_copy_from_slice(e, l3 + ((t274 + l9) << 3), l3 + (l9 << 3), 2ull);
+                                                                                                                                l36 = l34 + l44;
+                                                                                                                                l3 = (u64)(l46 - l36);
+                                                                                                                                core_slice_edits_slice_T_copy_from_slice(e, l7 + (l3 << 3), l7 + (l11 << 3), 2ull);
+                                                                                                                                const u64 t274 = l3 - l11;
+                                                                                                                                l3 = l6 - 2ull;
+                                                                                                                                core_slice_edits_slice_T_copy_from_slice(e, l7 + ((t274 + l3) << 3), l7 + (l3 << 3), 2ull);
                                                                                                                                 goto L254;
                                                                                                                             }
                                                                                                                             L258:;
                                                                                                                             L275:;
                                                                                                                             {
-                                                                                                                                const u32 t276 = load8(l9 + 56ull);
-                                                                                                                                const u32 t277 = load8(l9 + 48ull);
-                                                                                                                                const u32 t278 = load8(l9 + 40ull);
-                                                                                                                                const u32 t279 = load8(l9 + 32ull);
-                                                                                                                                const u32 t280 = load8(l9 + 24ull);
-                                                                                                                                const u32 t281 = load8(l9 + 16ull);
-                                                                                                                                const u32 t282 = load8(l9 + 8ull);
-                                                                                                                                const u32 t283 = load8(l9);
+                                                                                                                                const u32 t276 = load8(l3 + 56ull);
+                                                                                                                                const u32 t277 = load8(l3 + 48ull);
+                                                                                                                                const u32 t278 = load8(l3 + 40ull);
+                                                                                                                                const u32 t279 = load8(l3 + 32ull);
+                                                                                                                                const u32 t280 = load8(l3 + 24ull);
+                                                                                                                                const u32 t281 = load8(l3 + 16ull);
+                                                                                                                                const u32 t282 = load8(l3 + 8ull);
+                                                                                                                                const u32 t283 = load8(l3);
                                                                                                                                 if ((t276 | ((t277 + (t278 + (t279 + (t280 + (t281 + (t282 + t283)))))) & 255u)) == 0) {
-                                                                                                                                    l9 = l9 + 64ull;
-                                                                                                                                    l2 = l2 - 8ull;
-                                                                                                                                    if (l2 >= 9ull) goto L275;
+                                                                                                                                    l3 = l3 + 64ull;
+                                                                                                                                    l6 = l6 - 8ull;
+                                                                                                                                    if (l6 >= 9ull) goto L275;
                                                                                                                                     goto L257;
                                                                                                                                 }
                                                                                                                             }
@@ -18723,119 +19500,119 @@ static void engine_run(struct engine *e, u64 l0, u64 l1, u64 l2, u64 l3, u64 l4,
                                                                                                                         }
                                                                                                                         L257:;
                                                                                                                         l36 = 0u;
-                                                                                                                        l2 = l1 + l11;
-                                                                                                                        l9 = l3 + (l2 << 3);
-                                                                                                                        const u32 t285 = load8(l9 - 56ull);
-                                                                                                                        const u32 t286 = load8(l9 - 64ull);
-                                                                                                                        const u32 t287 = load8(l9 - 48ull);
-                                                                                                                        const u32 t288 = load8(l9 - 40ull);
-                                                                                                                        const u32 t289 = load8(l9 - 32ull);
-                                                                                                                        const u32 t290 = load8(l9 - 24ull);
-                                                                                                                        const u32 t291 = load8(l9 - 16ull);
-                                                                                                                        const u32 t292 = load8(l9 - 8ull);
+                                                                                                                        l6 = l1 + l11;
+                                                                                                                        l3 = l7 + (l6 << 3);
+                                                                                                                        const u32 t285 = load8(l3 - 56ull);
+                                                                                                                        const u32 t286 = load8(l3 - 64ull);
+                                                                                                                        const u32 t287 = load8(l3 - 48ull);
+                                                                                                                        const u32 t288 = load8(l3 - 40ull);
+                                                                                                                        const u32 t289 = load8(l3 - 32ull);
+                                                                                                                        const u32 t290 = load8(l3 - 24ull);
+                                                                                                                        const u32 t291 = load8(l3 - 16ull);
+                                                                                                                        const u32 t292 = load8(l3 - 8ull);
                                                                                                                         if ((((((((t285 + t286) + t287) + t288) + t289) + t290) + t291) & 255u) | t292) { v245 = 0u; goto L245; }
-                                                                                                                        l36 = l34 + l43;
+                                                                                                                        l36 = l34 + l44;
                                                                                                                         l18 = (u64)(l46 - l36);
                                                                                                                         if (l34 > 24u) goto L255;
                                                                                                                         if (l34 != 8u) {
                                                                                                                             l24 = l18 << 3;
                                                                                                                             l25 = l11 << 3;
                                                                                                                             l26 = (l18 - l11) & 2305843009213693944ull;
-                                                                                                                            l7 = l1;
-                                                                                                                            l6 = l3;
+                                                                                                                            l2 = l1;
+                                                                                                                            l10 = l7;
                                                                                                                             L294:;
                                                                                                                             {
-                                                                                                                                l9 = l6 + l25;
-                                                                                                                                l2 = l6 + l24;
+                                                                                                                                l3 = l10 + l25;
+                                                                                                                                l6 = l10 + l24;
                                                                                                                                 {
                                                                                                                                     if (l26 == 0) {
-                                                                                                                                        const u32 t297 = load8(l9);
-                                                                                                                                        store8(l2, (u8)t297);
-                                                                                                                                        const u32 t298 = load8(l9 + 1ull);
-                                                                                                                                        store8(l2 + 1ull, (u8)t298);
-                                                                                                                                        const u32 t299 = load32(l9 + 4ull);
-                                                                                                                                        store32(l2 + 4ull, t299);
-                                                                                                                                        const u32 t300 = load16(l9 + 8ull);
-                                                                                                                                        store16(l2 + 8ull, (u16)t300);
-                                                                                                                                        const u32 t301 = load32(l9 + 12ull);
-                                                                                                                                        store32(l2 + 12ull, t301);
-                                                                                                                                        const u32 t302 = load16(l9 + 16ull);
-                                                                                                                                        store16(l2 + 16ull, (u16)t302);
-                                                                                                                                        const u32 t303 = load32(l9 + 20ull);
-                                                                                                                                        store32(l2 + 20ull, t303);
-                                                                                                                                        const u32 t304 = load16(l9 + 24ull);
-                                                                                                                                        store16(l2 + 24ull, (u16)t304);
-                                                                                                                                        const u32 t305 = load32(l9 + 28ull);
-                                                                                                                                        store32(l2 + 28ull, t305);
-                                                                                                                                        const u32 t306 = load16(l9 + 32ull);
-                                                                                                                                        store16(l2 + 32ull, (u16)t306);
-                                                                                                                                        const u32 t307 = load32(l9 + 36ull);
-                                                                                                                                        store32(l2 + 36ull, t307);
-                                                                                                                                        const u32 t308 = load16(l9 + 40ull);
-                                                                                                                                        store16(l2 + 40ull, (u16)t308);
-                                                                                                                                        const u32 t309 = load32(l9 + 44ull);
-                                                                                                                                        store32(l2 + 44ull, t309);
-                                                                                                                                        const u32 t310 = load16(l9 + 48ull);
-                                                                                                                                        store16(l2 + 48ull, (u16)t310);
-                                                                                                                                        const u32 t311 = load32(l9 + 52ull);
-                                                                                                                                        store32(l2 + 52ull, t311);
-                                                                                                                                        const u32 t312 = load16(l9 + 56ull);
+                                                                                                                                        const u32 t297 = load8(l3);
+                                                                                                                                        store8(l6, (u8)t297);
+                                                                                                                                        const u32 t298 = load8(l3 + 1ull);
+                                                                                                                                        store8(l6 + 1ull, (u8)t298);
+                                                                                                                                        const u32 t299 = load32(l3 + 4ull);
+                                                                                                                                        store32(l6 + 4ull, t299);
+                                                                                                                                        const u32 t300 = load16(l3 + 8ull);
+                                                                                                                                        store16(l6 + 8ull, (u16)t300);
+                                                                                                                                        const u32 t301 = load32(l3 + 12ull);
+                                                                                                                                        store32(l6 + 12ull, t301);
+                                                                                                                                        const u32 t302 = load16(l3 + 16ull);
+                                                                                                                                        store16(l6 + 16ull, (u16)t302);
+                                                                                                                                        const u32 t303 = load32(l3 + 20ull);
+                                                                                                                                        store32(l6 + 20ull, t303);
+                                                                                                                                        const u32 t304 = load16(l3 + 24ull);
+                                                                                                                                        store16(l6 + 24ull, (u16)t304);
+                                                                                                                                        const u32 t305 = load32(l3 + 28ull);
+                                                                                                                                        store32(l6 + 28ull, t305);
+                                                                                                                                        const u32 t306 = load16(l3 + 32ull);
+                                                                                                                                        store16(l6 + 32ull, (u16)t306);
+                                                                                                                                        const u32 t307 = load32(l3 + 36ull);
+                                                                                                                                        store32(l6 + 36ull, t307);
+                                                                                                                                        const u32 t308 = load16(l3 + 40ull);
+                                                                                                                                        store16(l6 + 40ull, (u16)t308);
+                                                                                                                                        const u32 t309 = load32(l3 + 44ull);
+                                                                                                                                        store32(l6 + 44ull, t309);
+                                                                                                                                        const u32 t310 = load16(l3 + 48ull);
+                                                                                                                                        store16(l6 + 48ull, (u16)t310);
+                                                                                                                                        const u32 t311 = load32(l3 + 52ull);
+                                                                                                                                        store32(l6 + 52ull, t311);
+                                                                                                                                        const u32 t312 = load16(l3 + 56ull);
                                                                                                                                         l35 = t312;
-                                                                                                                                        const u32 t313 = load32(l9 + 60ull);
-                                                                                                                                        store32(l2 + 60ull, t313);
-                                                                                                                                        store16(l2 + 56ull, (u16)l35);
+                                                                                                                                        const u32 t313 = load32(l3 + 60ull);
+                                                                                                                                        store32(l6 + 60ull, t313);
+                                                                                                                                        store16(l6 + 56ull, (u16)l35);
                                                                                                                                         goto L295;
                                                                                                                                     }
-                                                                                                                                    const u64 t314 = load64(l9);
+                                                                                                                                    const u64 t314 = load64(l3);
                                                                                                                                     l27 = t314;
-                                                                                                                                    const u64 t315 = load64(l9 + 8u);
+                                                                                                                                    const u64 t315 = load64(l3 + 8u);
                                                                                                                                     l28 = t315;
-                                                                                                                                    const u64 t316 = load64(l9 + 16u);
+                                                                                                                                    const u64 t316 = load64(l3 + 16u);
                                                                                                                                     l29 = t316;
-                                                                                                                                    const u64 t317 = load64(l9 + 24u);
+                                                                                                                                    const u64 t317 = load64(l3 + 24u);
                                                                                                                                     l30 = t317;
-                                                                                                                                    const u64 t318 = load64(l9 + 32u);
+                                                                                                                                    const u64 t318 = load64(l3 + 32u);
                                                                                                                                     l31 = t318;
-                                                                                                                                    const u64 t319 = load64(l9 + 40u);
+                                                                                                                                    const u64 t319 = load64(l3 + 40u);
                                                                                                                                     l32 = t319;
-                                                                                                                                    const u64 t320 = load64(l9 + 48u);
+                                                                                                                                    const u64 t320 = load64(l3 + 48u);
                                                                                                                                     l33 = t320;
-                                                                                                                                    const u64 t321 = load64(l9 + 56u);
-                                                                                                                                    store64(l2 + 56u, t321);
-                                                                                                                                    store64(l2 + 48u, l33);
-                                                                                                                                    store64(l2 + 40u, l32);
-                                                                                                                                    store64(l2 + 32u, l31);
-                                                                                                                                    store64(l2 + 24u, l30);
-                                                                                                                                    store64(l2 + 16u, l29);
-                                                                                                                                    store64(l2 + 8u, l28);
-                                                                                                                                    store64(l2, l27);
+                                                                                                                                    const u64 t321 = load64(l3 + 56u);
+                                                                                                                                    store64(l6 + 56u, t321);
+                                                                                                                                    store64(l6 + 48u, l33);
+                                                                                                                                    store64(l6 + 40u, l32);
+                                                                                                                                    store64(l6 + 32u, l31);
+                                                                                                                                    store64(l6 + 24u, l30);
+                                                                                                                                    store64(l6 + 16u, l29);
+                                                                                                                                    store64(l6 + 8u, l28);
+                                                                                                                                    store64(l6, l27);
                                                                                                                                 }
                                                                                                                                 L295:;
-                                                                                                                                l6 = l6 + 64ull;
-                                                                                                                                l7 = l7 - 8ull;
-                                                                                                                                if (l7 > 8ull) goto L294;
+                                                                                                                                l10 = l10 + 64ull;
+                                                                                                                                l2 = l2 - 8ull;
+                                                                                                                                if (l2 > 8ull) goto L294;
                                                                                                                             }
                                                                                                                         }
-                                                                                                                        l9 = l1 - 8ull;
-                                                                                                                        core_slice_edits_slice_T_copy_from_slice(e, l3 + ((l9 + l18) << 3), l3 + ((l9 + l11) << 3), 8ull);
+                                                                                                                        l3 = l1 - 8ull;
+                                                                                                                        core_slice_edits_slice_T_copy_from_slice(e, l7 + ((l3 + l18) << 3), l7 + ((l3 + l11) << 3), 8ull);
                                                                                                                         store32(l4 + 24ull, l36);
                                                                                                                         goto L253;
                                                                                                                     }
                                                                                                                     L256:;
                                                                                                                     l36 = 0u;
                                                                                                                     if (l38 & 255u) { v245 = 0u; goto L245; }
-                                                                                                                    l36 = l34 + l43;
+                                                                                                                    l36 = l34 + l44;
                                                                                                                     if (l34 != 1u) goto L254;
-                                                                                                                    l9 = l3 + ((u64)(l46 - l36) << 3);
-                                                                                                                    l2 = l3 + (l11 << 3);
-                                                                                                                    const u32 t322 = load16(l2);
-                                                                                                                    store16(l9, (u16)t322);
-                                                                                                                    const u32 t323 = load32(l2 + 4ull);
-                                                                                                                    store32(l9 + 4ull, t323);
+                                                                                                                    l3 = l7 + ((u64)(l46 - l36) << 3);
+                                                                                                                    l6 = l7 + (l11 << 3);
+                                                                                                                    const u32 t322 = load16(l6);
+                                                                                                                    store16(l3, (u16)t322);
+                                                                                                                    const u32 t323 = load32(l6 + 4ull);
+                                                                                                                    store32(l3 + 4ull, t323);
                                                                                                                     goto L254;
                                                                                                                 }
                                                                                                                 L255:;
-                                                                                                                space_copies_copy_long(e, l3, l11, l2, l18);
+                                                                                                                space_copies_copy_long(e, l7, l11, l6, l18);
                                                                                                             }
                                                                                                             L254:;
                                                                                                             store32(l4 + 24ull, l36);
@@ -18853,19 +19630,37 @@ static void engine_run(struct engine *e, u64 l0, u64 l1, u64 l2, u64 l3, u64 l4,
                                                                                                 goto L54;
                                                                                             }
                                                                                             L214:;
-                                                                                            const u32 t324 = forms_work_Work_fill_body(e, l4, l44, l49, l48);
-                                                                                            l34 = t324;
+                                                                                            u32 v324;
+                                                                                            {
+                                                                                                const u32 t325 = load32(l4 + 44ull);
+                                                                                                if (l42 != t325) {
+                                                                                                    const u32 t327 = forms_work_Work_fill_other(e, l4, l42, l49, l48);
+                                                                                                    v324 = t327; goto L324;
+                                                                                                }
+                                                                                                const u64 t328 = load64(l4);
+                                                                                                const u32 t329 = load32(l4 + 48ull);
+                                                                                                l34 = t329;
+                                                                                                l3 = t328 + ((u64)l34 << 3);
+                                                                                                const u32 t330 = load32(l3 + 20ull);
+                                                                                                const u32 t331 = load32(l3 + 4ull);
+                                                                                                l34 = (l34 + t331) + 3u;
+                                                                                                const u32 t332 = load32(l3 + 12ull);
+                                                                                                const u32 t333 = store_fill_fill_items(e, l4, t330 + l34, l34 + t332, l49, l48);
+                                                                                                v324 = t333;
+                                                                                            }
+                                                                                            L324:;
+                                                                                            l34 = v324;
                                                                                             store32(l8 + 124u, 0u);
                                                                                             store8(l8 + 121u, (u8)0u);
                                                                                             store8(l8 + 120u, (u8)l34);
                                                                                         }
                                                                                         L54:;
-                                                                                        const u32 t325 = load32(l8 + 124u);
-                                                                                        l34 = t325;
-                                                                                        const u32 t326 = load8(l8 + 121u);
-                                                                                        l36 = t326;
-                                                                                        const u32 t327 = load8(l8 + 120u);
-                                                                                        l35 = t327;
+                                                                                        const u32 t334 = load32(l8 + 124u);
+                                                                                        l34 = t334;
+                                                                                        const u32 t335 = load8(l8 + 121u);
+                                                                                        l36 = t335;
+                                                                                        const u32 t336 = load8(l8 + 120u);
+                                                                                        l35 = t336;
                                                                                     }
                                                                                     L53:;
                                                                                     store32(l8 + 116u, l34);
@@ -18902,124 +19697,124 @@ static void engine_run(struct engine *e, u64 l0, u64 l1, u64 l2, u64 l3, u64 l4,
                                                             }
                                                             L47:;
                                                             l47 = l45 + l47;
-                                                            const u64 t328 = load64(l4);
-                                                            const u32 t329 = load32(l4 + 16ull);
-                                                            l45 = t329;
-                                                            l9 = t328 + ((u64)l45 << 3);
+                                                            const u64 t337 = load64(l4);
+                                                            const u32 t338 = load32(l4 + 16ull);
+                                                            l45 = t338;
+                                                            l3 = t337 + ((u64)l45 << 3);
                                                             {
                                                                 {
-                                                                    const u32 t332 = load32(l4 + 32ull);
-                                                                    l37 = t332;
-                                                                    l40 = l37 <= l39;
-                                                                    if (l40) goto L331;
-                                                                    if ((l37 - l39) != 1u) goto L331;
-                                                                    const u32 t333 = load32((l9 + ((l16 << 3) & 34359738360ull)) + 4ull);
-                                                                    l37 = t333;
-                                                                    l40 = l37 ? (l50 - l37) : 0u;
-                                                                    goto L330;
+                                                                    const u32 t341 = load32(l4 + 32ull);
+                                                                    l37 = t341;
+                                                                    l41 = l37 <= l40;
+                                                                    if (l41) goto L340;
+                                                                    if ((l37 - l40) != 1u) goto L340;
+                                                                    const u32 t342 = load32((l3 + ((l16 << 3) & 34359738360ull)) + 4ull);
+                                                                    l37 = t342;
+                                                                    l41 = l37 ? (l50 - l37) : 0u;
+                                                                    goto L339;
                                                                 }
-                                                                L331:;
-                                                                if (l40) {
-                                                                    l40 = l37;
-                                                                    goto L330;
+                                                                L340:;
+                                                                if (l41) {
+                                                                    l41 = l37;
+                                                                    goto L339;
                                                                 }
-                                                                L335:;
+                                                                L344:;
                                                                 {
-                                                                    const u32 t336 = load32((l9 + ((u64)(l37 - 1u) << 3)) + 4ull);
-                                                                    l40 = t336;
-                                                                    l37 = l37 - l40;
-                                                                    l40 = l40 ? l37 : 0u;
-                                                                    if (l40 > l39) goto L335;
+                                                                    const u32 t345 = load32((l3 + ((u64)(l37 - 1u) << 3)) + 4ull);
+                                                                    l41 = t345;
+                                                                    l37 = l37 - l41;
+                                                                    l41 = l41 ? l37 : 0u;
+                                                                    if (l41 > l40) goto L344;
                                                                 }
                                                             }
-                                                            L330:;
-                                                            store32(l4 + 20ull, l39);
-                                                            store32(l4 + 32ull, l40);
+                                                            L339:;
+                                                            store32(l4 + 20ull, l40);
+                                                            store32(l4 + 32ull, l41);
                                                             l37 = l34 + l47;
                                                             goto L25;
                                                         }
                                                         L28:;
-                                                        l4 = l17 - l13;
+                                                        l4 = l17 - l15;
                                                         l36 = 2u;
                                                         goto L10;
                                                     }
                                                     L27:;
-                                                    const u32 t337 = load32(l4 + 24ull);
-                                                    const u32 t338 = load32(l4 + 20ull);
-                                                    const u32 t339 = load32(l4 + 16ull);
-                                                    l37 = t337 + (t338 + t339);
-                                                    l4 = l17 - l13;
-                                                    l39 = 1u << (l36 & 31);
-                                                    if (l39 & 3u) goto L15;
-                                                    if (l39 & 12u) goto L10;
-                                                    l41 = (l37 > l41) ? l37 : l41;
+                                                    const u32 t346 = load32(l4 + 24ull);
+                                                    const u32 t347 = load32(l4 + 20ull);
+                                                    const u32 t348 = load32(l4 + 16ull);
+                                                    l37 = t346 + (t347 + t348);
+                                                    l4 = l17 - l15;
+                                                    l40 = 1u << (l36 & 31);
+                                                    if (l40 & 3u) goto L15;
+                                                    if (l40 & 12u) goto L10;
+                                                    l43 = (l37 > l43) ? l37 : l43;
                                                     goto L10;
                                                 }
                                                 L26:;
-                                                l9 = l4 + 20ull;
-                                                const u32 t340 = load32(l9);
-                                                l34 = t340;
-                                                core_delivery_deliver(e, l4, l39, l40);
+                                                l3 = l4 + 20ull;
+                                                const u32 t349 = load32(l3);
+                                                l34 = t349;
+                                                core_delivery_deliver(e, l4, l40, l41);
                                                 l37 = l34 + (l37 + l45);
-                                                const u32 t341 = load32(l9);
-                                                l39 = t341;
-                                                const u32 t342 = load32(l4 + 16ull);
-                                                l45 = t342;
+                                                const u32 t350 = load32(l3);
+                                                l40 = t350;
+                                                const u32 t351 = load32(l4 + 16ull);
+                                                l45 = t351;
                                             }
                                             L25:;
                                             store32(l8 + 88u, 0u);
-                                            store32(l8 + 92u, l39);
-                                            const u32 t343 = load32(l4 + 24ull);
-                                            l39 = t343 + (l39 + l45);
-                                            l41 = (l37 > l41) ? l37 : l41;
-                                            v21 = l13 - 1ull;
+                                            store32(l8 + 92u, l40);
+                                            const u32 t352 = load32(l4 + 24ull);
+                                            l40 = t352 + (l40 + l45);
+                                            l15 = l15 - 1ull;
+                                            v21 = (l37 > l43) ? l37 : l43;
                                         }
                                         L21:;
-                                        l13 = v21;
-                                        if (l13 != 0ull) goto L20;
+                                        l43 = v21;
+                                        if (l15 != 0ull) goto L20;
                                     }
                                 }
-                                store32(l15 + 20u, 0u);
-                                store32(l15 + 16u, l41);
-                                store64(l15 + 8u, l17);
-                                store64(l15, 3ull);
+                                store32(l14 + 20u, 0u);
+                                store32(l14 + 16u, l43);
+                                store64(l14 + 8u, l17);
+                                store64(l14, 3ull);
                                 goto L9;
                             }
                             L15:;
-                            l41 = (l37 > l41) ? l37 : l41;
+                            l43 = (l37 > l43) ? l37 : l43;
                             l4 = l4 + 1ull;
                             goto L10;
                         }
                         trap();
                     }
                     L10:;
-                    store32(l15 + 20u, 0u);
-                    store32(l15 + 16u, l41);
-                    store64(l15 + 8u, l4);
-                    store64(l15, (u64)l36 & 255ull);
+                    store32(l14 + 20u, 0u);
+                    store32(l14 + 16u, l43);
+                    store64(l14 + 8u, l4);
+                    store64(l14, (u64)l36 & 255ull);
                 }
                 L9:;
                 e->stack_pointer = l8 + 208ull;
-                const u32 t344 = load8(l10 + 160u);
-                l35 = t344;
-                const u32 t345 = load32(l10 + 176u);
-                l34 = t345;
-                const u64 t346 = load64(l10 + 168u);
-                l8 = t346;
-                const u64 t347 = load64(l10 + 24u);
-                l6 = t347;
-                const u64 t348 = load64(l10 + 48u);
-                l4 = t348;
+                const u32 t353 = load8(l9 + 160u);
+                l35 = t353;
+                const u32 t354 = load32(l9 + 176u);
+                l34 = t354;
+                const u64 t355 = load64(l9 + 168u);
+                l10 = t355;
+                const u64 t356 = load64(l9 + 24u);
+                l6 = t356;
+                const u64 t357 = load64(l9 + 48u);
+                l4 = t357;
                 store64(l0 + 32u, 0ull);
                 l4 = l5 - l4;
                 store64(l0 + 24u, (l4 > l5) ? 0ull : l4);
                 store64(l0 + 16u, l6);
-                store64(l0 + 8u, l8);
+                store64(l0 + 8u, l10);
                 store32(l0 + 4u, l34);
                 store32(l0, l35 + 1u);
             }
             L3:;
-            e->stack_pointer = l10 + 208ull;
+            e->stack_pointer = l9 + 208ull;
             goto L1;
         }
         trap();
@@ -19417,15 +20212,15 @@ static void engine_turn(struct engine *e, u64 l0, u64 l1, u64 l2, u64 l3, u64 l4
                         store64(l26 + 128u, t9);
                         l36 = l26 + 104ull;
                         l28 = l29;
-                        l32 = l26 + 128ull;
-                        l31 = l7 - l4;
+                        l30 = l26 + 128ull;
+                        l33 = l7 - l4;
                         l27 = e->stack_pointer - 160ull;
                         e->stack_pointer = l27;
                         {
                             {
                                 {
                                     if ((i64)(l27 - e->stack) >= (i64)16ull) {
-                                        const u64 t14 = load64(l32 + 8u);
+                                        const u64 t14 = load64(l30 + 8u);
                                         l38 = t14;
                                         store64(l27 + 56u, 0ull);
                                         store64(l27 + 64u, 0ull);
@@ -19433,43 +20228,43 @@ static void engine_turn(struct engine *e, u64 l0, u64 l1, u64 l2, u64 l3, u64 l4
                                         const u32 t15 = load32(l28 + 20ull);
                                         l11 = t15;
                                         store32(l27 + 80u, l11);
-                                        const u32 t16 = load32(l32 + 16u);
+                                        const u32 t16 = load32(l30 + 16u);
                                         l21 = t16;
-                                        const u64 t17 = load64(l32);
-                                        l32 = t17 - l38;
-                                        l3 = (l31 > l32) ? l32 : l31;
+                                        const u64 t17 = load64(l30);
+                                        l30 = t17 - l38;
+                                        l3 = (l30 < l33) ? l30 : l33;
                                         if ((l3 == 0) == 0) {
                                             const u32 t19 = load32(l28 + 24ull);
                                             const u32 t20 = load32(l28 + 16ull);
                                             l8 = t19 + (l11 + t20);
                                             l47 = l27 + 125ull;
-                                            l33 = l27 + 109ull;
-                                            l32 = l3;
+                                            l32 = l27 + 109ull;
+                                            l33 = l3;
                                             L21:;
                                             {
-                                                core_scan_pass(e, l27 + 56ull, l28, l32, l27 + 80ull, l27 + 76ull);
+                                                core_scan_pass(e, l27 + 56ull, l28, l33, l27 + 80ull, l27 + 76ull);
                                                 u64 v22;
                                                 {
                                                     const u32 t23 = load8(l27 + 56u);
                                                     if (t23 == 0) {
                                                         l21 = (l8 > l21) ? l8 : l21;
                                                         const u64 t25 = load64(l27 + 64u);
-                                                        v22 = l32 - t25; goto L22;
+                                                        v22 = l33 - t25; goto L22;
                                                     }
                                                     u32 v26;
                                                     {
                                                         const u32 t27 = load8(l27 + 60u);
                                                         if (t27 == 0) {
                                                             store32(l28 + 32ull, 0u);
-                                                            l31 = l28 + 20ull;
-                                                            store32(l31, 0u);
+                                                            l39 = l28 + 20ull;
+                                                            store32(l39, 0u);
                                                             const u32 t29 = load32(l28 + 28ull);
                                                             l8 = t29;
-                                                            l30 = l28 + 24ull;
-                                                            const u32 t30 = load32(l30);
+                                                            l34 = l28 + 24ull;
+                                                            const u32 t30 = load32(l34);
                                                             l11 = t30;
-                                                            l39 = l28 + 16ull;
-                                                            const u32 t31 = load32(l39);
+                                                            l31 = l28 + 16ull;
+                                                            const u32 t31 = load32(l31);
                                                             if ((l8 - (l11 + t31)) <= 10u) {
                                                                 const u32 t33 = space_space_Space_find_way(e, l28, 11ull);
                                                                 if (t33 == 0) goto L12;
@@ -19480,20 +20275,42 @@ static void engine_turn(struct engine *e, u64 l0, u64 l1, u64 l2, u64 l3, u64 l4
                                                             }
                                                             const u64 t36 = load64(l28);
                                                             l11 = l11 + 11u;
-                                                            space_space_write_bytes(e, t36 + ((u64)(l8 - l11) << 3), TABLES + 768u, 11ull);
-                                                            store32(l30, l11);
-                                                            const u32 t37 = load32(l31);
-                                                            const u32 t38 = load32(l39);
+                                                            l30 = t36 + ((u64)(l8 - l11) << 3);
+                                                            store64(l30 + 56u, 0ull);
+                                                            store64(l30 + 48u, 0ull);
+                                                            store64(l30 + 40u, 0ull);
+                                                            store64(l30 + 32u, 0ull);
+                                                            store64(l30 + 24u, 0ull);
+                                                            store64(l30 + 16u, 0ull);
+                                                            store64(l30 + 8u, 0ull);
+                                                            store64(l30, 0ull);
+                                                            store16(l30 + 80u, (u16)10496u);
+                                                            store16(l30 + 72u, (u16)10496u);
+                                                            store16(l30 + 64u, (u16)29440u);
+                                                            store32(l30 + 84ull, 0u);
+                                                            store32(l30 + 76ull, 0u);
+                                                            store32(l30 + 68ull, 0u);
+                                                            store8(l30 + 57ull, (u8)114u);
+                                                            store8(l30 + 49ull, (u8)40u);
+                                                            store8(l30 + 41ull, (u8)35u);
+                                                            store8(l30 + 33ull, (u8)44u);
+                                                            store8(l30 + 25ull, (u8)115u);
+                                                            store8(l30 + 17ull, (u8)112u);
+                                                            store8(l30 + 9ull, (u8)40u);
+                                                            store8(l30 + 1ull, (u8)35u);
+                                                            store32(l34, l11);
+                                                            const u32 t37 = load32(l39);
+                                                            const u32 t38 = load32(l31);
                                                             v26 = t37 + (t38 + l11); goto L26;
                                                         }
                                                         const u64 t39 = load64(l28);
-                                                        l30 = t39;
+                                                        l31 = t39;
                                                         const u32 t40 = load32(l28 + 16ull);
                                                         l11 = t40;
                                                         const u64 t41 = load64(l27 + 64u);
                                                         l39 = t41;
                                                         l16 = (u32)l39;
-                                                        const u32 t42 = load8((l30 + ((u64)(l11 + l16) << 3)) + 1ull);
+                                                        const u32 t42 = load8((l31 + ((u64)(l11 + l16) << 3)) + 1ull);
                                                         l12 = t42;
                                                         const u32 t43 = load32(l28 + 20ull);
                                                         l8 = t43;
@@ -19513,15 +20330,15 @@ static void engine_turn(struct engine *e, u64 l0, u64 l1, u64 l2, u64 l3, u64 l4
                                                                                                     {
                                                                                                         l6 = l8 + l11;
                                                                                                         l13 = l16 + 1u;
-                                                                                                        l31 = (u64)(l11 + l13);
-                                                                                                        l34 = (u64)l6 - l31;
+                                                                                                        l30 = (u64)(l11 + l13);
+                                                                                                        l34 = (u64)l6 - l30;
                                                                                                         if (l34 < 2ull) goto L55;
-                                                                                                        l31 = l30 + (l31 << 3);
+                                                                                                        l30 = l31 + (l30 << 3);
                                                                                                         if (l34 != 2ull) {
-                                                                                                            const u32 t57 = load8(l31 + 16ull);
+                                                                                                            const u32 t57 = load8(l30 + 16ull);
                                                                                                             if (t57 != 2u) goto L55;
                                                                                                         }
-                                                                                                        functions_function_function_of(e, l27 + 112ull, l31, l31 + 8ull);
+                                                                                                        functions_function_function_of(e, l27 + 112ull, l30, l30 + 8ull);
                                                                                                         const u32 t58 = load8(l27 + 112u);
                                                                                                         if (t58 == 1u) goto L54;
                                                                                                     }
@@ -19547,10 +20364,10 @@ static void engine_turn(struct engine *e, u64 l0, u64 l1, u64 l2, u64 l3, u64 l4
                                                                                                 if (((1u << (l15 & 31)) & 1012u) == 0) goto L52;
                                                                                             }
                                                                                             L53:;
-                                                                                            l31 = l28 + 24ull;
-                                                                                            const u32 t61 = load32(l31);
+                                                                                            l30 = l28 + 24ull;
+                                                                                            const u32 t61 = load32(l30);
                                                                                             l22 = t61 - 1u;
-                                                                                            store32(l31, l22);
+                                                                                            store32(l30, l22);
                                                                                             l17 = l6 + l22;
                                                                                             l6 = 0u;
                                                                                             if (l14) goto L44;
@@ -19579,14 +20396,14 @@ static void engine_turn(struct engine *e, u64 l0, u64 l1, u64 l2, u64 l3, u64 l4
                                                                                                 l8 = t66;
                                                                                                 const u32 t67 = load32(l27 + 12u);
                                                                                                 if (l8 == t67) goto L44;
-                                                                                                l31 = l30 + ((u64)(l8 + l11) << 3);
-                                                                                                const u32 t68 = load8(l31);
+                                                                                                l30 = l31 + ((u64)(l8 + l11) << 3);
+                                                                                                const u32 t68 = load8(l30);
                                                                                                 const u64 t69 = l41;
                                                                                                 u32 v70;
                                                                                                 if (t68) {
                                                                                                     v70 = 0u;
                                                                                                 } else {
-                                                                                                    const u32 t71 = load8(l31 + 1ull);
+                                                                                                    const u32 t71 = load8(l30 + 1ull);
                                                                                                     v70 = t71;
                                                                                                 }
                                                                                                 store8(t69, (u8)v70);
@@ -19594,9 +20411,9 @@ static void engine_turn(struct engine *e, u64 l0, u64 l1, u64 l2, u64 l3, u64 l4
                                                                                             }
                                                                                             L62:;
                                                                                             const u32 t72 = load16(l27 + 84u);
-                                                                                            store16(l33, (u16)t72);
+                                                                                            store16(l32, (u16)t72);
                                                                                             const u32 t73 = load8(l27 + 86u);
-                                                                                            store8(l33 + 2u, (u8)t73);
+                                                                                            store8(l32 + 2u, (u8)t73);
                                                                                             store8(l27 + 108u, (u8)l12);
                                                                                             store32(l27 + 104u, l14);
                                                                                             store32(l27 + 100u, l8);
@@ -19672,22 +20489,22 @@ static void engine_turn(struct engine *e, u64 l0, u64 l1, u64 l2, u64 l3, u64 l4
                                                                                                                                                     l12 = t95;
                                                                                                                                                     const u32 t96 = load32(l27 + 20u);
                                                                                                                                                     l14 = t96;
-                                                                                                                                                    l31 = (u64)(l14 + l11);
-                                                                                                                                                    l34 = (u64)(l12 + l11) - l31;
-                                                                                                                                                    l31 = (l30 + (l31 << 3)) - 8ull;
+                                                                                                                                                    l30 = (u64)(l14 + l11);
+                                                                                                                                                    l34 = (u64)(l12 + l11) - l30;
+                                                                                                                                                    l30 = (l31 + (l30 << 3)) - 8ull;
                                                                                                                                                     l6 = l14;
                                                                                                                                                     L97:;
                                                                                                                                                     {
                                                                                                                                                         {
                                                                                                                                                             l15 = l6;
                                                                                                                                                             if (l34 == 0) goto L98;
-                                                                                                                                                            const u32 t99 = load8(l31);
+                                                                                                                                                            const u32 t99 = load8(l30);
                                                                                                                                                             if (t99) goto L98;
                                                                                                                                                             l34 = l34 + 1ull;
                                                                                                                                                             l6 = l15 - 1u;
-                                                                                                                                                            l30 = l31 + 1ull;
-                                                                                                                                                            l31 = l31 - 8ull;
-                                                                                                                                                            const u32 t100 = load8(l30);
+                                                                                                                                                            l31 = l30 + 1ull;
+                                                                                                                                                            l30 = l30 - 8ull;
+                                                                                                                                                            const u32 t100 = load8(l31);
                                                                                                                                                             if ((t100 & 248u) == 48u) goto L97;
                                                                                                                                                         }
                                                                                                                                                         L98:;
@@ -19763,22 +20580,22 @@ static void engine_turn(struct engine *e, u64 l0, u64 l1, u64 l2, u64 l3, u64 l4
                                                                                                                 }
                                                                                                                 {
                                                                                                                     if (l12 == 0) goto L113;
-                                                                                                                    const u64 t114 = load32(l30 + 4ull);
-                                                                                                                    l31 = (u64)(l11 + l15);
+                                                                                                                    const u64 t114 = load32(l31 + 4ull);
+                                                                                                                    l30 = (u64)(l11 + l15);
                                                                                                                     l34 = (u64)(l6 + l11);
-                                                                                                                    if (t114 != (l31 - l34)) goto L113;
+                                                                                                                    if (t114 != (l30 - l34)) goto L113;
                                                                                                                     l1 = 17ull - (l34 << 3);
-                                                                                                                    l34 = (l31 ^ 18446744073709551615ull) + l34;
-                                                                                                                    l31 = l30 + (l31 << 3);
+                                                                                                                    l34 = (l30 ^ 18446744073709551615ull) + l34;
+                                                                                                                    l30 = l31 + (l30 << 3);
                                                                                                                     L115:;
                                                                                                                     {
                                                                                                                         l34 = l34 + 1ull;
                                                                                                                         if (l34 == 0) goto L50;
-                                                                                                                        l30 = l31 - 7ull;
-                                                                                                                        l35 = l1 + l31;
-                                                                                                                        l31 = l31 - 8ull;
+                                                                                                                        l31 = l30 - 7ull;
+                                                                                                                        l35 = l1 + l30;
+                                                                                                                        l30 = l30 - 8ull;
                                                                                                                         const u32 t116 = load8(l35);
-                                                                                                                        const u32 t117 = load8(l30);
+                                                                                                                        const u32 t117 = load8(l31);
                                                                                                                         if (t116 == t117) goto L115;
                                                                                                                     }
                                                                                                                 }
@@ -19813,14 +20630,14 @@ static void engine_turn(struct engine *e, u64 l0, u64 l1, u64 l2, u64 l3, u64 l4
                                                                                         L52:;
                                                                                         store32(l36 + 20u, 0u);
                                                                                         store32(l36 + 16u, l21);
-                                                                                        l28 = l3 - l32;
+                                                                                        l28 = l3 - l33;
                                                                                         store64(l36, l28);
                                                                                         store64(l36 + 8u, l28 + l38);
                                                                                         goto L10;
                                                                                     }
                                                                                     L51:;
-                                                                                    l32 = l3 - l32;
-                                                                                    l28 = l32 + l38;
+                                                                                    l30 = l3 - l33;
+                                                                                    l28 = l30 + l38;
                                                                                     l11 = 0u;
                                                                                     goto L46;
                                                                                 }
@@ -19849,13 +20666,13 @@ static void engine_turn(struct engine *e, u64 l0, u64 l1, u64 l2, u64 l3, u64 l4
                                                                             l10 = 0u;
                                                                             const u64 t126 = load64(l28);
                                                                             l34 = t126;
-                                                                            l31 = l34 + ((u64)l14 << 3);
-                                                                            const u32 t127 = load32(l31 + 12ull);
+                                                                            l30 = l34 + ((u64)l14 << 3);
+                                                                            const u32 t127 = load32(l30 + 12ull);
                                                                             l18 = t127;
-                                                                            const u32 t128 = load32(l31 + 20ull);
+                                                                            const u32 t128 = load32(l30 + 20ull);
                                                                             l9 = t128;
                                                                             if (l18 != l9) {
-                                                                                const u32 t130 = load32(l31 + 4ull);
+                                                                                const u32 t130 = load32(l30 + 4ull);
                                                                                 l23 = (l14 + t130) + 3u;
                                                                                 l10 = l23 + l9;
                                                                                 u32 v131;
@@ -19884,68 +20701,68 @@ static void engine_turn(struct engine *e, u64 l0, u64 l1, u64 l2, u64 l3, u64 l4
                                                                                                         {
                                                                                                             if (l14 >= 8u) {
                                                                                                                 if (l14 == 8u) goto L143;
-                                                                                                                l31 = l34 + (l35 << 3);
-                                                                                                                l30 = l0;
+                                                                                                                l30 = l34 + (l35 << 3);
+                                                                                                                l31 = l0;
                                                                                                                 goto L144;
                                                                                                             }
                                                                                                             if (l14 >= 4u) {
                                                                                                                 l9 = 0u;
-                                                                                                                l31 = l34 + (l35 << 3);
-                                                                                                                const u32 t147 = load8(l31 + 24ull);
-                                                                                                                const u32 t148 = load8(l31 + 16ull);
-                                                                                                                const u32 t149 = load8(l31 + 8ull);
-                                                                                                                const u32 t150 = load8(l31);
+                                                                                                                l30 = l34 + (l35 << 3);
+                                                                                                                const u32 t147 = load8(l30 + 24ull);
+                                                                                                                const u32 t148 = load8(l30 + 16ull);
+                                                                                                                const u32 t149 = load8(l30 + 8ull);
+                                                                                                                const u32 t150 = load8(l30);
                                                                                                                 if (((t147 + t148) | (t149 + t150)) & 255u) { v131 = 0u; goto L131; }
-                                                                                                                l30 = l0 + l35;
-                                                                                                                l31 = l34 + (l30 << 3);
-                                                                                                                const u32 t151 = load8(l31 - 8ull);
-                                                                                                                const u32 t152 = load8(l31 - 16ull);
-                                                                                                                const u32 t153 = load8(l31 - 24ull);
-                                                                                                                const u32 t154 = load8(l31 - 32ull);
+                                                                                                                l31 = l0 + l35;
+                                                                                                                l30 = l34 + (l31 << 3);
+                                                                                                                const u32 t151 = load8(l30 - 8ull);
+                                                                                                                const u32 t152 = load8(l30 - 16ull);
+                                                                                                                const u32 t153 = load8(l30 - 24ull);
+                                                                                                                const u32 t154 = load8(l30 - 32ull);
                                                                                                                 if (((t151 + t152) | (t153 + t154)) & 255u) { v131 = 0u; goto L131; }
                                                                                                                 l10 = l14 + l19;
-                                                                                                                l31 = (u64)(l20 - l10);
-                                                                                                                core_slice_edits_slice_T_copy_from_slice(e, l34 + (l31 << 3), l34 + (l35 << 3), 4ull);
-                                                                                                                const u64 t155 = l31 - l35;
-                                                                                                                l31 = l30 - 4ull;
-                                                                                                                core_slice_edits_slice_T_copy_from_slice(e, l34 + ((t155 + l31) << 3), l34 + (l31 << 3), 4ull);
+                                                                                                                l30 = (u64)(l20 - l10);
+                                                                                                                core_slice_edits_slice_T_copy_from_slice(e, l34 + (l30 << 3), l34 + (l35 << 3), 4ull);
+                                                                                                                const u64 t155 = l30 - l35;
+                                                                                                                l30 = l31 - 4ull;
+                                                                                                                core_slice_edits_slice_T_copy_from_slice(e, l34 + ((t155 + l30) << 3), l34 + (l30 << 3), 4ull);
                                                                                                                 goto L140;
                                                                                                             }
-                                                                                                            l31 = l34 + (l35 << 3);
-                                                                                                            const u32 t156 = load8(l31);
+                                                                                                            l30 = l34 + (l35 << 3);
+                                                                                                            const u32 t156 = load8(l30);
                                                                                                             l18 = t156;
                                                                                                             if (l14 < 2u) goto L142;
                                                                                                             l9 = 0u;
-                                                                                                            const u32 t157 = load8(l31 + 8ull);
+                                                                                                            const u32 t157 = load8(l30 + 8ull);
                                                                                                             if (t157 | (l18 & 255u)) { v131 = 0u; goto L131; }
-                                                                                                            l30 = l0 + l35;
-                                                                                                            l31 = l34 + (l30 << 3);
-                                                                                                            const u32 t158 = load8(l31 - 8ull);
-                                                                                                            const u32 t159 = load8(l31 - 16ull);
+                                                                                                            l31 = l0 + l35;
+                                                                                                            l30 = l34 + (l31 << 3);
+                                                                                                            const u32 t158 = load8(l30 - 8ull);
+                                                                                                            const u32 t159 = load8(l30 - 16ull);
                                                                                                             if (t158 | t159) { v131 = 0u; goto L131; }
                                                                                                             l10 = l14 + l19;
-                                                                                                            l31 = (u64)(l20 - l10);
-                                                                                                            core_slice_edits_slice_T_copy_from_slice(e, l34 + (l31 << 3), l34 + (l35 << 3), 2ull);
-                                                                                                            const u64 t160 = l31 - l35;
-                                                                                                            l31 = l30 - 2ull;
-                                                                                                            core_slice_edits_slice_T_copy_from_slice(e, l34 + ((t160 + l31) << 3), l34 + (l31 << 3), 2ull);
+                                                                                                            l30 = (u64)(l20 - l10);
+                                                                                                            core_slice_edits_slice_T_copy_from_slice(e, l34 + (l30 << 3), l34 + (l35 << 3), 2ull);
+                                                                                                            const u64 t160 = l30 - l35;
+                                                                                                            l30 = l31 - 2ull;
+                                                                                                            core_slice_edits_slice_T_copy_from_slice(e, l34 + ((t160 + l30) << 3), l34 + (l30 << 3), 2ull);
                                                                                                             goto L140;
                                                                                                         }
                                                                                                         L144:;
                                                                                                         L161:;
                                                                                                         {
-                                                                                                            const u32 t162 = load8(l31 + 56ull);
-                                                                                                            const u32 t163 = load8(l31 + 48ull);
-                                                                                                            const u32 t164 = load8(l31 + 40ull);
-                                                                                                            const u32 t165 = load8(l31 + 32ull);
-                                                                                                            const u32 t166 = load8(l31 + 24ull);
-                                                                                                            const u32 t167 = load8(l31 + 16ull);
-                                                                                                            const u32 t168 = load8(l31 + 8ull);
-                                                                                                            const u32 t169 = load8(l31);
+                                                                                                            const u32 t162 = load8(l30 + 56ull);
+                                                                                                            const u32 t163 = load8(l30 + 48ull);
+                                                                                                            const u32 t164 = load8(l30 + 40ull);
+                                                                                                            const u32 t165 = load8(l30 + 32ull);
+                                                                                                            const u32 t166 = load8(l30 + 24ull);
+                                                                                                            const u32 t167 = load8(l30 + 16ull);
+                                                                                                            const u32 t168 = load8(l30 + 8ull);
+                                                                                                            const u32 t169 = load8(l30);
                                                                                                             if ((t162 | ((t163 + (t164 + (t165 + (t166 + (t167 + (t168 + t169)))))) & 255u)) == 0) {
-                                                                                                                l31 = l31 + 64ull;
-                                                                                                                l30 = l30 - 8ull;
-                                                                                                                if (l30 >= 9ull) goto L161;
+                                                                                                                l30 = l30 + 64ull;
+                                                                                                                l31 = l31 - 8ull;
+                                                                                                                if (l31 >= 9ull) goto L161;
                                                                                                                 goto L143;
                                                                                                             }
                                                                                                         }
@@ -19954,35 +20771,35 @@ static void engine_turn(struct engine *e, u64 l0, u64 l1, u64 l2, u64 l3, u64 l4
                                                                                                     }
                                                                                                     L143:;
                                                                                                     l9 = 0u;
-                                                                                                    l30 = l0 + l35;
-                                                                                                    l31 = l34 + (l30 << 3);
-                                                                                                    const u32 t171 = load8(l31 - 56ull);
-                                                                                                    const u32 t172 = load8(l31 - 64ull);
-                                                                                                    const u32 t173 = load8(l31 - 48ull);
-                                                                                                    const u32 t174 = load8(l31 - 40ull);
-                                                                                                    const u32 t175 = load8(l31 - 32ull);
-                                                                                                    const u32 t176 = load8(l31 - 24ull);
-                                                                                                    const u32 t177 = load8(l31 - 16ull);
-                                                                                                    const u32 t178 = load8(l31 - 8ull);
+                                                                                                    l31 = l0 + l35;
+                                                                                                    l30 = l34 + (l31 << 3);
+                                                                                                    const u32 t171 = load8(l30 - 56ull);
+                                                                                                    const u32 t172 = load8(l30 - 64ull);
+                                                                                                    const u32 t173 = load8(l30 - 48ull);
+                                                                                                    const u32 t174 = load8(l30 - 40ull);
+                                                                                                    const u32 t175 = load8(l30 - 32ull);
+                                                                                                    const u32 t176 = load8(l30 - 24ull);
+                                                                                                    const u32 t177 = load8(l30 - 16ull);
+                                                                                                    const u32 t178 = load8(l30 - 8ull);
                                                                                                     if ((((((((t171 + t172) + t173) + t174) + t175) + t176) + t177) & 255u) | t178) { v131 = 0u; goto L131; }
                                                                                                     l10 = l14 + l19;
                                                                                                     l43 = (u64)(l20 - l10);
                                                                                                     if (l14 > 24u) goto L141;
                                                                                                     if (l14 != 8u) {
-                                                                                                        l31 = l34 + (l43 << 3);
-                                                                                                        l30 = l34 + (l35 << 3);
+                                                                                                        l30 = l34 + (l43 << 3);
+                                                                                                        l31 = l34 + (l35 << 3);
                                                                                                         l1 = l0;
                                                                                                         L180:;
                                                                                                         {
-                                                                                                            core_slice_edits_slice_T_copy_from_slice(e, l31, l30, 8ull);
-                                                                                                            l31 = l31 + 64ull;
+                                                                                                            core_slice_edits_slice_T_copy_from_slice(e, l30, l31, 8ull);
                                                                                                             l30 = l30 + 64ull;
+                                                                                                            l31 = l31 + 64ull;
                                                                                                             l1 = l1 - 8ull;
                                                                                                             if (l1 > 8ull) goto L180;
                                                                                                         }
                                                                                                     }
-                                                                                                    l31 = l0 - 8ull;
-                                                                                                    core_slice_edits_slice_T_copy_from_slice(e, l34 + ((l31 + l43) << 3), l34 + ((l31 + l35) << 3), 8ull);
+                                                                                                    l30 = l0 - 8ull;
+                                                                                                    core_slice_edits_slice_T_copy_from_slice(e, l34 + ((l30 + l43) << 3), l34 + ((l30 + l35) << 3), 8ull);
                                                                                                     store32(l28 + 24ull, l10);
                                                                                                     goto L139;
                                                                                                 }
@@ -19991,16 +20808,16 @@ static void engine_turn(struct engine *e, u64 l0, u64 l1, u64 l2, u64 l3, u64 l4
                                                                                                 if (l18 & 255u) { v131 = 0u; goto L131; }
                                                                                                 l10 = l14 + l19;
                                                                                                 if (l14 != 1u) goto L140;
-                                                                                                l31 = l34 + ((u64)(l20 - l10) << 3);
-                                                                                                l30 = l34 + (l35 << 3);
-                                                                                                const u32 t181 = load16(l30);
-                                                                                                store16(l31, (u16)t181);
-                                                                                                const u32 t182 = load32(l30 + 4ull);
-                                                                                                store32(l31 + 4ull, t182);
+                                                                                                l30 = l34 + ((u64)(l20 - l10) << 3);
+                                                                                                l31 = l34 + (l35 << 3);
+                                                                                                const u32 t181 = load16(l31);
+                                                                                                store16(l30, (u16)t181);
+                                                                                                const u32 t182 = load32(l31 + 4ull);
+                                                                                                store32(l30 + 4ull, t182);
                                                                                                 goto L140;
                                                                                             }
                                                                                             L141:;
-                                                                                            space_copies_copy_long(e, l34, l35, l30, l43);
+                                                                                            space_copies_copy_long(e, l34, l35, l31, l43);
                                                                                         }
                                                                                         L140:;
                                                                                         store32(l28 + 24ull, l10);
@@ -20042,8 +20859,8 @@ static void engine_turn(struct engine *e, u64 l0, u64 l1, u64 l2, u64 l3, u64 l4
                                                                     const u32 t188 = load32(l28 + 20ull);
                                                                     const u32 t189 = load32(l28 + 16ull);
                                                                     l17 = t187 + (t188 + t189);
-                                                                    l32 = l3 - l32;
-                                                                    l28 = l32 + l38;
+                                                                    l30 = l3 - l33;
+                                                                    l28 = l30 + l38;
                                                                     const u32 t190 = load8(l27 + 89u);
                                                                     l11 = t190;
                                                                     l8 = 1u << (l11 & 31);
@@ -20066,7 +20883,7 @@ static void engine_turn(struct engine *e, u64 l0, u64 l1, u64 l2, u64 l3, u64 l4
                                                         L44:;
                                                         const u64 t192 = load64(l28);
                                                         const u64 t193 = load32(l28 + 16ull);
-                                                        l31 = t192 + (t193 << 3);
+                                                        l30 = t192 + (t193 << 3);
                                                         {
                                                             {
                                                                 const u32 t196 = load32(l28 + 32ull);
@@ -20074,7 +20891,7 @@ static void engine_turn(struct engine *e, u64 l0, u64 l1, u64 l2, u64 l3, u64 l4
                                                                 l8 = l11 <= l16;
                                                                 if (l8) goto L195;
                                                                 if ((l11 - l16) != 1u) goto L195;
-                                                                const u32 t197 = load32((l31 + ((l39 << 3) & 34359738360ull)) + 4ull);
+                                                                const u32 t197 = load32((l30 + ((l39 << 3) & 34359738360ull)) + 4ull);
                                                                 l11 = t197;
                                                                 l8 = l11 ? (l13 - l11) : 0u;
                                                                 goto L194;
@@ -20086,7 +20903,7 @@ static void engine_turn(struct engine *e, u64 l0, u64 l1, u64 l2, u64 l3, u64 l4
                                                             }
                                                             L199:;
                                                             {
-                                                                const u32 t200 = load32((l31 + ((u64)(l11 - 1u) << 3)) + 4ull);
+                                                                const u32 t200 = load32((l30 + ((u64)(l11 - 1u) << 3)) + 4ull);
                                                                 l8 = t200;
                                                                 l11 = l11 - l8;
                                                                 l8 = l8 ? l11 : 0u;
@@ -20108,11 +20925,11 @@ static void engine_turn(struct engine *e, u64 l0, u64 l1, u64 l2, u64 l3, u64 l4
                                                     const u32 t203 = load32(l28 + 16ull);
                                                     l8 = t202 + (l8 + t203);
                                                     l21 = (l11 > l21) ? l11 : l21;
-                                                    v22 = l32 - 1ull;
+                                                    v22 = l33 - 1ull;
                                                 }
                                                 L22:;
-                                                l32 = v22;
-                                                if (l32 != 0ull) goto L21;
+                                                l33 = v22;
+                                                if (l33 != 0ull) goto L21;
                                             }
                                         }
                                         store32(l36 + 20u, 0u);
@@ -20124,8 +20941,8 @@ static void engine_turn(struct engine *e, u64 l0, u64 l1, u64 l2, u64 l3, u64 l4
                                     trap();
                                 }
                                 L12:;
-                                l32 = l3 - l32;
-                                l28 = l32 + l38;
+                                l30 = l3 - l33;
+                                l28 = l30 + l38;
                                 l11 = 2u;
                             }
                             L11:;
@@ -20134,7 +20951,7 @@ static void engine_turn(struct engine *e, u64 l0, u64 l1, u64 l2, u64 l3, u64 l4
                             store8(l36 + 20u, (u8)1u);
                             store32(l36 + 16u, l21);
                             store64(l36 + 8u, l28);
-                            store64(l36, l32);
+                            store64(l36, l30);
                         }
                         L10:;
                         e->stack_pointer = l27 + 160ull;
@@ -20154,7 +20971,7 @@ static void engine_turn(struct engine *e, u64 l0, u64 l1, u64 l2, u64 l3, u64 l4
                     {
                         if (l25) goto L208;
                         const u64 t209 = load64(l26 + 80u);
-                        l30 = t209;
+                        l31 = t209;
                         const u64 t210 = load64(l26 + 72u);
                         l3 = t210;
                         {
@@ -20170,18 +20987,18 @@ static void engine_turn(struct engine *e, u64 l0, u64 l1, u64 l2, u64 l3, u64 l4
                             const u32 t214 = load8(l41);
                             l9 = t214;
                             {
-                                if (l30 <= 3ull) {
-                                    if (l30 == 0) goto L215;
+                                if (l31 <= 3ull) {
+                                    if (l31 == 0) goto L215;
                                     l8 = l9 & 255u;
                                     const u32 t217 = load8(l3);
                                     if (l8 == t217) goto L208;
-                                    const u32 t218 = load8(l3 + (l30 >> 1));
+                                    const u32 t218 = load8(l3 + (l31 >> 1));
                                     if (t218 == l8) goto L208;
-                                    const u32 t219 = load8((l3 + l30) - 1ull);
+                                    const u32 t219 = load8((l3 + l31) - 1ull);
                                     if (t219 == (l9 & 255u)) goto L208;
                                     goto L215;
                                 }
-                                if (l30 <= 8ull) {
+                                if (l31 <= 8ull) {
                                     l8 = l9 & 255u;
                                     const u32 t221 = load8(l3);
                                     if (l8 == t221) goto L208;
@@ -20193,7 +21010,7 @@ static void engine_turn(struct engine *e, u64 l0, u64 l1, u64 l2, u64 l3, u64 l4
                                     const u32 t224 = load8(l3 + 3ull);
                                     if (t224 == l8) goto L208;
                                     l8 = l9 & 255u;
-                                    l4 = l3 + l30;
+                                    l4 = l3 + l31;
                                     const u32 t225 = load8(l4 - 4ull);
                                     if (l8 == t225) goto L208;
                                     const u32 t226 = load8(l4 - 3ull);
@@ -20205,7 +21022,7 @@ static void engine_turn(struct engine *e, u64 l0, u64 l1, u64 l2, u64 l3, u64 l4
                                     if (t228 == l8) goto L208;
                                     goto L215;
                                 }
-                                if (l30 <= 32ull) {
+                                if (l31 <= 32ull) {
                                     l8 = l9 & 255u;
                                     const u32 t230 = load8(l3);
                                     if (l8 == t230) goto L208;
@@ -20227,7 +21044,7 @@ static void engine_turn(struct engine *e, u64 l0, u64 l1, u64 l2, u64 l3, u64 l4
                                     const u32 t237 = load8(l3 + 7ull);
                                     if (t237 == l8) goto L208;
                                     l8 = l9 & 255u;
-                                    l2 = l30 - 8ull;
+                                    l2 = l31 - 8ull;
                                     l4 = l3 + ((l2 < 8ull) ? l2 : 8ull);
                                     const u32 t238 = load8(l4);
                                     if (l8 == t238) goto L208;
@@ -20292,7 +21109,7 @@ static void engine_turn(struct engine *e, u64 l0, u64 l1, u64 l2, u64 l3, u64 l4
                                     if (t261 == l8) goto L208;
                                     goto L215;
                                 }
-                                if (l30 <= 64ull) {
+                                if (l31 <= 64ull) {
                                     l8 = l9 & 255u;
                                     const u32 t263 = load8(l3);
                                     if (l8 == t263) goto L208;
@@ -20374,7 +21191,7 @@ static void engine_turn(struct engine *e, u64 l0, u64 l1, u64 l2, u64 l3, u64 l4
                                     const u32 t294 = load8(l3 + 31ull);
                                     if (t294 == l8) goto L208;
                                     l8 = l9 & 255u;
-                                    l4 = l3 + l30;
+                                    l4 = l3 + l31;
                                     const u32 t295 = load8(l4 - 32ull);
                                     if (l8 == t295) goto L208;
                                     const u32 t296 = load8(l4 - 31ull);
@@ -20456,7 +21273,7 @@ static void engine_turn(struct engine *e, u64 l0, u64 l1, u64 l2, u64 l3, u64 l4
                                     if (t326 != l8) goto L215;
                                     goto L208;
                                 }
-                                l0 = l30 & 18446744073709551552ull;
+                                l0 = l31 & 18446744073709551552ull;
                                 l1 = 0ull;
                                 l5 = l3;
                                 {
@@ -20479,13 +21296,13 @@ static void engine_turn(struct engine *e, u64 l0, u64 l1, u64 l2, u64 l3, u64 l4
                                         if (l6 & 1u) goto L327;
                                         l5 = l5 + 64ull;
                                         l1 = l1 + 64ull;
-                                        if ((l30 - l1) > 63ull) goto L328;
+                                        if ((l31 - l1) > 63ull) goto L328;
                                     }
                                     l1 = l0;
                                 }
                                 L327:;
                                 {
-                                    l2 = l30 - l1;
+                                    l2 = l31 - l1;
                                     if (l2 < 32ull) goto L334;
                                     l4 = l1 + l3;
                                     L335:;
@@ -20582,7 +21399,7 @@ static void engine_turn(struct engine *e, u64 l0, u64 l1, u64 l2, u64 l3, u64 l4
                                 }
                                 L334:;
                                 l8 = l9 & 255u;
-                                l4 = l3 + l30;
+                                l4 = l3 + l31;
                                 const u32 t369 = load8(l4 - 32ull);
                                 if (l8 == t369) goto L208;
                                 const u32 t370 = load8(l4 - 31ull);
@@ -20668,12 +21485,12 @@ static void engine_turn(struct engine *e, u64 l0, u64 l1, u64 l2, u64 l3, u64 l4
                             const u32 t402 = load32(l29 + 20ull);
                             const u32 t403 = load32(l29 + 16ull);
                             const u64 t404 = load32(l29 + 8ull);
-                            if ((l30 + (u64)((t401 + (t402 + t403)))) > (t404 + 1ull)) goto L208;
+                            if ((l31 + (u64)((t401 + (t402 + t403)))) > (t404 + 1ull)) goto L208;
                             l24 = 7u;
                             goto L3;
                         }
                         L211:;
-                        if ((l30 == 0) == 0) goto L208;
+                        if ((l31 == 0) == 0) goto L208;
                         l24 = 7u;
                         goto L3;
                     }
@@ -20710,8 +21527,8 @@ static void engine_turn(struct engine *e, u64 l0, u64 l1, u64 l2, u64 l3, u64 l4
                                                                                 const u64 t425 = load64(l29 + 72ull);
                                                                                 l5 = t425;
                                                                                 const u64 t426 = load64(l29 + 64ull);
-                                                                                l30 = t426;
-                                                                                if (l5 == l30) goto L418;
+                                                                                l31 = t426;
+                                                                                if (l5 == l31) goto L418;
                                                                                 const u32 t427 = load32(l29 + 24ull);
                                                                                 l8 = t427;
                                                                                 if (l8 == 0) goto L418;
@@ -20751,8 +21568,8 @@ static void engine_turn(struct engine *e, u64 l0, u64 l1, u64 l2, u64 l3, u64 l4
                                                                             const u64 t439 = load64(l29 + 72ull);
                                                                             l5 = t439;
                                                                             const u64 t440 = load64(l29 + 64ull);
-                                                                            l30 = t440;
-                                                                            if (l5 == l30) goto L418;
+                                                                            l31 = t440;
+                                                                            if (l5 == l31) goto L418;
                                                                             const u32 t441 = load32(l29 + 24ull);
                                                                             l8 = t441;
                                                                             if (l8 == 0) goto L418;
@@ -20776,12 +21593,12 @@ static void engine_turn(struct engine *e, u64 l0, u64 l1, u64 l2, u64 l3, u64 l4
                                                                         L419:;
                                                                         if ((v419 & 255u) == 1u) goto L417;
                                                                         const u64 t449 = load64(l29 + 64ull);
-                                                                        l30 = t449;
+                                                                        l31 = t449;
                                                                         const u64 t450 = load64(l29 + 72ull);
                                                                         l5 = t450;
                                                                     }
                                                                     L418:;
-                                                                    if (l5 == l30) {
+                                                                    if (l5 == l31) {
                                                                         store16(l29 + 84ull, (u16)769u);
                                                                         l6 = 3u;
                                                                         v406 = 1u; goto L406;
@@ -20804,15 +21621,15 @@ static void engine_turn(struct engine *e, u64 l0, u64 l1, u64 l2, u64 l3, u64 l4
                                                                         if (t457 == 0) {
                                                                             l9 = 0u;
                                                                             store32(l29 + 32ull, 0u);
-                                                                            l4 = l29 + 20ull;
-                                                                            store32(l4, 0u);
+                                                                            l2 = l29 + 20ull;
+                                                                            store32(l2, 0u);
                                                                             const u32 t459 = load32(l29 + 28ull);
                                                                             l6 = t459;
-                                                                            l5 = l29 + 24ull;
-                                                                            const u32 t460 = load32(l5);
+                                                                            l31 = l29 + 24ull;
+                                                                            const u32 t460 = load32(l31);
                                                                             l8 = t460;
-                                                                            l2 = l29 + 16ull;
-                                                                            const u32 t461 = load32(l2);
+                                                                            l5 = l29 + 16ull;
+                                                                            const u32 t461 = load32(l5);
                                                                             if ((l6 - (l8 + t461)) <= 10u) {
                                                                                 const u32 t463 = space_space_Space_find_way(e, l29, 11ull);
                                                                                 if (t463 == 0) {
@@ -20826,10 +21643,32 @@ static void engine_turn(struct engine *e, u64 l0, u64 l1, u64 l2, u64 l3, u64 l4
                                                                             }
                                                                             const u64 t467 = load64(l29);
                                                                             l8 = l8 + 11u;
-                                                                            space_space_write_bytes(e, t467 + ((u64)(l6 - l8) << 3), TABLES + 768u, 11ull);
-                                                                            store32(l5, l8);
-                                                                            const u32 t468 = load32(l4);
-                                                                            const u32 t469 = load32(l2);
+                                                                            l4 = t467 + ((u64)(l6 - l8) << 3);
+                                                                            store64(l4 + 56u, 0ull);
+                                                                            store64(l4 + 48u, 0ull);
+                                                                            store64(l4 + 40u, 0ull);
+                                                                            store64(l4 + 32u, 0ull);
+                                                                            store64(l4 + 24u, 0ull);
+                                                                            store64(l4 + 16u, 0ull);
+                                                                            store64(l4 + 8u, 0ull);
+                                                                            store64(l4, 0ull);
+                                                                            store16(l4 + 80u, (u16)10496u);
+                                                                            store16(l4 + 72u, (u16)10496u);
+                                                                            store16(l4 + 64u, (u16)29440u);
+                                                                            store32(l4 + 84ull, 0u);
+                                                                            store32(l4 + 76ull, 0u);
+                                                                            store32(l4 + 68ull, 0u);
+                                                                            store8(l4 + 57ull, (u8)114u);
+                                                                            store8(l4 + 49ull, (u8)40u);
+                                                                            store8(l4 + 41ull, (u8)35u);
+                                                                            store8(l4 + 33ull, (u8)44u);
+                                                                            store8(l4 + 25ull, (u8)115u);
+                                                                            store8(l4 + 17ull, (u8)112u);
+                                                                            store8(l4 + 9ull, (u8)40u);
+                                                                            store8(l4 + 1ull, (u8)35u);
+                                                                            store32(l31, l8);
+                                                                            const u32 t468 = load32(l2);
+                                                                            const u32 t469 = load32(l5);
                                                                             l8 = t468 + (t469 + l8);
                                                                             goto L409;
                                                                         }
@@ -20859,10 +21698,10 @@ static void engine_turn(struct engine *e, u64 l0, u64 l1, u64 l2, u64 l3, u64 l4
                                                                             l14 = l8 + l20;
                                                                             l15 = l9 + 1u;
                                                                             l5 = (u64)(l8 + l15);
-                                                                            l30 = (u64)l14 - l5;
-                                                                            if (l30 < 2ull) goto L476;
+                                                                            l31 = (u64)l14 - l5;
+                                                                            if (l31 < 2ull) goto L476;
                                                                             l5 = l4 + (l5 << 3);
-                                                                            if (l30 != 2ull) {
+                                                                            if (l31 != 2ull) {
                                                                                 const u32 t478 = load8(l5 + 16ull);
                                                                                 if (t478 != 2u) goto L476;
                                                                             }
@@ -20993,7 +21832,7 @@ static void engine_turn(struct engine *e, u64 l0, u64 l1, u64 l2, u64 l3, u64 l4
                                                                                             l5 = l26 + 184ull;
                                                                                             l1 = l29;
                                                                                             l28 = l26 + 168ull;
-                                                                                            l33 = l26 + 32ull;
+                                                                                            l32 = l26 + 32ull;
                                                                                             l3 = e->stack_pointer - 32ull;
                                                                                             e->stack_pointer = l3;
                                                                                             {
@@ -21016,11 +21855,11 @@ static void engine_turn(struct engine *e, u64 l0, u64 l1, u64 l2, u64 l3, u64 l4
                                                                                                         const u32 t514 = load32(l1 + 16ull);
                                                                                                         const u32 t515 = l13;
                                                                                                         l13 = t514;
-                                                                                                        l30 = (u64)(t515 + l13);
-                                                                                                        l28 = t513 + (l30 << 3);
+                                                                                                        l31 = (u64)(t515 + l13);
+                                                                                                        l28 = t513 + (l31 << 3);
                                                                                                         {
                                                                                                             l4 = (u64)(l10 + l13);
-                                                                                                            l1 = l4 - l30;
+                                                                                                            l1 = l4 - l31;
                                                                                                             if (l1 <= 15ull) {
                                                                                                                 {
                                                                                                                     L519:;
@@ -21032,21 +21871,21 @@ static void engine_turn(struct engine *e, u64 l0, u64 l1, u64 l2, u64 l3, u64 l4
                                                                                                                             l10 = t522;
                                                                                                                         }
                                                                                                                         {
-                                                                                                                            l3 = l33 + 16ull;
+                                                                                                                            l3 = l32 + 16ull;
                                                                                                                             const u64 t524 = load64(l3);
-                                                                                                                            l30 = t524;
-                                                                                                                            const u64 t525 = load64(l33 + 8ull);
-                                                                                                                            if (l30 < t525) {
-                                                                                                                                const u64 t527 = load64(l33);
-                                                                                                                                store8(t527 + l30, (u8)l10);
+                                                                                                                            l31 = t524;
+                                                                                                                            const u64 t525 = load64(l32 + 8ull);
+                                                                                                                            if (l31 < t525) {
+                                                                                                                                const u64 t527 = load64(l32);
+                                                                                                                                store8(t527 + l31, (u8)l10);
                                                                                                                                 const u64 t528 = load64(l3);
                                                                                                                                 store64(l3, t528 + 1ull);
                                                                                                                                 goto L523;
                                                                                                                             }
-                                                                                                                            l3 = l33 + 24ull;
+                                                                                                                            l3 = l32 + 24ull;
                                                                                                                             const u32 t529 = load8(l3);
                                                                                                                             if (t529 == 1u) goto L518;
-                                                                                                                            store8(l33 + 25ull, (u8)l10);
+                                                                                                                            store8(l32 + 25ull, (u8)l10);
                                                                                                                             store8(l3, (u8)1u);
                                                                                                                         }
                                                                                                                         L523:;
@@ -21057,24 +21896,24 @@ static void engine_turn(struct engine *e, u64 l0, u64 l1, u64 l2, u64 l3, u64 l4
                                                                                                                     v510 = 0u; goto L510;
                                                                                                                 }
                                                                                                                 L518:;
-                                                                                                                l33 = l33 + 32ull;
-                                                                                                                const u64 t530 = load64(l33);
-                                                                                                                store64(l33, t530 + 1ull);
+                                                                                                                l32 = l32 + 32ull;
+                                                                                                                const u64 t530 = load64(l32);
+                                                                                                                store64(l32, t530 + 1ull);
                                                                                                                 goto L516;
                                                                                                             }
-                                                                                                            l3 = l33 + 16ull;
+                                                                                                            l3 = l32 + 16ull;
                                                                                                             const u64 t531 = load64(l3);
-                                                                                                            const u64 t532 = load64(l33);
-                                                                                                            const u64 t533 = load64(l33 + 8ull);
+                                                                                                            const u64 t532 = load64(l32);
+                                                                                                            const u64 t533 = load64(l32 + 8ull);
                                                                                                             const u64 t534 = c_filling_put_characters(e, l28, l1, t531, t532, t533);
-                                                                                                            l32 = t534;
+                                                                                                            l33 = t534;
                                                                                                             const u64 t535 = load64(l3);
                                                                                                             const u64 t536 = l3;
-                                                                                                            l3 = l32 + t535;
+                                                                                                            l3 = l33 + t535;
                                                                                                             store64(t536, l3);
-                                                                                                            if (l1 == l32) { v510 = 0u; goto L510; }
-                                                                                                            l28 = l28 + (l32 << 3);
-                                                                                                            l1 = (l30 + l32) - l4;
+                                                                                                            if (l1 == l33) { v510 = 0u; goto L510; }
+                                                                                                            l28 = l28 + (l33 << 3);
+                                                                                                            l1 = (l31 + l33) - l4;
                                                                                                             {
                                                                                                                 L538:;
                                                                                                                 {
@@ -21085,22 +21924,22 @@ static void engine_turn(struct engine *e, u64 l0, u64 l1, u64 l2, u64 l3, u64 l4
                                                                                                                         l10 = t541;
                                                                                                                     }
                                                                                                                     {
-                                                                                                                        const u64 t543 = load64(l33 + 8ull);
+                                                                                                                        const u64 t543 = load64(l32 + 8ull);
                                                                                                                         if (t543 > l3) {
-                                                                                                                            const u64 t545 = load64(l33);
+                                                                                                                            const u64 t545 = load64(l32);
                                                                                                                             store8(t545 + l3, (u8)l10);
-                                                                                                                            l3 = l33 + 16ull;
+                                                                                                                            l3 = l32 + 16ull;
                                                                                                                             const u64 t546 = load64(l3);
                                                                                                                             const u64 t547 = l3;
                                                                                                                             l3 = t546 + 1ull;
                                                                                                                             store64(t547, l3);
                                                                                                                             goto L542;
                                                                                                                         }
-                                                                                                                        l30 = l33 + 24ull;
-                                                                                                                        const u32 t548 = load8(l30);
+                                                                                                                        l31 = l32 + 24ull;
+                                                                                                                        const u32 t548 = load8(l31);
                                                                                                                         if (t548 == 1u) goto L537;
-                                                                                                                        store8(l33 + 25ull, (u8)l10);
-                                                                                                                        store8(l30, (u8)1u);
+                                                                                                                        store8(l32 + 25ull, (u8)l10);
+                                                                                                                        store8(l31, (u8)1u);
                                                                                                                     }
                                                                                                                     L542:;
                                                                                                                     l28 = l28 + 8ull;
@@ -21110,9 +21949,9 @@ static void engine_turn(struct engine *e, u64 l0, u64 l1, u64 l2, u64 l3, u64 l4
                                                                                                                 v510 = 0u; goto L510;
                                                                                                             }
                                                                                                             L537:;
-                                                                                                            l33 = l33 + 32ull;
-                                                                                                            const u64 t549 = load64(l33);
-                                                                                                            store64(l33, t549 + 1ull);
+                                                                                                            l32 = l32 + 32ull;
+                                                                                                            const u64 t549 = load64(l32);
+                                                                                                            store64(l32, t549 + 1ull);
                                                                                                         }
                                                                                                         L516:;
                                                                                                         l6 = 4u;
@@ -21140,10 +21979,10 @@ static void engine_turn(struct engine *e, u64 l0, u64 l1, u64 l2, u64 l3, u64 l4
                                                                                         store32(l26 + 152u, l16);
                                                                                         l4 = l26 + 184ull;
                                                                                         l0 = l29;
-                                                                                        l30 = l26 + 152ull;
-                                                                                        l32 = l26 + 32ull;
-                                                                                        l33 = e->stack_pointer - 80ull;
-                                                                                        e->stack_pointer = l33;
+                                                                                        l31 = l26 + 152ull;
+                                                                                        l33 = l26 + 32ull;
+                                                                                        l32 = e->stack_pointer - 80ull;
+                                                                                        e->stack_pointer = l32;
                                                                                         u32 v550;
                                                                                         {
                                                                                             {
@@ -21151,30 +21990,30 @@ static void engine_turn(struct engine *e, u64 l0, u64 l1, u64 l2, u64 l3, u64 l4
                                                                                                     {
                                                                                                         {
                                                                                                             {
-                                                                                                                if ((i64)(l33 - e->stack) >= (i64)16ull) {
-                                                                                                                    const u64 t557 = load64(l30 + 8u);
-                                                                                                                    store64(l33 + 32u, t557);
-                                                                                                                    const u64 t558 = load64(l30);
-                                                                                                                    store64(l33 + 24u, t558);
-                                                                                                                    functions_arguments_Arguments_next(e, l33 + 16ull, l33 + 24ull, l0);
-                                                                                                                    const u32 t559 = load32(l33 + 20u);
+                                                                                                                if ((i64)(l32 - e->stack) >= (i64)16ull) {
+                                                                                                                    const u64 t557 = load64(l31 + 8u);
+                                                                                                                    store64(l32 + 32u, t557);
+                                                                                                                    const u64 t558 = load64(l31);
+                                                                                                                    store64(l32 + 24u, t558);
+                                                                                                                    functions_arguments_Arguments_next(e, l32 + 16ull, l32 + 24ull, l0);
+                                                                                                                    const u32 t559 = load32(l32 + 20u);
                                                                                                                     l13 = t559;
-                                                                                                                    const u32 t560 = load32(l33 + 16u);
+                                                                                                                    const u32 t560 = load32(l32 + 16u);
                                                                                                                     l10 = t560;
-                                                                                                                    store64(l33 + 72u, 0ull);
-                                                                                                                    store64(l33 + 64u, 0ull);
-                                                                                                                    store64(l33 + 56u, 0ull);
-                                                                                                                    store64(l33 + 48u, 0ull);
-                                                                                                                    store64(l33 + 40u, 0ull);
+                                                                                                                    store64(l32 + 72u, 0ull);
+                                                                                                                    store64(l32 + 64u, 0ull);
+                                                                                                                    store64(l32 + 56u, 0ull);
+                                                                                                                    store64(l32 + 48u, 0ull);
+                                                                                                                    store64(l32 + 40u, 0ull);
                                                                                                                     u32 v561;
                                                                                                                     {
                                                                                                                         const u32 t562 = load32(l0 + 40ull);
                                                                                                                         l6 = t562;
                                                                                                                         if (l6 >= 8u) {
-                                                                                                                            forms_work_Work_find_among_more(e, l33, l0, l10, l13);
-                                                                                                                            const u32 t564 = load32(l33 + 4u);
+                                                                                                                            forms_work_Work_find_among_more(e, l32, l0, l10, l13);
+                                                                                                                            const u32 t564 = load32(l32 + 4u);
                                                                                                                             l10 = t564;
-                                                                                                                            const u32 t565 = load8(l33);
+                                                                                                                            const u32 t565 = load8(l32);
                                                                                                                             v561 = t565; goto L561;
                                                                                                                         }
                                                                                                                         {
@@ -21184,29 +22023,29 @@ static void engine_turn(struct engine *e, u64 l0, u64 l1, u64 l2, u64 l3, u64 l4
                                                                                                                             const u64 t568 = load32(l5 + 4ull);
                                                                                                                             const u32 t569 = load32(l0 + 16ull);
                                                                                                                             l6 = t569;
-                                                                                                                            l30 = (u64)(l6 + l13);
+                                                                                                                            l31 = (u64)(l6 + l13);
                                                                                                                             l28 = (u64)(l6 + l10);
-                                                                                                                            if (t568 != (l30 - l28)) goto L566;
+                                                                                                                            if (t568 != (l31 - l28)) goto L566;
                                                                                                                             l3 = 17ull - (l28 << 3);
-                                                                                                                            l28 = (l30 ^ 18446744073709551615ull) + l28;
-                                                                                                                            l30 = l5 + (l30 << 3);
+                                                                                                                            l28 = (l31 ^ 18446744073709551615ull) + l28;
+                                                                                                                            l31 = l5 + (l31 << 3);
                                                                                                                             L570:;
                                                                                                                             {
                                                                                                                                 l28 = l28 + 1ull;
                                                                                                                                 if (l28 == 0) goto L555;
-                                                                                                                                l5 = l30 - 7ull;
-                                                                                                                                l1 = l3 + l30;
-                                                                                                                                l30 = l30 - 8ull;
+                                                                                                                                l5 = l31 - 7ull;
+                                                                                                                                l1 = l3 + l31;
+                                                                                                                                l31 = l31 - 8ull;
                                                                                                                                 const u32 t571 = load8(l1);
                                                                                                                                 const u32 t572 = load8(l5);
                                                                                                                                 if (t571 == t572) goto L570;
                                                                                                                             }
                                                                                                                         }
                                                                                                                         L566:;
-                                                                                                                        forms_work_Work_find_among_few(e, l33 + 8ull, l0, l10, l13);
-                                                                                                                        const u32 t573 = load32(l33 + 12u);
+                                                                                                                        forms_work_Work_find_among_few(e, l32 + 8ull, l0, l10, l13);
+                                                                                                                        const u32 t573 = load32(l32 + 12u);
                                                                                                                         l10 = t573;
-                                                                                                                        const u32 t574 = load8(l33 + 8u);
+                                                                                                                        const u32 t574 = load8(l32 + 8u);
                                                                                                                         v561 = t574;
                                                                                                                     }
                                                                                                                     L561:;
@@ -21220,26 +22059,26 @@ static void engine_turn(struct engine *e, u64 l0, u64 l1, u64 l2, u64 l3, u64 l4
                                                                                                             l10 = 0u;
                                                                                                         }
                                                                                                         L554:;
-                                                                                                        forms_work_Work_stored(e, l33 + 40ull, l0, l10);
-                                                                                                        const u64 t575 = load64(l33 + 64u);
-                                                                                                        l30 = t575;
-                                                                                                        const u32 t576 = load32(l33 + 72u);
+                                                                                                        forms_work_Work_stored(e, l32 + 40ull, l0, l10);
+                                                                                                        const u64 t575 = load64(l32 + 64u);
+                                                                                                        l31 = t575;
+                                                                                                        const u32 t576 = load32(l32 + 72u);
                                                                                                         l13 = t576;
-                                                                                                        const u32 t577 = core_display_show_items2(e, l33 + 40ull, 0u, l13, l32);
+                                                                                                        const u32 t577 = core_display_show_items2(e, l32 + 40ull, 0u, l13, l33);
                                                                                                         if (t577 & 255u) goto L551;
-                                                                                                        l0 = l32 + 16ull;
+                                                                                                        l0 = l33 + 16ull;
                                                                                                         const u64 t578 = load64(l0);
                                                                                                         l28 = t578;
-                                                                                                        l5 = l32 + 8ull;
+                                                                                                        l5 = l33 + 8ull;
                                                                                                         const u64 t579 = load64(l5);
                                                                                                         if (l28 >= t579) {
-                                                                                                            l30 = l32 + 24ull;
-                                                                                                            const u32 t581 = load8(l30);
+                                                                                                            l31 = l33 + 24ull;
+                                                                                                            const u32 t581 = load8(l31);
                                                                                                             if (t581 == 1u) goto L552;
-                                                                                                            store16(l30, (u16)15361u);
+                                                                                                            store16(l31, (u16)15361u);
                                                                                                             goto L552;
                                                                                                         }
-                                                                                                        const u64 t582 = load64(l32);
+                                                                                                        const u64 t582 = load64(l33);
                                                                                                         store8(t582 + l28, (u8)60u);
                                                                                                         const u64 t583 = load64(l0);
                                                                                                         l28 = t583 + 1ull;
@@ -21248,39 +22087,39 @@ static void engine_turn(struct engine *e, u64 l0, u64 l1, u64 l2, u64 l3, u64 l4
                                                                                                             const u64 t585 = load64(l5);
                                                                                                             l0 = t585;
                                                                                                             if (l0 <= l28) {
-                                                                                                                l5 = l32 + 24ull;
+                                                                                                                l5 = l33 + 24ull;
                                                                                                                 const u32 t587 = load8(l5);
                                                                                                                 if (t587 == 1u) goto L552;
                                                                                                                 store16(l5, (u16)24065u);
                                                                                                                 goto L584;
                                                                                                             }
-                                                                                                            const u64 t588 = load64(l32);
+                                                                                                            const u64 t588 = load64(l33);
                                                                                                             store8(t588 + l28, (u8)94u);
-                                                                                                            l28 = l32 + 16ull;
+                                                                                                            l28 = l33 + 16ull;
                                                                                                             const u64 t589 = load64(l28);
                                                                                                             const u64 t590 = l28;
                                                                                                             l28 = t589 + 1ull;
                                                                                                             store64(t590, l28);
-                                                                                                            const u64 t591 = load64(l32 + 8ull);
+                                                                                                            const u64 t591 = load64(l33 + 8ull);
                                                                                                             l0 = t591;
                                                                                                         }
                                                                                                         L584:;
                                                                                                         {
                                                                                                             if (l0 <= l28) {
-                                                                                                                l28 = l32 + 24ull;
+                                                                                                                l28 = l33 + 24ull;
                                                                                                                 const u32 t594 = load8(l28);
                                                                                                                 if (t594 == 1u) goto L552;
                                                                                                                 store16(l28, (u16)15873u);
                                                                                                                 goto L592;
                                                                                                             }
-                                                                                                            const u64 t595 = load64(l32);
+                                                                                                            const u64 t595 = load64(l33);
                                                                                                             store8(t595 + l28, (u8)62u);
-                                                                                                            l28 = l32 + 16ull;
+                                                                                                            l28 = l33 + 16ull;
                                                                                                             const u64 t596 = load64(l28);
                                                                                                             store64(l28, t596 + 1ull);
                                                                                                         }
                                                                                                         L592:;
-                                                                                                        const u32 t597 = core_display_show_items2(e, l33 + 40ull, l13, (u32)l30, l32);
+                                                                                                        const u32 t597 = core_display_show_items2(e, l32 + 40ull, l13, (u32)l31, l33);
                                                                                                         if (t597 & 255u) goto L551;
                                                                                                     }
                                                                                                     L553:;
@@ -21288,9 +22127,9 @@ static void engine_turn(struct engine *e, u64 l0, u64 l1, u64 l2, u64 l3, u64 l4
                                                                                                     v550 = 0u; goto L550;
                                                                                                 }
                                                                                                 L552:;
-                                                                                                l30 = l32 + 32ull;
-                                                                                                const u64 t598 = load64(l30);
-                                                                                                store64(l30, t598 + 1ull);
+                                                                                                l31 = l33 + 32ull;
+                                                                                                const u64 t598 = load64(l31);
+                                                                                                store64(l31, t598 + 1ull);
                                                                                             }
                                                                                             L551:;
                                                                                             l10 = 4u;
@@ -21301,7 +22140,7 @@ static void engine_turn(struct engine *e, u64 l0, u64 l1, u64 l2, u64 l3, u64 l4
                                                                                         store8(l4, (u8)l10);
                                                                                         store32(l4 + 4ull, 0u);
                                                                                         store8(l4 + 1ull, (u8)l13);
-                                                                                        e->stack_pointer = l33 + 80ull;
+                                                                                        e->stack_pointer = l32 + 80ull;
                                                                                         goto L480;
                                                                                     }
                                                                                     L482:;
@@ -21556,21 +22395,21 @@ static void engine_turn(struct engine *e, u64 l0, u64 l1, u64 l2, u64 l3, u64 l4
                                                                                                         {
                                                                                                             if (l13 == 0) goto L662;
                                                                                                             const u64 t663 = load32(l4 + 4ull);
-                                                                                                            l30 = (u64)(l6 + l8);
+                                                                                                            l31 = (u64)(l6 + l8);
                                                                                                             l5 = (u64)(l8 + l17);
-                                                                                                            if (t663 != (l30 - l5)) goto L662;
+                                                                                                            if (t663 != (l31 - l5)) goto L662;
                                                                                                             l1 = 17ull - (l5 << 3);
-                                                                                                            l5 = (l30 ^ 18446744073709551615ull) + l5;
-                                                                                                            l4 = l4 + (l30 << 3);
+                                                                                                            l5 = (l31 ^ 18446744073709551615ull) + l5;
+                                                                                                            l4 = l4 + (l31 << 3);
                                                                                                             L664:;
                                                                                                             {
                                                                                                                 l5 = l5 + 1ull;
                                                                                                                 if (l5 == 0) goto L416;
-                                                                                                                l30 = l4 - 7ull;
+                                                                                                                l31 = l4 - 7ull;
                                                                                                                 l3 = l1 + l4;
                                                                                                                 l4 = l4 - 8ull;
                                                                                                                 const u32 t665 = load8(l3);
-                                                                                                                const u32 t666 = load8(l30);
+                                                                                                                const u32 t666 = load8(l31);
                                                                                                                 if (t665 == t666) goto L664;
                                                                                                             }
                                                                                                         }
@@ -21607,10 +22446,10 @@ static void engine_turn(struct engine *e, u64 l0, u64 l1, u64 l2, u64 l3, u64 l4
                                                                                 const u32 t669 = load8(l29 + 56ull);
                                                                                 l22 = t669;
                                                                                 l28 = l26 + 72ull;
-                                                                                l32 = e->stack_pointer - 16ull;
-                                                                                e->stack_pointer = l32;
+                                                                                l33 = e->stack_pointer - 16ull;
+                                                                                e->stack_pointer = l33;
                                                                                 {
-                                                                                    if ((i64)(l32 - e->stack) >= (i64)16ull) {
+                                                                                    if ((i64)(l33 - e->stack) >= (i64)16ull) {
                                                                                         l3 = l0 + 20ull;
                                                                                         const u32 t672 = load32(l3);
                                                                                         l11 = t672;
@@ -21625,35 +22464,35 @@ static void engine_turn(struct engine *e, u64 l0, u64 l1, u64 l2, u64 l3, u64 l4
                                                                                                     L678:;
                                                                                                     {
                                                                                                         const u64 t679 = load64(l28 + 8u);
-                                                                                                        l30 = t679;
-                                                                                                        if (l30 == 0) {
+                                                                                                        l31 = t679;
+                                                                                                        if (l31 == 0) {
                                                                                                             const u32 t681 = load8(l28 + 16ull);
                                                                                                             if (t681) goto L675;
                                                                                                             store8(l28 + 17ull, (u8)1u);
                                                                                                             goto L676;
                                                                                                         }
-                                                                                                        store64(l28 + 8u, l30 - 1ull);
+                                                                                                        store64(l28 + 8u, l31 - 1ull);
                                                                                                         const u64 t682 = load64(l28);
-                                                                                                        l30 = t682;
-                                                                                                        store64(l28, l30 + 1ull);
-                                                                                                        const u32 t683 = load8(l30);
+                                                                                                        l31 = t682;
+                                                                                                        store64(l28, l31 + 1ull);
+                                                                                                        const u32 t683 = load8(l31);
                                                                                                         l19 = t683;
                                                                                                         if (l19 == l22) {
                                                                                                             l19 = 0u;
                                                                                                             v674 = 1u; goto L674;
                                                                                                         }
-                                                                                                        store64(l32 + 8u, 0ull);
-                                                                                                        store8(l32 + 9u, (u8)l19);
+                                                                                                        store64(l33 + 8u, 0ull);
+                                                                                                        store8(l33 + 9u, (u8)l19);
                                                                                                         {
                                                                                                             const u32 t686 = load32(l0 + 28ull);
-                                                                                                            l30 = l0 + 20ull;
-                                                                                                            const u32 t687 = load32(l30);
+                                                                                                            l31 = l0 + 20ull;
+                                                                                                            const u32 t687 = load32(l31);
                                                                                                             l10 = t687;
                                                                                                             const u32 t688 = load32(l0 + 16ull);
                                                                                                             l13 = l10 + t688;
                                                                                                             const u32 t689 = load32(l0 + 24ull);
                                                                                                             if (t686 == (l13 + t689)) {
-                                                                                                                const u32 t691 = space_space_Space_push_in_way(e, l0, l32 + 8ull);
+                                                                                                                const u32 t691 = space_space_Space_push_in_way(e, l0, l33 + 8ull);
                                                                                                                 if (t691) goto L685;
                                                                                                                 l19 = 0u;
                                                                                                                 v674 = 0u; goto L674;
@@ -21666,7 +22505,7 @@ static void engine_turn(struct engine *e, u64 l0, u64 l1, u64 l2, u64 l3, u64 l4
                                                                                                             store8(l4, (u8)0u);
                                                                                                             store32(l4 + 4ull, 0u);
                                                                                                             store8(l4 + 1ull, (u8)l19);
-                                                                                                            store32(l30, l10 + 1u);
+                                                                                                            store32(l31, l10 + 1u);
                                                                                                             store32(l1, l6);
                                                                                                         }
                                                                                                         L685:;
@@ -21691,7 +22530,7 @@ static void engine_turn(struct engine *e, u64 l0, u64 l1, u64 l2, u64 l3, u64 l4
                                                                                         store8(t673, (u8)v674);
                                                                                         store32(l5 + 4ull, 0u);
                                                                                         store8(l5 + 1ull, (u8)l19);
-                                                                                        e->stack_pointer = l32 + 16ull;
+                                                                                        e->stack_pointer = l33 + 16ull;
                                                                                         goto L670;
                                                                                     }
                                                                                     trap();
@@ -21750,8 +22589,8 @@ static void engine_turn(struct engine *e, u64 l0, u64 l1, u64 l2, u64 l3, u64 l4
                                                         l12 = t708;
                                                         l16 = 0u;
                                                         const u64 t709 = load64(l29);
-                                                        l30 = t709;
-                                                        l4 = l30 + ((u64)l12 << 3);
+                                                        l31 = t709;
+                                                        l4 = l31 + ((u64)l12 << 3);
                                                         const u32 t710 = load32(l4 + 12ull);
                                                         l19 = t710;
                                                         const u32 t711 = load32(l4 + 20ull);
@@ -21786,20 +22625,20 @@ static void engine_turn(struct engine *e, u64 l0, u64 l1, u64 l2, u64 l3, u64 l4
                                                                                     {
                                                                                         if (l12 >= 8u) {
                                                                                             if (l12 == 8u) goto L726;
-                                                                                            l4 = l30 + (l3 << 3);
+                                                                                            l4 = l31 + (l3 << 3);
                                                                                             l5 = l0;
                                                                                             goto L727;
                                                                                         }
                                                                                         if (l12 >= 4u) {
                                                                                             l18 = 0u;
-                                                                                            l4 = l30 + (l3 << 3);
+                                                                                            l4 = l31 + (l3 << 3);
                                                                                             const u32 t730 = load8(l4 + 24ull);
                                                                                             const u32 t731 = load8(l4 + 16ull);
                                                                                             const u32 t732 = load8(l4 + 8ull);
                                                                                             const u32 t733 = load8(l4);
                                                                                             if (((t730 + t731) | (t732 + t733)) & 255u) { v714 = 0u; goto L714; }
                                                                                             l1 = l0 + l3;
-                                                                                            l5 = l30 + (l1 << 3);
+                                                                                            l5 = l31 + (l1 << 3);
                                                                                             const u32 t734 = load8(l5 - 8ull);
                                                                                             const u32 t735 = load8(l5 - 16ull);
                                                                                             const u32 t736 = load8(l5 - 24ull);
@@ -21807,12 +22646,12 @@ static void engine_turn(struct engine *e, u64 l0, u64 l1, u64 l2, u64 l3, u64 l4
                                                                                             if (((t734 + t735) | (t736 + t737)) & 255u) { v714 = 0u; goto L714; }
                                                                                             l16 = l11 + l12;
                                                                                             l5 = (u64)(l22 - l16);
-                                                                                            core_slice_edits_slice_T_copy_from_slice(e, l30 + (l5 << 3), l4, 4ull);
+                                                                                            core_slice_edits_slice_T_copy_from_slice(e, l31 + (l5 << 3), l4, 4ull);
                                                                                             l4 = l1 - 4ull;
-                                                                                            core_slice_edits_slice_T_copy_from_slice(e, l30 + ((l4 + (l5 - l3)) << 3), l30 + (l4 << 3), 4ull);
+                                                                                            core_slice_edits_slice_T_copy_from_slice(e, l31 + ((l4 + (l5 - l3)) << 3), l31 + (l4 << 3), 4ull);
                                                                                             goto L723;
                                                                                         }
-                                                                                        l4 = l30 + (l3 << 3);
+                                                                                        l4 = l31 + (l3 << 3);
                                                                                         const u32 t738 = load8(l4);
                                                                                         l19 = t738;
                                                                                         if (l12 < 2u) goto L725;
@@ -21820,15 +22659,15 @@ static void engine_turn(struct engine *e, u64 l0, u64 l1, u64 l2, u64 l3, u64 l4
                                                                                         const u32 t739 = load8(l4 + 8ull);
                                                                                         if (t739 | (l19 & 255u)) { v714 = 0u; goto L714; }
                                                                                         l1 = l0 + l3;
-                                                                                        l5 = l30 + (l1 << 3);
+                                                                                        l5 = l31 + (l1 << 3);
                                                                                         const u32 t740 = load8(l5 - 8ull);
                                                                                         const u32 t741 = load8(l5 - 16ull);
                                                                                         if (t740 | t741) { v714 = 0u; goto L714; }
                                                                                         l16 = l11 + l12;
                                                                                         l5 = (u64)(l22 - l16);
-                                                                                        core_slice_edits_slice_T_copy_from_slice(e, l30 + (l5 << 3), l4, 2ull);
+                                                                                        core_slice_edits_slice_T_copy_from_slice(e, l31 + (l5 << 3), l4, 2ull);
                                                                                         l4 = l1 - 2ull;
-                                                                                        core_slice_edits_slice_T_copy_from_slice(e, l30 + ((l4 + (l5 - l3)) << 3), l30 + (l4 << 3), 2ull);
+                                                                                        core_slice_edits_slice_T_copy_from_slice(e, l31 + ((l4 + (l5 - l3)) << 3), l31 + (l4 << 3), 2ull);
                                                                                         goto L723;
                                                                                     }
                                                                                     L727:;
@@ -21855,7 +22694,7 @@ static void engine_turn(struct engine *e, u64 l0, u64 l1, u64 l2, u64 l3, u64 l4
                                                                                 L726:;
                                                                                 l18 = 0u;
                                                                                 l5 = l0 + l3;
-                                                                                l4 = l30 + (l5 << 3);
+                                                                                l4 = l31 + (l5 << 3);
                                                                                 const u32 t752 = load8(l4 - 56ull);
                                                                                 const u32 t753 = load8(l4 - 64ull);
                                                                                 const u32 t754 = load8(l4 - 48ull);
@@ -21866,11 +22705,11 @@ static void engine_turn(struct engine *e, u64 l0, u64 l1, u64 l2, u64 l3, u64 l4
                                                                                 const u32 t759 = load8(l4 - 8ull);
                                                                                 if ((((((((t752 + t753) + t754) + t755) + t756) + t757) + t758) & 255u) | t759) { v714 = 0u; goto L714; }
                                                                                 l16 = l11 + l12;
-                                                                                l32 = (u64)(l22 - l16);
+                                                                                l33 = (u64)(l22 - l16);
                                                                                 if (l12 > 24u) goto L724;
                                                                                 if (l12 != 8u) {
-                                                                                    l4 = l30 + (l3 << 3);
-                                                                                    l5 = l30 + (l32 << 3);
+                                                                                    l4 = l31 + (l3 << 3);
+                                                                                    l5 = l31 + (l33 << 3);
                                                                                     l1 = l0;
                                                                                     L761:;
                                                                                     {
@@ -21882,7 +22721,7 @@ static void engine_turn(struct engine *e, u64 l0, u64 l1, u64 l2, u64 l3, u64 l4
                                                                                     }
                                                                                 }
                                                                                 l4 = l0 - 8ull;
-                                                                                core_slice_edits_slice_T_copy_from_slice(e, l30 + ((l4 + l32) << 3), l30 + ((l3 + l4) << 3), 8ull);
+                                                                                core_slice_edits_slice_T_copy_from_slice(e, l31 + ((l4 + l33) << 3), l31 + ((l3 + l4) << 3), 8ull);
                                                                                 store32(l29 + 24ull, l16);
                                                                                 goto L722;
                                                                             }
@@ -21891,7 +22730,7 @@ static void engine_turn(struct engine *e, u64 l0, u64 l1, u64 l2, u64 l3, u64 l4
                                                                             if (l19 & 255u) { v714 = 0u; goto L714; }
                                                                             l16 = l11 + l12;
                                                                             if (l12 != 1u) goto L723;
-                                                                            l5 = l30 + ((u64)(l22 - l16) << 3);
+                                                                            l5 = l31 + ((u64)(l22 - l16) << 3);
                                                                             store8(l5, (u8)0u);
                                                                             const u32 t762 = load32(l4 + 4ull);
                                                                             store32(l5 + 4ull, t762);
@@ -21900,7 +22739,7 @@ static void engine_turn(struct engine *e, u64 l0, u64 l1, u64 l2, u64 l3, u64 l4
                                                                             goto L723;
                                                                         }
                                                                         L724:;
-                                                                        space_copies_copy_long(e, l30, l3, l5, l32);
+                                                                        space_copies_copy_long(e, l31, l3, l5, l33);
                                                                     }
                                                                     L723:;
                                                                     store32(l29 + 24ull, l16);
