@@ -82,7 +82,7 @@ generate:
 
 ## make dist       what is handed out, in dist/: programs, libraries, the page, the manual
 dist: programs build/trac build/libtrac.so.0 dist/libtrac.a dist/trac.h dist/trac.html dist/npm/package.json \
-    dist/trac_t64-$(VERSION).tar.gz
+    dist/trac_t64-$(VERSION).tar.gz dist/trac.pdf
 	for program in trac_trace trac_terminal; do cp -p crates/$$program/out/$$program dist || exit; done
 	cp -p crates/trac_cli/out/trac_cli dist/trac
 	cp docs/*.[0-9] hosts/c/trac.c hosts/c/trac_engine.c dist
@@ -126,6 +126,11 @@ dist/trac_t64-$(VERSION).tar.gz: hosts/c/trac.h hosts/c/trac_engine.c hosts/pyth
 	top=$$(pwd) && cd hosts/python && \
 	    $(PYTHON) setup.py -q egg_info --egg-base "$$top/build" sdist --dist-dir "$$top/build/python"
 	mv build/python/trac?t64-$(VERSION).tar.gz $@
+
+# The language on one page, to print.
+dist/trac.pdf: docs/trac.7
+	mkdir -p dist
+	groff -t -man -T pdf -dpaper=a4 -P-pa4 docs/trac.7 >$@ || { rm -f $@ && exit 1; }
 
 ## make types      the types of the module for JavaScript, hosts/js/trac.d.mts, anew from its comments
 types:

@@ -11,6 +11,7 @@ from trac import TOP, run
 FOLDER = os.path.join(TOP, 'examples')
 EXERCISE = re.compile(r'^### (\d+)\. .*\n((?:(?!###? ).*\n)*)', re.MULTILINE)
 BLOCK = re.compile(r'^```(\w+)\n((?:(?!```).*\n)*)```$', re.MULTILINE)
+LEVEL = re.compile(r'^\n(Easy|Middling|Hard), (\d+) minutes\.\n')
 SOLUTION = re.compile(r'\]\(\.\./examples/(exercises/(\d+)-\S+\.trac)\)')
 
 
@@ -48,6 +49,7 @@ class Exercises(unittest.TestCase):
             with self.subTest(exercise=number):
                 blocks = {kind: block.strip('\n') for kind, block in BLOCK.findall(text)}
                 [(name, count)] = SOLUTION.findall(text)[:1]
+                self.assertRegex(text, LEVEL)
                 script = read(name)
                 self.assertEqual(int(count), int(number))
                 self.assertTrue(script.decode().strip('\n').endswith(blocks.get('input', '')))
@@ -58,6 +60,12 @@ class Exercises(unittest.TestCase):
                     self.assertEqual(run(blocks['trac']), (b'', '', 0))
                 solved.append(name)
         self.assertEqual(solved, sorted(glob.glob('exercises/*.trac', root_dir=FOLDER)))
+
+    def test_each_solution_is_explained(self):
+        with open(os.path.join(TOP, 'docs', 'EXERCISES.md'), encoding='utf-8') as page:
+            reasons = page.read().split('\n## Why the solutions are so\n')[1]
+        self.assertEqual([int(number) for number in re.findall(r'^(\d+)\. ', reasons, re.MULTILINE)],
+                         list(range(1, 21)))
 
 
 class FreeText(unittest.TestCase):

@@ -72,8 +72,16 @@ class Install(unittest.TestCase):
         self.assertEqual((ran.stdout, ran.stderr), ('hello', ''))
         there = files(self.there)
         self.assertLessEqual({'include/trac.h', 'lib/libtrac.a', 'lib/libtrac.so', 'lib/libtrac.so.0',
-                              'share/man/man1/trac.1', 'share/man/man3/trac.3', f'{DOC}/docs/LANGUAGE.md',
-                              f'{DOC}/examples/hanoi.trac'}, there)
+                              'share/man/man1/trac.1', 'share/man/man3/trac.3', 'share/man/man7/trac.7',
+                              f'{DOC}/docs/LANGUAGE.md', f'{DOC}/examples/hanoi.trac',
+                              'share/zsh/site-functions/_trac'}, there)
+        for program in ('trac', 'trac_trace', 'trac_terminal'):
+            for name in (f'bash-completion/completions/{program}', f'fish/vendor_completions.d/{program}.fish'):
+                self.assertTrue(os.path.isfile(os.path.join(self.there, 'share', name)), name)
+        solved = subprocess.run(['sh', os.path.join(self.there, DOC, 'examples/exercises/check'), '1',
+                                 os.path.join(TOP, 'examples/exercises/01-hello.trac')], capture_output=True, text=True,
+                                env={'PATH': os.path.join(self.there, 'bin') + ':' + PATH}, check=True)
+        self.assertEqual(solved.stdout, 'right\n')
         for page in glob.glob(os.path.join(self.there, 'share/man/man1/*.1')):
             self.assertIn('bin/' + os.path.basename(page)[:-2], there)
 
