@@ -123,7 +123,7 @@ class Lines(unittest.TestCase):
 
     def test_words_that_are_taken(self):
         looping = b"#(ds,L,(#(cl,L)))#(cl,L)'"
-        self.assertIn('allowance used up: 1000 steps, peak 36 cells', trace(looping)[0])
+        self.assertIn('allowance used up: 1000000 steps, peak 36 cells', trace(looping, '--last', '1')[0])
         for words in ['--steps=1000000000000', '--cells=16777216', '--from 3 --to=9 --last 7']:
             self.assertEqual(trace(b'', *words.split())[1], 0)
 
@@ -263,9 +263,10 @@ class Views(unittest.TestCase):
             with self.subTest(row=row):
                 lines, status = trace_bytes(row.script, '--warn', '--cells', str(row.cells),
                                             '--steps', str(row.allowed))
-                self.assertEqual(status, row.status)
+                said = len(lines.splitlines())
                 end = b': %d steps, peak %d cells\n' % (row.steps, row.peak)
-                self.assertEqual(lines.endswith(end), status != 0)
+                self.assertEqual(lines.endswith(end), row.status != 0)
+                self.assertEqual(status, row.status or (7 if said else 0))
 
     def test_the_last_steps_cost_little(self):
         script, words = b"#(ds,f,(#(cl,f)))#(cl,f)'", ['--steps', '100000']
