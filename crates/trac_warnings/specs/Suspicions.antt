@@ -17,7 +17,7 @@ use Rattle.trac_warnings.specs.declared.warning.Suspicion.TheVariants.{NoNumberS
 use Rattle.trac_warnings.specs.declared.warning.Suspicion.TheVariants.{LeftOut, NoForm, Ignored}
 use Rattle.trac_warnings.specs.declared.warning.Suspicion.TheVariants.{NoResult, NothingLeft, HaltInside}
 use Rattle.trac_warnings.specs.declared.warning.Suspicion.TheVariants.{ReadsAlways, GapInName, NoCall}
-use Rattle.trac_warnings.specs.declared.warning.Suspicion.TheVariants.{OpenCall, Protection, EndInside}
+use Rattle.trac_warnings.specs.declared.warning.Suspicion.TheVariants.{OpenCall, Protection, Dropped, EndInside}
 use Rattle.trac_warnings.specs.declared.warning.Suspicion.TheVariants.{OpenString}
 
 -- what is said of it, before the name, the text or the number
@@ -44,7 +44,8 @@ sentence_of ReadsAlways = codes "what isn't protected always reads, here in a de
 sentence_of GapInName = codes "a text of ss also stands in the name of a call: "
 sentence_of NoCall = codes "a right parenthesis ends no call of its string"
 sentence_of OpenCall = codes "a call is still open where its string ends"
-sentence_of Protection = codes "a left parenthesis has no match; characters dropped: "
+sentence_of Protection = codes "a left parenthesis has no match in its string"
+sentence_of Dropped = codes "a left parenthesis has no match; characters dropped: "
 sentence_of EndInside = codes "the meta character ends the string inside parentheses"
 sentence_of OpenString = codes "no meta character ends the string"
 

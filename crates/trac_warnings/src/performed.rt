@@ -180,6 +180,11 @@ fn is_compared(arguments: &[Cell]) -> bool {
     }
 }
 
+// Whether a call of a form is around, which may look at what it is given.
+fn is_passed(arguments: &[Cell]) -> bool {
+    matches!(function_named(argument(arguments, 0)), Some(Function::CallForm))
+}
+
 // Looks at the form whose body a call takes apart or segments.
 #[tactic(auto, using(crate::proofs::Keeping::kept_same, crate::proofs::Keeping::kept_more, crate::proofs::Keeping::kept_pushed))]
 fn look_at_body(
@@ -200,6 +205,7 @@ fn look_at_body(
             if form.pointer() < form.body_len()
                 || has_default(function, ending.arguments)
                 || is_compared(ending.around)
+                || is_passed(ending.around)
             {
                 return Ok(());
             }

@@ -45,8 +45,10 @@ pub enum Suspicion {
     NoCall,
     /// A call that is still open where its string ended.
     OpenCall,
-    /// A left parenthesis that has no match, so that all behind it is dropped.
+    /// A left parenthesis that has no match in its string: a later one is taken for it.
     Protection,
+    /// A left parenthesis that has no match at all, so that all behind it is dropped.
+    Dropped,
     /// The meta character that ends a string inside parentheses: one that belongs to a text, or a
     /// parenthesis is missing before it.
     EndInside,
@@ -101,7 +103,8 @@ impl Suspicion {
             Suspicion::GapInName => b"a text of ss also stands in the name of a call: ",
             Suspicion::NoCall => b"a right parenthesis ends no call of its string",
             Suspicion::OpenCall => b"a call is still open where its string ends",
-            Suspicion::Protection => b"a left parenthesis has no match; characters dropped: ",
+            Suspicion::Protection => b"a left parenthesis has no match in its string",
+            Suspicion::Dropped => b"a left parenthesis has no match; characters dropped: ",
             Suspicion::EndInside => b"the meta character ends the string inside parentheses",
             Suspicion::OpenString => b"no meta character ends the string",
         }

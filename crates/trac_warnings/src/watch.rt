@@ -139,22 +139,19 @@ impl Watch {
         ensures runs { self.new.runs.items ≡ self.old.runs.items }
         ensures read { self.new.read ≡ self.old.read }
     {
+        let here = self.origin();
+        if self.is_stray(before.active) {
+            warn(&mut self.warnings, self.alloc, Suspicion::NoCall, here, &[])?;
+        }
         let neutral = machine.neutral();
         let Some(arguments) = arguments_at_end(neutral) else {
             return Ok(());
         };
-        let outer = neutral
-            .len()
-            .saturating_sub(arguments.len())
-            .saturating_sub(1);
+        let outer = neutral.len().saturating_sub(arguments.len()).saturating_sub(1);
         let around = arguments_at_end(&neutral[..outer]).unwrap_or(&[]);
-        let here = self.origin();
         let begin = self.calls.last().copied().unwrap_or(here);
         self.arguments.extend_from_slice(arguments)?;
         self.value = self.origin_of_form(machine, begin)?;
-        if self.is_stray(before.active) {
-            warn(&mut self.warnings, self.alloc, Suspicion::NoCall, here, &[])?;
-        }
         let is_inside = self.is_inside(begin);
         let ending = Ending {
             arguments,
@@ -185,11 +182,12 @@ impl Watch {
             self.warnings.clear();
             return Ok(());
         }
+        let here = self.origin();
         let value = self.value_origin(before, machine);
         self.tell_rule(before, machine)?;
         self.move_on(before, machine, value)?;
         self.tell_read(before, machine, input)?;
-        self.tell_ends(before, machine.active().len())
+        self.tell_ends(before, machine.active().len(), here)
     }
 
     // Tells what a step did by its rule.
@@ -351,7 +349,7 @@ impl Watch {
         };
         self.warnings.push(Warning {
             origin,
-            suspicion: Suspicion::Protection,
+            suspicion: Suspicion::Dropped,
             count: before.active.saturating_sub(rest),
             text: Vec::new(self.alloc),
         })?;
@@ -490,8 +488,9 @@ impl Watch {
         Ok(())
     }
 
-    // Looks at the strings that ended with a step that left so many cells in the active string.
-    fn tell_ends(&mut self, before: &Before, active: usize) -> Result<(), AllocError>
+    // Looks at the strings that ended with a step that left so many cells in the active string, and
+    // whose first character was written here.
+    fn tell_ends(&mut self, before: &Before, active: usize, here: Origin) -> Result<(), AllocError>
         ensures runs { self.new.runs.items ≡ self.old.runs.items }
         ensures read { self.new.read ≡ self.old.read }
         ensures calls { self.new.calls.items ≡ self.old.calls.items }
@@ -506,7 +505,9 @@ impl Watch {
             self.strings.pop();
             let is_unmatched = active < string.rest
                 && matches!(before.rule, ScanningRule::Protection);
-            if !is_unmatched {
+            if is_unmatched {
+                warn(&mut self.warnings, self.alloc, Suspicion::Protection, here, &[])?;
+            } else {
                 self.tell_open_calls(string.depth)?;
             }
             if string.is_ended && (is_unmatched || self.calls.len() > string.depth) {
