@@ -1,5 +1,6 @@
 //! A run that is watched, step by step.
-ghost use Rattle.std.specs.Prelude.{◌∷◌, true, ◌≡◌, ◌≢◌, ◌++◌, [], IfOk, OnOk, false, length, reverse, option_to_list};
+ghost use Rattle.std.specs.Prelude.{◌≡◌, ◌≢◌, ◌<◌, ◌↔◌, ◌++◌, ◌∷◌, [], IfOk, OnOk, IsSome, true, false};
+ghost use Rattle.std.specs.Prelude.{length, reverse, option_to_list};
 ghost use Rattle.trac_events.specs.Calls.{IsSeen, reads};
 ghost use Rattle.trac_warnings.specs.Origins.{first_origin, in_input, moved, origin_at};
 ghost use Rattle.trac_warnings.specs.Watched.{IsFresh, Moves, Reads, ReadsText, Stays, begins_call};
@@ -99,7 +100,8 @@ impl Watch {
 
     /// Takes the last of those warnings away. None where none is left.
     pub fn take_warning(&mut self) -> Option<Warning>
-        ensures { self.old.warnings.items ≡ self.new.warnings.items ++ option_to_list result }
+        ensures left { self.old.warnings.items ≡ self.new.warnings.items ++ option_to_list result }
+        ensures some { IsSome result ↔ (0 < length self.old.warnings.items) }
     {
         self.warnings.pop()
     }

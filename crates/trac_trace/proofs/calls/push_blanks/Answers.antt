@@ -1,5 +1,5 @@
 use Rattle.trac_trace.proofs.ShownTexts.{indent_step}
-use Rattle.trac_trace.proofs.calls.push_indent.Goals as goal
+use Rattle.trac_trace.proofs.calls.push_blanks.Goals as goal
 
 pub loop-around-preserved : goal.loop-around-preserved
 loop-around-preserved c =
