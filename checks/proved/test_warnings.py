@@ -78,9 +78,10 @@ KINDS = [
     (b"#(ds,A,(#(ps,x)))#(ds,B,((y))##(cl,A))'", []),
     (b"#(ds,B,#(ps,(((x)))'",
      ['line 1, column 1: a call is still open where its string ends',
+      'line 1, column 8: a call is still open where its string ends',
       'line 1, column 20: the meta character ends the string inside parentheses']),
     (b"#(ds,B,#(ps,((((x))'",
-     ['line 1, column 13: a left parenthesis has no match; characters dropped: 8',
+     ['line 1, column 13: a left parenthesis has no match; characters dropped: 7',
       'line 1, column 20: the meta character ends the string inside parentheses']),
     # how it is written
     (b":(ps,x)'", ['line 1, column 1: :( begins no call; write #( or ##(',

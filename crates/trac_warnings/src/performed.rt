@@ -182,7 +182,10 @@ fn is_compared(arguments: &[Cell]) -> bool {
 
 // Whether a call of a form is around, which may look at what it is given.
 fn is_passed(arguments: &[Cell]) -> bool {
-    matches!(function_named(argument(arguments, 0)), Some(Function::CallForm))
+    matches!(
+        function_named(argument(arguments, 0)),
+        Some(Function::CallForm)
+    )
 }
 
 // Looks at the form whose body a call takes apart or segments.

@@ -3,7 +3,7 @@ ghost use Rattle.std.specs.Prelude.{◌≡◌, ◌≢◌, ◌<◌, ◌↔◌, �
 ghost use Rattle.std.specs.Prelude.{length, reverse, option_to_list};
 ghost use Rattle.trac_events.specs.Calls.{IsSeen, reads};
 ghost use Rattle.trac_warnings.specs.Origins.{first_origin, in_input, moved, origin_at};
-ghost use Rattle.trac_warnings.specs.Watched.{IsFresh, Moves, Reads, ReadsText, Stays, begins_call};
+ghost use Rattle.trac_warnings.specs.Watched.{IsFresh, Kept, Moves, Reads, ReadsText, Stays, begins_call};
 
 use crate::arguments::{default_place, takes_branches};
 use crate::origin::Origin;
@@ -138,6 +138,7 @@ impl Watch {
         machine: &Machine,
         input: &[u8],
     ) -> Result<(), AllocError>
+        ensures kept { Kept self.old.warnings.items self.new.warnings.items }
         ensures runs { self.new.runs.items ≡ self.old.runs.items }
         ensures read { self.new.read ≡ self.old.read }
     {
@@ -149,7 +150,10 @@ impl Watch {
         let Some(arguments) = arguments_at_end(neutral) else {
             return Ok(());
         };
-        let outer = neutral.len().saturating_sub(arguments.len()).saturating_sub(1);
+        let outer = neutral
+            .len()
+            .saturating_sub(arguments.len())
+            .saturating_sub(1);
         let around = arguments_at_end(&neutral[..outer]).unwrap_or(&[]);
         let begin = self.calls.last().copied().unwrap_or(here);
         self.arguments.extend_from_slice(arguments)?;
@@ -175,6 +179,8 @@ impl Watch {
         input: &[u8],
     ) -> Result<(), AllocError>
         ensures undone { machine.now.steps ≡ before.now.done → Stays self.old self.new }
+        ensures kept { machine.now.steps ≢ before.now.done →
+            Kept self.old.warnings.items self.new.warnings.items }
         ensures moved { machine.now.steps ≢ before.now.done →
             OnOk result (Moves before.now machine.now self.old self.new) }
         ensures read { machine.now.steps ≢ before.now.done → OnOk result (Reads before.now machine.now
@@ -194,6 +200,7 @@ impl Watch {
 
     // Tells what a step did by its rule.
     fn tell_rule(&mut self, before: &Before, machine: &Machine) -> Result<(), AllocError>
+        ensures kept { Kept self.old.warnings.items self.new.warnings.items }
         ensures runs { self.new.runs.items ≡ self.old.runs.items }
         ensures read { self.new.read ≡ self.old.read }
         ensures calls { begins_call before.now.rule ≡ true → OnOk result (self.new.calls.items ≡
@@ -219,6 +226,7 @@ impl Watch {
         machine: &Machine,
         input: &[u8],
     ) -> Result<(), AllocError>
+        ensures kept { Kept self.old.warnings.items self.new.warnings.items }
         ensures runs { self.new.runs.items ≡ self.old.runs.items }
         ensures calls { self.new.calls.items ≡ self.old.calls.items }
         ensures read { OnOk result (Reads before.now machine.now input.now self.old.read self.new.read) }
@@ -244,6 +252,7 @@ impl Watch {
 
     // Forgets what belongs to strings that are over.
     fn begin_again(&mut self)
+        ensures warnings { self.new.warnings.items ≡ self.old.warnings.items }
         ensures runs { self.new.runs.items ≡ self.old.runs.items }
         ensures read { self.new.read ≡ self.old.read }
         ensures calls { self.new.calls.items ≡ [] }
@@ -333,6 +342,7 @@ impl Watch {
         machine: &Machine,
         origin: Origin,
     ) -> Result<(), AllocError>
+        ensures kept { Kept self.old.warnings.items self.new.warnings.items }
         ensures runs { self.new.runs.items ≡ self.old.runs.items }
         ensures read { self.new.read ≡ self.old.read }
     {
@@ -360,6 +370,7 @@ impl Watch {
 
     // Looks at a call that was performed.
     fn tell_call(&mut self, before: &Before, machine: &Machine) -> Result<(), AllocError>
+        ensures kept { Kept self.old.warnings.items self.new.warnings.items }
         ensures runs { self.new.runs.items ≡ self.old.runs.items }
         ensures read { self.new.read ≡ self.old.read }
     {
@@ -401,6 +412,7 @@ impl Watch {
 
     // Keeps where the body of the form was written that was defined.
     fn define(&mut self) -> Result<(), AllocError>
+        ensures warnings { self.new.warnings.items ≡ self.old.warnings.items }
         ensures runs { self.new.runs.items ≡ self.old.runs.items }
         ensures read { self.new.read ≡ self.old.read }
         ensures calls { self.new.calls.items ≡ self.old.calls.items }
@@ -428,6 +440,7 @@ impl Watch {
         machine: &Machine,
         value: Origin,
     ) -> Result<(), AllocError>
+        ensures warnings { self.new.warnings.items ≡ self.old.warnings.items }
         ensures runs { OnOk result (reverse self.new.runs.items ≡ moved before.now.rule
             before.now.active (length machine.now.memory.active) value
             (reverse self.old.runs.items)) }
@@ -455,6 +468,7 @@ impl Watch {
         machine: &Machine,
         input: &[u8],
     ) -> Result<(), AllocError>
+        ensures kept { Kept self.old.warnings.items self.new.warnings.items }
         ensures runs { self.new.runs.items ≡ self.old.runs.items }
         ensures calls { self.new.calls.items ≡ self.old.calls.items }
         ensures read { OnOk result (ReadsText before.now machine.now input.now self.old.read
@@ -493,6 +507,7 @@ impl Watch {
     // Looks at the strings that ended with a step that left so many cells in the active string, and
     // whose first character was written here.
     fn tell_ends(&mut self, before: &Before, active: usize, here: Origin) -> Result<(), AllocError>
+        ensures kept { Kept self.old.warnings.items self.new.warnings.items }
         ensures runs { self.new.runs.items ≡ self.old.runs.items }
         ensures read { self.new.read ≡ self.old.read }
         ensures calls { self.new.calls.items ≡ self.old.calls.items }
@@ -507,9 +522,15 @@ impl Watch {
             self.strings.pop();
             let is_unmatched = active < string.rest
                 && matches!(before.rule, ScanningRule::Protection);
-            if is_unmatched {
-                warn(&mut self.warnings, self.alloc, Suspicion::Protection, here, &[])?;
-            } else {
+            if is_unmatched && !self.is_dropped() {
+                warn(
+                    &mut self.warnings,
+                    self.alloc,
+                    Suspicion::Protection,
+                    here,
+                    &[],
+                )?;
+            } else if !is_unmatched {
                 self.tell_open_calls(string.depth)?;
             }
             if string.is_ended && (is_unmatched || self.calls.len() > string.depth) {
@@ -526,8 +547,17 @@ impl Watch {
         Ok(())
     }
 
+    // Whether the last warning tells that all was dropped.
+    fn is_dropped(&self) -> bool {
+        match self.warnings.as_slice() {
+            [.., warning] => warning.suspicion == Suspicion::Dropped,
+            [] => false,
+        }
+    }
+
     // Tells the calls that are open beyond so many.
     fn tell_open_calls(&mut self, depth: usize) -> Result<(), AllocError>
+        ensures kept { Kept self.old.warnings.items self.new.warnings.items }
         ensures runs { self.new.runs.items ≡ self.old.runs.items }
         ensures read { self.new.read ≡ self.old.read }
         ensures calls { self.new.calls.items ≡ self.old.calls.items }
