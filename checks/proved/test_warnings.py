@@ -2,6 +2,7 @@
 stands there; and a small script for each kind."""
 import glob
 import os
+import resource
 import subprocess
 import tempfile
 import unittest
@@ -157,6 +158,13 @@ class Warnings(unittest.TestCase):
             script = b''.join(b'#(z%d)' % n for n in range(count)) + b"'"
             costs.append(instructions([TRACER, *WORDS], script))
         self.assertLess(costs[1], 2.6 * costs[0])
+
+    def test_want_of_memory(self):
+        script = b'a' * 40_000_000
+        done = subprocess.run(
+            [TRACER, '--warn', '--cells', '100'], input=script, capture_output=True, text=False,
+            preexec_fn=lambda: resource.setrlimit(resource.RLIMIT_AS, (30_000_000, 30_000_000)))
+        self.assertEqual((done.stdout, done.stderr, done.returncode), (b'', b'trac_trace: no memory\n', 6))
 
     def test_files(self):
         with tempfile.TemporaryDirectory() as folder:
