@@ -26,7 +26,7 @@ class Traces(unittest.TestCase):
             script, behind = text.split('```\n', 1)
             with self.subTest(script=script):
                 wanted = ''.join(WARNINGS.findall(behind)).splitlines()
-                self.assertEqual(trace(script[:-1].encode(), '--warn'), (wanted, 0))
+                self.assertEqual(trace(script[:-1].encode(), '--warn'), (wanted, 7 if wanted else 0))
 
     def test_names_of_rules(self):
         head = '| The active string begins with | Name | What happens |\n|---|---|---|\n'

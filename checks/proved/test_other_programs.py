@@ -1,11 +1,12 @@
 """What trac_trace and trac_terminal have in common with trac: their help, where it can't be written,
 and calls of the system that are interrupted."""
+import os
 import subprocess
 import unittest
 
 from test_interruptions import HELLO, interrupt, shown_though_interrupted
 from test_program import are_not_written
-from trac import TERMINAL, TRACER
+from trac import TERMINAL, TOP, TRACER
 
 
 class Words(unittest.TestCase):
@@ -17,6 +18,12 @@ class Words(unittest.TestCase):
                 self.assertIn(f'\nUsage: {usage}\n', told.stdout.decode())
         done = subprocess.run([TRACER, 'file.trac'], input=b'', capture_output=True)
         self.assertIn('\nUsage: trac_trace [OPTIONS] < SCRIPT\n', done.stderr.decode())
+
+    def test_the_version(self):
+        with open(os.path.join(TOP, 'VERSION'), encoding='utf-8') as file:
+            version = file.read().strip()
+        done = subprocess.run([TRACER, '--version'], capture_output=True, text=True)
+        self.assertEqual((done.stdout, done.stderr, done.returncode), (f'trac_trace {version}\n', '', 0))
 
     def test_texts_that_are_not_written(self):
         are_not_written(self, TRACER)

@@ -123,7 +123,7 @@ class Lines(unittest.TestCase):
 
     def test_words_that_are_taken(self):
         looping = b"#(ds,L,(#(cl,L)))#(cl,L)'"
-        self.assertIn('allowance used up: 1000 steps, peak 36 cells', trace(looping)[0])
+        self.assertIn('allowance used up: 1000000 steps, peak 36 cells', trace(looping, '--last', '1')[0])
         for words in ['--steps=1000000000000', '--cells=16777216', '--from 3 --to=9 --last 7']:
             self.assertEqual(trace(b'', *words.split())[1], 0)
 
@@ -215,6 +215,25 @@ class Views(unittest.TestCase):
         lines, _ = trace(b"#(ps,0123456789)'", '--calls', '--width', '0')
         self.assertIn('#(ps<,>0123456789) prints 0123456789', [line[10:] for line in lines])
 
+    def test_strings_of_steps_that_are_cut(self):
+        lines, _ = trace(b"#(ps,0123456789)'", '--width', '8')
+        self.assertEqual(rows(lines)[0][4:], ('', '#(ps .. rs))'))
+        self.assertIn(('<#>ps<,> .. 6789', '))'), [row[4:] for row in rows(lines)])
+        whole, _ = trace(b"#(ps,0123456789)'", '--width', '0')
+        self.assertIn(('<#>ps<,><#>ps<,>0123456789', '))'), [row[4:] for row in rows(whole)])
+        # so much of a string is shown, however long it grows
+        grows = b"#(ds,L,(x#(cl,L)x))#(cl,L)'"
+        lines, status = trace(grows, '--steps', '20000', '--cells', '1000000')
+        self.assertEqual(status, 3)
+        self.assertLess(max(map(len, lines)), 800)
+
+    def test_calls_in_many_others(self):
+        lines, _ = trace(b'#(b,' * 25 + b'x' + b')' * 25 + b"'", '--calls')
+        shown = [line[6:] for line in lines if '[no function]' in line]
+        self.assertEqual(shown[0], ' ' * 42 + '25 #(b<,>x) [no function]')
+        self.assertEqual(shown[5], ' ' * 42 + '#(b<,>) [no function]')
+        self.assertEqual(shown[-1], ' ' * 4 + '#(b<,>) [no function]')
+
     def test_bytes_that_are_escaped_and_cut(self):
         # characters are shown whole, and bytes that are none, or don't show, as escapes
         for text, width, wanted in [
@@ -222,6 +241,9 @@ class Views(unittest.TestCase):
                 ('\u00e4\u00e4\u00e4'.encode(), 3, '\u00e4 .. '),
                 ('\u00e4\u00e4\u00e4'.encode(), 5, '\u00e4 .. \u00e4'),
                 ('\u00e4\n\u20ac\U0001f600'.encode(), 0, '\u00e4\\n\u20ac\U0001f600'),
+                ('\u202eab\u2066\u061c'.encode(), 0,
+                 '\\xe2\\x80\\xaeab\\xe2\\x81\\xa6\\xd8\\x9c'),
+                ('\u2030\u2065\u061d'.encode(), 0, '\u2030\u2065\u061d'),
                 (b'\xc3\xc2\x85\x80\xed\xa0\x80', 0,
                  '\\xc3\\xc2\\x85\\x80\\xed\\xa0\\x80')]:
             with self.subTest(text=text, width=width):
@@ -263,9 +285,10 @@ class Views(unittest.TestCase):
             with self.subTest(row=row):
                 lines, status = trace_bytes(row.script, '--warn', '--cells', str(row.cells),
                                             '--steps', str(row.allowed))
-                self.assertEqual(status, row.status)
+                said = len(lines.splitlines())
                 end = b': %d steps, peak %d cells\n' % (row.steps, row.peak)
-                self.assertEqual(lines.endswith(end), status != 0)
+                self.assertEqual(lines.endswith(end), row.status != 0)
+                self.assertEqual(status, row.status or (7 if said else 0))
 
     def test_the_last_steps_cost_little(self):
         script, words = b"#(ds,f,(#(cl,f)))#(cl,f)'", ['--steps', '100000']

@@ -41,9 +41,9 @@ pub cells_rule : IsPlaced 0 (codes "cells") (codes "65536") (number_option (code
 unfolding clap_on_literals views_command numbers_command cells_option steps_option from_option to_option last_option width_option calls_flag forms_flag warn_flag
 cells_rule = record { at = refl; own = refl; has_default = record { rule = with_index 1 (filled cells_option); at = refl; id = refl; only = refl; default = refl; as_read = refl } }
 
-pub steps_rule : IsPlaced 1 (codes "steps") (codes "1000") (number_option (codes "steps") (parser.Unsigned 1 1000000000000) (codes "1000"))
+pub steps_rule : IsPlaced 1 (codes "steps") (codes "1000000") (number_option (codes "steps") (parser.Unsigned 1 1000000000000) (codes "1000000"))
 unfolding clap_on_literals views_command numbers_command cells_option steps_option from_option to_option last_option width_option calls_flag forms_flag warn_flag
-steps_rule = record { at = refl; own = refl; has_default = record { rule = with_index 1 (filled (steps_option (codes "1000"))); at = refl; id = refl; only = refl; default = refl; as_read = refl } }
+steps_rule = record { at = refl; own = refl; has_default = record { rule = with_index 1 (filled (steps_option (codes "1000000"))); at = refl; id = refl; only = refl; default = refl; as_read = refl } }
 
 pub from_rule : IsPlaced 2 (codes "from") (codes "1") (number_option (codes "from") (parser.Unsigned 1 1000000000000) (codes "1"))
 unfolding clap_on_literals views_command numbers_command cells_option steps_option from_option to_option last_option width_option calls_flag forms_flag warn_flag

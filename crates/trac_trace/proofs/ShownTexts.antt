@@ -5,7 +5,7 @@ use Rattle.std.specs.Str.{IsUtf8, is_utf8}
 use Rattle.std.proofs.lemmas.Bool.{le-leb, lt-leb}
 use Rattle.std.proofs.lemmas.Str.{IsUtf8-from_is_utf8, is_utf8-from_IsUtf8}
 use Rattle.trac_trace.specs.Shown.{is_whole}
-use Rattle.trac_trace.specs.Told.{indent_text}
+use Rattle.trac_trace.specs.Told.{blanks_text}
 
 -- fewer bytes are not so many bytes of UTF-8
 pub whole_no : (n : ℕ) (bytes : List ℕ) → length bytes < n → false ≡ is_whole n bytes
@@ -28,9 +28,9 @@ utf8_test P Q (Err e) bytes said = go (is_utf8 bytes) refl
     go false is = sym is
 
 -- the blanks of one call more
-pub indent_step : (old now new : List ℕ) (depth k : ℕ) → k < depth → now ++ indent_text (depth - k) ≡ old ++ indent_text depth
-    → new ≡ now ++ codes "  " → new ++ indent_text (depth - (k + 1)) ≡ old ++ indent_text depth
+pub indent_step : (old now new : List ℕ) (depth k : ℕ) → k < depth → now ++ blanks_text (depth - k) ≡ old ++ blanks_text depth
+    → new ≡ now ++ codes "  " → new ++ blanks_text (depth - (k + 1)) ≡ old ++ blanks_text depth
 indent_step old now new depth k low so_far is =
     let split : depth - k ≡ suc (depth - (k + 1)) = omega (arith, low) in
-    ap (λ t. t ++ indent_text (depth - (k + 1))) is ∙ append_assoc now (codes "  ") (indent_text (depth - (k + 1)))
-    ∙ sym (ap (λ n. now ++ indent_text n) split) ∙ so_far
+    ap (λ t. t ++ blanks_text (depth - (k + 1))) is ∙ append_assoc now (codes "  ") (blanks_text (depth - (k + 1)))
+    ∙ sym (ap (λ n. now ++ blanks_text n) split) ∙ so_far

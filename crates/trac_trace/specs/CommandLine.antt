@@ -1,5 +1,6 @@
 -- The command line of the program, and the views that its matches give.
-use Rattle.std.specs.Prelude.{◌≡◌, List, false, pos, Some, codes}
+use Rattle.std.specs.Prelude.{◌≡◌, ◌&&◌, ℕ, suc, Bool, not, List, [], ◌∷◌, false, pos, Some, codes, length}
+use Rattle.std.specs.Prelude.{bytes_eq, nat_lt, if◌then◌else◌}
 use Rattle.clap.specs.Words.{App, Row, Rule, Text, new_rule, with_rule}
 use Rattle.clap.specs.declared.builder.action.ArgAction.TheVariants.{SetTrue}
 use Rattle.clap.specs.declared.builder.value_parser.ValueParser.TheVariants as parser
@@ -37,11 +38,11 @@ unfoldable pub warn_flag : Rule
 warn_flag = flag_of (codes "warn")
 
 -- `NAME [--cells N] [--steps N] [--from N] [--to N] [--last N] [--width N] [--calls] [--forms]
--- [--warn]`, with 1000 steps where the words don't say
+-- [--warn]`, with 1000000 steps where the words don't say
 unfoldable pub views_command : Text → App
 views_command name =
     with_rule (with_rule (with_rule (with_rule (with_rule (with_rule (with_rule
-    (numbers_command name (codes "1000")) from_option) to_option) last_option)
+    (numbers_command name (codes "1000000")) from_option) to_option) last_option)
     width_option) calls_flag) forms_flag) warn_flag
 
 -- the same, of the name `trac_trace`
@@ -68,3 +69,22 @@ HasDefaultViews words v =
     × (gives trace_command words (codes "calls") ≡ false → v.calls ≡ false)
     × (gives trace_command words (codes "forms") ≡ false → v.forms ≡ false)
     × (gives trace_command words (codes "warn") ≡ false → v.warn ≡ false)
+
+-- `--version` stands alone behind the program's name
+abbrev pub is_version : List Text → Bool
+is_version (name ∷ word ∷ []) = bytes_eq word (codes "--version")
+is_version _ = false
+
+-- how many words stand before the first `--check`
+abbrev pub place_of_check : List Text → ℕ
+place_of_check [] = 0
+place_of_check (word ∷ words) =
+    if bytes_eq word (codes "--check") then 0 else suc (place_of_check words)
+
+-- how many words are options
+abbrev pub options_len : List Text → ℕ
+options_len words = if is_version words then 1 else place_of_check words
+
+-- `--check` stands among the words
+abbrev pub has_check : List Text → Bool
+has_check words = nat_lt (options_len words) (length words) && not (is_version words)

@@ -28,23 +28,24 @@ is_told views done =
 abbrev pub IsNeutral : MachineState → List Cell → Type 0
 IsNeutral m neutral = neutral_of neutral ≡ neutral_in m.memory
 
--- the line of a step that was seen before, and its need, of the machine after it
-abbrev pub TellsDone : Before → ℕ → MachineState → (old new : List ℕ) → Type 0
-TellsDone before need m old new =
+-- the line of a step that was seen before, and its need, of the machine after it, cut to a width
+abbrev pub TellsDone : ℕ → Before → ℕ → MachineState → (old new : List ℕ) → Type 0
+TellsDone width before need m old new =
     (neutral : List Cell) × ((active : List Cell) × (IsNeutral m neutral
     × ((text_of_cells active ≡ m.memory.active)
-    × (new ≡ old ++ step_text m.steps before.rule before.size need neutral active))))
+    × (new ≡ old ++ step_text width m.steps before.rule before.size need neutral active))))
 
 -- that line, where the step was done, and the line of what it printed, where it printed
-abbrev pub TellsPrinted : Bool → Before → ℕ → List ℕ → MachineState → (old new : List ℕ) → Type 0
-TellsPrinted true before need printed m old new =
-    (line : List ℕ) × (TellsDone before need m old line × (new ≡ line ++ output_text printed))
-TellsPrinted false before need printed m old new = new ≡ old ++ output_text printed
+abbrev pub TellsPrinted : Bool → ℕ → Before → ℕ → List ℕ → MachineState → (old new : List ℕ)
+    → Type 0
+TellsPrinted true width before need printed m old new =
+    (line : List ℕ) × (TellsDone width before need m old line × (new ≡ line ++ output_text printed))
+TellsPrinted false width before need printed m old new = new ≡ old ++ output_text printed
 
 -- the same, of a step that was done where more steps are done now
-abbrev pub TellsStep : Before → ℕ → List ℕ → MachineState → (old new : List ℕ) → Type 0
-TellsStep before need printed m old new =
-    TellsPrinted (nat_lt before.done m.steps) before need printed m old new
+abbrev pub TellsStep : ℕ → Before → ℕ → List ℕ → MachineState → (old new : List ℕ) → Type 0
+TellsStep width before need printed m old new =
+    TellsPrinted (nat_lt before.done m.steps) width before need printed m old new
 
 -- the cells that each part of a machine's block holds, whose neutral string has so many
 abbrev pub parts_of : MachineState → ℕ → Parts

@@ -1,7 +1,7 @@
 -- The lines of a trace.
 use Rattle.std.specs.Prelude.{◌++◌, ◌==◌, ◌/◌, ◌%◌, ◌||◌, ℕ, Bool, true, false, List, []}
 use Rattle.std.specs.Prelude.{◌∷◌, codes, decimal}
-use Rattle.std.specs.Prelude.{drop, length, min, nat_lt, get_or, if◌then◌else◌}
+use Rattle.std.specs.Prelude.{drop, take, length, min, nat_le, nat_lt, get_or, if◌then◌else◌, ◌-◌}
 use Rattle.trac_language.specs.declared.mode.Mode.TheVariants.{Active, Neutral}
 use Rattle.trac_language.specs.declared.fate.Fate.{Fate}
 use Rattle.trac_language.specs.declared.fate.Fate.TheVariants.{Halted, InputEnded, Workspace, Steps}
@@ -72,12 +72,23 @@ head_text false true = codes "  step  form\n"
 head_text false false =
     codes "  step  rule           size  need  neutral string|active string\n"
 
--- the line of a step
-abbrev pub step_text : ℕ → ScanningRule → ℕ → ℕ → List Cell → List Cell → List ℕ
-step_text number rule size need neutral active =
+-- so many cells need no cut to a width
+abbrev pub is_short : ℕ → ℕ → Bool
+is_short width len = (width == 0) || nat_le len width
+
+-- a string of a step that is cut to a width, in cells
+abbrev pub string_text : ℕ → List Cell → List ℕ
+string_text width cells =
+    if is_short width (length cells) then cells_text cells
+    else (cells_text (take (width - width / 2) cells) ++ codes " .. "
+    ++ cells_text (drop (length cells - width / 2) cells))
+
+-- the line of a step, whose strings are cut to a width
+abbrev pub step_text : ℕ → ℕ → ScanningRule → ℕ → ℕ → List Cell → List Cell → List ℕ
+step_text width number rule size need neutral active =
     column_text number ++ codes "  " ++ name_text rule
     ++ column_text size ++ column_text need ++ codes "  "
-    ++ cells_text neutral ++ codes "|" ++ cells_text active ++ codes "\n"
+    ++ string_text width neutral ++ codes "|" ++ string_text width active ++ codes "\n"
 
 -- the line of what a step printed
 abbrev pub printed_text : List ℕ → List ℕ

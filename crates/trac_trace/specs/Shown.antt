@@ -1,5 +1,5 @@
 -- Texts as the views show them.
-use Rattle.std.specs.Prelude.{ℕ, ◌-◌, ◌/◌, ◌==◌, ◌&&◌, ◌||◌, Bool, false, not, List, [], ◌∷◌, ◌++◌}
+use Rattle.std.specs.Prelude.{ℕ, ◌-◌, ◌/◌, ◌==◌, ◌&&◌, ◌||◌, Bool, true, false, not, List, [], ◌∷◌, ◌++◌}
 use Rattle.std.specs.Prelude.{◌+◌, get_or, length, take, drop, nat_le, nat_lt, codes, if◌then◌else◌}
 use Rattle.std.specs.Str.{is_utf8}
 use Rattle.trac_language.specs.declared.mode.Mode.{Mode}
@@ -12,11 +12,23 @@ use Rattle.trac_trace.specs.Lines.{byte_text}
 unfoldable pub is_whole : ℕ → List ℕ → Bool
 is_whole n bytes = nat_le n (length bytes) && is_utf8 (take n bytes)
 
+-- a control of the direction of writing stands first
+abbrev pub turns_direction : List ℕ → Bool
+turns_direction [] = false
+turns_direction (a ∷ []) = false
+turns_direction (a ∷ b ∷ []) = (a == 216) && (b == 156)
+turns_direction (a ∷ b ∷ c ∷ bytes) =
+    ((a == 216) && (b == 156))
+    || ((a == 226) && (b == 128)
+    && ((c == 142) || (c == 143) || (nat_le 170 c && nat_le c 174)))
+    || ((a == 226) && (b == 129) && nat_le 166 c && nat_le c 169)
+
 -- a character beyond ASCII that is no control character can begin so
 abbrev pub begins_character : List ℕ → Bool
 begins_character [] = false
 begins_character (a ∷ []) = nat_le 128 a
-begins_character (a ∷ b ∷ bytes) = nat_le 128 a && not (a == 194 && nat_lt b 160)
+begins_character (a ∷ b ∷ bytes) =
+    nat_le 128 a && not (a == 194 && nat_lt b 160) && not (turns_direction (a ∷ b ∷ bytes))
 
 -- how many bytes the character has that stands first, where that is a whole character of UTF-8
 -- beyond ASCII and no control character, and 0 otherwise

@@ -1,7 +1,7 @@
 -- The lines of calls, of forms and of faults.
 use Rattle.std.specs.Prelude.{ℕ, zero, suc, ◌-◌, ◌==◌, ◌&&◌, ◌||◌, Bool, true, false, not, List, []}
 use Rattle.std.specs.Prelude.{◌∷◌, ◌++◌, Option, Some, None, length, take, codes, count_by, decimal}
-use Rattle.std.specs.Prelude.{if◌then◌else◌}
+use Rattle.std.specs.Prelude.{if◌then◌else◌, nat_le}
 use Rattle.std.specs.List.{flat_map, position_or_len}
 use Rattle.trac_language.specs.Form.{Form}
 use Rattle.trac_language.specs.Meaning.{show_form}
@@ -34,10 +34,16 @@ form_text width form = cut_text width form.name ++ codes ": " ++ cut_text width 
 abbrev pub form_line : ℕ → Form → List ℕ
 form_line width form = codes "form " ++ form_text width form ++ codes "\n"
 
--- two blanks, and two more for each call that is open around one
+-- two blanks, and two more for each of so many calls
+abbrev pub blanks_text : ℕ → List ℕ
+blanks_text zero = codes "  "
+blanks_text (suc depth) = codes "  " ++ blanks_text depth
+
+-- the same for the calls that are open around one; of more than 20 it is that of 20 and their number
 abbrev pub indent_text : ℕ → List ℕ
-indent_text zero = codes "  "
-indent_text (suc depth) = codes "  " ++ indent_text depth
+indent_text depth =
+    if nat_le depth 20 then blanks_text depth
+    else (blanks_text 20 ++ decimal depth ++ codes " ")
 
 -- what is odd about a call, in brackets
 abbrev pub oddity_text : Option Oddity → List ℕ
@@ -92,7 +98,8 @@ has_steps views = not views.calls && not views.forms
 abbrev pub event_text : Views → Event → List ℕ
 event_text views (Done step neutral active) =
     if has_steps views
-    then step_text step.number step.rule step.size step.need neutral.now active.now else []
+    then step_text views.width step.number step.rule step.size step.need neutral.now active.now
+    else []
 event_text views (Printed bytes) = if has_steps views then output_text bytes.now else []
 event_text views (Called call) =
     if views.calls then called_text call.number call.mode call.depth call.arguments.now

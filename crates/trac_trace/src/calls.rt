@@ -1,13 +1,17 @@
 //! The lines of the calls that were performed. Their form is this processor's own choice.
 ghost use Rattle.std.specs.Prelude.{◌≡◌, ◌++◌, OnOk};
-ghost use Rattle.trac_trace.specs.Told.{called_text, indent_text, oddity_text, results_text};
+ghost use Rattle.trac_trace.specs.Told.{blanks_text, called_text, indent_text, oddity_text};
+ghost use Rattle.trac_trace.specs.Told.{results_text};
 ghost use Rattle.trac_trace.specs.Told.{unless_empty};
 
 use crate::escapes::{opening, push_cells_cut, push_cut};
-use crate::lines::{push, push_column};
+use crate::lines::{push, push_column, push_number};
 use std::alloc::{AllocError, Global};
 use trac_core::Cell;
 use trac_space::Mode;
+
+// How many calls around one indent it.
+const MOST_INDENT: usize = 20;
 
 /// What is odd about a call.
 #[derive(Clone, Copy)]
@@ -65,9 +69,21 @@ pub fn push_call(
     push(line, b"\n")
 }
 
-// Adds two blanks, and two more for each call that is open around one.
+// Adds two blanks, and two more for each call that is open around one; of many calls their number.
 fn push_indent(line: &mut Vec<u8>, depth: usize) -> Result<(), AllocError>
     ensures { OnOk result (line.new.items ≡ line.old.items ++ indent_text depth) }
+{
+    if depth <= MOST_INDENT {
+        return push_blanks(line, depth);
+    }
+    push_blanks(line, MOST_INDENT)?;
+    push_number(line, depth as u64)?;
+    push(line, b" ")
+}
+
+// Adds two blanks, and two more for each of so many calls.
+fn push_blanks(line: &mut Vec<u8>, depth: usize) -> Result<(), AllocError>
+    ensures { OnOk result (line.new.items ≡ line.old.items ++ blanks_text depth) }
 {
     for _around in 0..depth {
         push(line, b"  ")?;

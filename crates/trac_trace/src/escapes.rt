@@ -6,7 +6,7 @@ ghost use Rattle.trac_space.specs.Texts.{text_of_cells};
 ghost use Rattle.trac_trace.specs.Shown.{begins_character, character_length, cut_text, fits};
 ghost use Rattle.trac_trace.specs.Shown.{is_whole, left_at, opening_text, raw_cell, shown_byte};
 ghost use Rattle.trac_trace.specs.Shown.{begin_of_tail, end_of_head, goes_on, shown_text, step_back};
-ghost use Rattle.trac_trace.specs.Shown.{step_on};
+ghost use Rattle.trac_trace.specs.Shown.{step_on, turns_direction};
 
 use crate::lines::{push, push_byte};
 use std::alloc::{AllocError, Global};
@@ -158,7 +158,21 @@ fn begins_character(bytes: &[u8]) -> bool
     match *bytes {
         [] => false,
         [0xc2, second, ..] if second < 0xa0 => false,
-        [first, ..] => first >= 128,
+        [first, ..] => first >= 128 && !turns_direction(bytes),
+    }
+}
+
+// Whether a control of the direction of writing stands first, which would show a line in another order.
+fn turns_direction(bytes: &[u8]) -> bool
+    ensures { result ≡ turns_direction bytes.now }
+{
+    match *bytes {
+        [0xd8, 0x9c, ..] => true,
+        [0xe2, 0x80, third, ..] => third == 0x8e
+            || third == 0x8f
+            || (third >= 0xaa && third <= 0xae),
+        [0xe2, 0x81, third, ..] => third >= 0xa6 && third <= 0xa9,
+        _ => false,
     }
 }
 

@@ -30,7 +30,7 @@ pub fn push_event(
 {
     match *event {
         Event::Done(step, neutral, active) if views.has_steps() => {
-            push_step(lines, &step, neutral, active)
+            push_step(lines, &step, neutral, active, views.width)
         }
         Event::Printed(bytes) if views.has_steps() && !bytes.is_empty() => {
             push_printed(lines, bytes)

@@ -2,7 +2,7 @@
 ghost use Rattle.std.specs.Prelude.{◌≡◌, ◌++◌, OnOk, decimal};
 ghost use Rattle.trac_trace.specs.Lines.{byte_text, bytes_text, cell_text, cells_text, column_text};
 ghost use Rattle.trac_trace.specs.Lines.{end_text, fate_text, head_text, name_text, number_16};
-ghost use Rattle.trac_trace.specs.Lines.{printed_text, step_text};
+ghost use Rattle.trac_trace.specs.Lines.{is_short, printed_text, step_text, string_text};
 
 use crate::views::Views;
 use itoa::Buffer;
@@ -49,15 +49,17 @@ pub fn head(views: &Views) -> &'static [u8]
     }
 }
 
-/// Adds the line of a step, with the cells of both strings after it. An error is want of memory.
+/// Adds the line of a step, with the cells of both strings after it, each cut to a width. An error is
+/// want of memory.
 pub fn push_step(
     line: &mut Vec<u8>,
     step: &Step,
     neutral: &[Cell],
     active: &[Cell],
+    width: u32,
 ) -> Result<(), AllocError>
     ensures { OnOk result (line.new.items ≡ line.old.items
-        ++ step_text step.now.number step.now.rule step.now.size step.now.need
+        ++ step_text width step.now.number step.now.rule step.now.size step.now.need
         neutral.now active.now) }
 {
     push_column(line, step.number)?;
@@ -66,9 +68,9 @@ pub fn push_step(
     push_column(line, u64::from(step.size))?;
     push_column(line, u64::from(step.need))?;
     push(line, b"  ")?;
-    push_cells(line, neutral)?;
+    push_string(line, neutral, width)?;
     push(line, b"|")?;
-    push_cells(line, active)?;
+    push_string(line, active, width)?;
     push(line, b"\n")
 }
 
@@ -148,6 +150,28 @@ pub fn push_column(line: &mut Vec<u8>, n: u64) -> Result<(), AllocError>
     let digits = buffer.format(n).as_bytes();
     line.extend_from_slice(&BLANKS[digits.len().min(6)..])?;
     line.extend_from_slice(digits)
+}
+
+// Adds at most so many cells of a string; of a longer one the first and the last half of them, with two
+// full stops between. 0 is no bound.
+fn push_string(line: &mut Vec<u8>, cells: &[Cell], width: u32) -> Result<(), AllocError>
+    ensures { OnOk result (line.new.items ≡ line.old.items ++ string_text width cells.now) }
+{
+    let width = width as usize;
+    if is_short(width, cells.len()) {
+        return push_cells(line, cells);
+    }
+    let half = width / 2;
+    push_cells(line, &cells[..width - half])?;
+    push(line, b" .. ")?;
+    push_cells(line, &cells[cells.len() - half..])
+}
+
+// Whether so many cells need no cut.
+fn is_short(width: usize, len: usize) -> bool
+    ensures { result ≡ is_short width len }
+{
+    width == 0 || len <= width
 }
 
 // Adds the cells of a string.

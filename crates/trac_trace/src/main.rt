@@ -9,6 +9,7 @@ ghost use Rattle.std.specs.Prelude.{◌≡◌};
 ghost use Rattle.trac_trace.specs.Lines.{traced_status};
 
 mod calls;
+mod check;
 mod deleted;
 mod escapes;
 mod events;
@@ -26,33 +27,39 @@ mod warnings;
 mod watched;
 mod words;
 
+use check::check_files;
+use escapes::push_text;
 use std::env;
-use std::io::{Read, Write};
+use std::io::{ErrorKind, Read, Write};
 use std::process::ExitCode;
 use trac_core::{Fate, Input, Output, RetryingReader, RetryingWriter, SliceSource};
 use trac_lines::{fate_status, refused, refused_words};
-use trace::{TraceError, trace, trace_last};
+use trace::{TraceError, trace, trace_last, write};
 use views::Options;
 use watched::watched;
-use words::options_from;
+use words::{Words, words_from};
 
+// The status where the words can't be used.
+const USAGE: u8 = 2;
 // The status where what is shown can't be written.
 const NOT_WRITTEN: u8 = 5;
 // The status where there is no memory.
 const NO_MEMORY: u8 = 6;
 // The line where there is no memory.
 const NO_MEMORY_LINE: &str = "trac_trace: no memory";
+// The line of `--version`, with the version of the repository.
+const VERSION_LINE: &[u8] = b"trac_trace 0.10.0\n";
 
 fn main(rt: HostRuntime) -> ExitCode {
-    let options = match env::args(&rt) {
+    let words = match env::args(&rt) {
         Ok(words) => match words.collect(rt.alloc()) {
-            Ok(words) => options_from(rt.alloc(), words),
+            Ok(words) => words_from(rt.alloc(), words),
             Err(error) => Err(clap::Error::from(error)),
         },
         Err(error) => return ExitCode::from(refused_words(&rt, error.kind(), NO_MEMORY_LINE)),
     };
-    match options {
-        Ok(options) => ExitCode::from(run(&rt, &options)),
+    match words {
+        Ok(words) => ExitCode::from(run(&rt, &words)),
         Err(error) => ExitCode::from(refused(
             &rt,
             &mut Output::new(rt.stdout()),
@@ -62,12 +69,12 @@ fn main(rt: HostRuntime) -> ExitCode {
     }
 }
 
-// Runs and shows the script, and gives the status.
-fn run(rt: &HostRuntime, options: &Options) -> u8 {
-    match show(rt, options) {
-        Ok(fate) => status(fate),
+// Does what the words ask for, and gives the status.
+fn run(rt: &HostRuntime, words: &Words) -> u8 {
+    match done(rt, words) {
+        Ok(status) => status,
         Err(TraceError::NotWritten) => {
-            let _ = rt.eprintln("trac_trace: output failed");
+            say(rt, &["output failed"]);
             NOT_WRITTEN
         }
         Err(TraceError::NoMemory) => {
@@ -77,18 +84,50 @@ fn run(rt: &HostRuntime, options: &Options) -> u8 {
     }
 }
 
+// Does what the words ask for. The answer is the status.
+fn done(rt: &HostRuntime, words: &Words) -> Result<u8, TraceError> {
+    if words.is_version {
+        write(&mut RetryingWriter::new(rt.stdout()), VERSION_LINE)?;
+        return Ok(0);
+    }
+    if !words.is_check {
+        return show(rt, &words.options);
+    }
+    if words.files.is_empty() {
+        say(rt, &["--check needs the name of a file"]);
+        return Ok(USAGE);
+    }
+    Ok(check_files(rt, &words.options.settings, &words.files))
+}
+
+// Says a line on standard error, behind the name of the program, by one call of the system as long as
+// there is memory for it. That it can't be written is ignored.
+fn say(rt: &HostRuntime, words: &[&str]) {
+    let _ = said(rt, words);
+}
+
+fn said(rt: &HostRuntime, words: &[&str]) -> Result<(), TraceError> {
+    let mut line = Vec::new(rt.alloc());
+    line.extend_from_slice(b"trac_trace: ")?;
+    for word in words {
+        push_text(&mut line, word.as_bytes())?;
+    }
+    line.extend_from_slice(b"\n")?;
+    write(&mut RetryingWriter::new(rt.stderr()), &line)
+}
+
 // Runs and shows the script, by the view that the options ask for.
-fn show(rt: &HostRuntime, options: &Options) -> Result<Fate, TraceError> {
+fn show(rt: &HostRuntime, options: &Options) -> Result<u8, TraceError> {
     let mut output = RetryingWriter::new(rt.stdout());
     if options.views.warn {
         return show_warnings(rt, options, &mut output);
     }
     if options.views.last == 0 {
         let mut source = Input::new(rt.stdin());
-        return trace(rt.alloc(), options, &mut source, &mut output);
+        return Ok(status(trace(rt.alloc(), options, &mut source, &mut output)?));
     }
     let reader = RetryingReader::new(rt.stdin());
-    trace_last(rt.alloc(), options, reader, &mut output)
+    Ok(status(trace_last(rt.alloc(), options, reader, &mut output)?))
 }
 
 // Reads the whole script, runs it, and shows what is suspicious in it.
@@ -96,18 +135,24 @@ fn show_warnings<W: Write>(
     rt: &HostRuntime,
     options: &Options,
     output: &mut W,
-) -> Result<Fate, TraceError> {
+) -> Result<u8, TraceError> {
     let mut input = Vec::new(rt.alloc());
-    let fails_at = read_all(&mut RetryingReader::new(rt.stdin()), &mut input);
+    let fails_at = read_all(&mut RetryingReader::new(rt.stdin()), &mut input)?;
     let mut source = SliceSource::new(&input, fails_at);
-    watched(rt.alloc(), &options.settings, &input, &mut source, output)
+    let watched = watched(rt.alloc(), &options.settings, &input, &mut source)?;
+    let mut lines = Vec::new(rt.alloc());
+    watched.push_warnings(&mut lines, &[], &input)?;
+    watched.push_fault(&mut lines)?;
+    write(output, &lines)?;
+    Ok(watched.status())
 }
 
-// Reads the whole input, and gives the place at which it failed, if it did.
-fn read_all<R: Read>(reader: &mut R, input: &mut Vec<u8>) -> Option<u64> {
+// Reads the whole input, and gives the place at which it failed, if it did. An error is want of memory.
+fn read_all<R: Read>(reader: &mut R, input: &mut Vec<u8>) -> Result<Option<u64>, TraceError> {
     match reader.read_to_end(input) {
-        Ok(_) => None,
-        Err(_) => Some(input.len() as u64),
+        Ok(_) => Ok(None),
+        Err(error) if error.kind() == ErrorKind::OutOfMemory => Err(TraceError::NoMemory),
+        Err(_) => Ok(Some(input.len() as u64)),
     }
 }
 

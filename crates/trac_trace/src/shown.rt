@@ -125,8 +125,8 @@ impl Shown {
         ensures hidden { is_told self.old.views before.now.done ≡ false →
             self.new.lines.items ≡ self.old.lines.items }
         ensures steps { is_told self.old.views before.now.done ≡ true →
-            has_steps self.old.views ≡ true → OnOk result (TellsStep before.now need printed.now
-            machine.now self.old.lines.items self.new.lines.items) }
+            has_steps self.old.views ≡ true → OnOk result (TellsStep self.old.views.width
+            before.now need printed.now machine.now self.old.lines.items self.new.lines.items) }
     {
         self.peak = self.peak.max(need);
         let value = match fate {
@@ -156,8 +156,8 @@ impl Shown {
 
     // Tells that a step was done.
     fn tell_step(&mut self, before: &Before, machine: &Machine, need: u32) -> Result<(), AllocError>
-        ensures lines { has_steps self.old.views ≡ true → OnOk result (TellsDone before.now need
-            machine.now self.old.lines.items self.new.lines.items) }
+        ensures lines { has_steps self.old.views ≡ true → OnOk result (TellsDone self.old.views.width
+            before.now need machine.now self.old.lines.items self.new.lines.items) }
         ensures views { self.new.views ≡ self.old.views }
         ensures peak { self.new.peak ≡ self.old.peak }
     {

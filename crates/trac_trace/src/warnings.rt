@@ -1,21 +1,84 @@
 //! The lines of warnings. Their form is this processor's own choice.
 ghost use Rattle.std.specs.Prelude.{◌≡◌, ◌++◌, OnOk};
-ghost use Rattle.trac_trace.specs.Warned.{warning_text};
+ghost use Rattle.trac_trace.specs.Warned.{column_of_value, count_text, said_text, times_text};
+ghost use Rattle.trac_trace.specs.Warned.{value_text, warning_text};
 
 use crate::escapes::push_text;
 use crate::faults::push_place;
-use crate::lines::push;
+use crate::lines::{push, push_number};
 use std::alloc::AllocError;
-use trac_warnings::Warning;
+use trac_events::Place;
+use trac_warnings::{Origin, Warning};
 
-/// Adds the line of a warning: its place, what is said of it, and the name or the text that it is of.
-/// An error is want of memory.
-pub fn push_warning(line: &mut Vec<u8>, warning: &Warning) -> Result<(), AllocError>
-    ensures { OnOk result (line.new.items ≡ line.old.items ++ warning_text warning.now) }
+/// Adds the line of a warning that was given so often: its place in the input, in which value it is,
+/// whose form has this name, what is said of it, and the name or the text that it is of. An error is
+/// want of memory.
+pub fn push_warning(
+    line: &mut Vec<u8>,
+    warning: &Warning,
+    place: Place,
+    form: &[u8],
+    times: u64,
+) -> Result<(), AllocError>
+    ensures { OnOk result (line.new.items ≡
+        line.old.items ++ warning_text warning.now place form.now times) }
 {
-    push_place(line, warning.place)?;
+    push_place(line, place)?;
     push(line, b": ")?;
+    push_value(line, warning.origin, form)?;
+    push_said(line, warning)?;
+    push_times(line, times)?;
+    push(line, b"\n")
+}
+
+// Adds in which value it is, where it is in one.
+fn push_value(line: &mut Vec<u8>, origin: Origin, form: &[u8]) -> Result<(), AllocError>
+    ensures { OnOk result (line.new.items ≡ line.old.items ++ value_text origin form.now) }
+{
+    match origin.form {
+        None => Ok(()),
+        Some(_) => push_value_of(line, origin.column, form),
+    }
+}
+
+// Adds a column of the value of a form of this name.
+fn push_value_of(line: &mut Vec<u8>, column: usize, form: &[u8]) -> Result<(), AllocError>
+    ensures { OnOk result (line.new.items ≡ line.old.items ++ column_of_value column form.now) }
+{
+    push(line, b"in the value of ")?;
+    push_text(line, form)?;
+    push(line, b", column ")?;
+    push_number(line, (column as u64).saturating_add(1))?;
+    push(line, b": ")
+}
+
+// Adds what is said of it: the sentence, the name or the text, and of how many characters it is.
+fn push_said(line: &mut Vec<u8>, warning: &Warning) -> Result<(), AllocError>
+    ensures { OnOk result (line.new.items ≡ line.old.items ++ said_text warning.now) }
+{
     push(line, warning.suspicion.sentence())?;
     push_text(line, warning.text.as_slice())?;
-    push(line, b"\n")
+    push_count(line, warning.count)
+}
+
+// Adds of how many characters it is, where it is of some.
+fn push_count(line: &mut Vec<u8>, count: usize) -> Result<(), AllocError>
+    ensures { OnOk result (line.new.items ≡ line.old.items ++ count_text count) }
+{
+    if count == 0 {
+        return Ok(());
+    }
+    push_number(line, count as u64)
+}
+
+// Adds how often it was given, where that is more than once.
+fn push_times(line: &mut Vec<u8>, times: u64) -> Result<(), AllocError>
+    ensures { OnOk result (line.new.items ≡ line.old.items ++ times_text times) }
+{
+    if times < 2 {
+        return Ok(());
+    }
+    push(line, b" (")?;
+    push_number(line, times)?;
+    push(line, b" times)")
 }

@@ -1,70 +1,174 @@
 //! A run of which only what is suspicious is shown.
 ghost use Rattle.std.specs.Prelude.{◌≡◌, ◌+◌, ◌-◌, ◌^◌, ◌<◌, IfOk};
 ghost use Rattle.trac_core.specs.Machine.{reported_input_failures};
+ghost use Rattle.trac_trace.specs.Warned.{warned_status, worse};
 
 use crate::faults::is_fault;
-use crate::lines::push_end;
+use crate::lines::{push, push_end, push_number};
 use crate::printed::Printed;
-use crate::trace::{TraceError, write};
+use crate::status;
 use crate::warnings::push_warning;
 use std::alloc::{AllocError, Global};
-use std::io::Write;
 use trac_core::{Fate, Machine, Report, Source};
+use trac_events::Place;
 use trac_space::make_block;
-use trac_warnings::Watch;
+use trac_warnings::{Findings, Warning, Watch, look_at_script};
 use trac_words::Settings;
 
+/// A run that was watched, and what was found.
+#[derive(Drop)]
+pub struct WatchedRun {
+    watch: Watch,
+    findings: Findings,
+    /// How it ended, with its steps and its peak.
+    pub report: Report,
+}
+
 /// Runs a script whose whole input is known, and which the source gives, in a workspace of the
-/// settings' cells and with the steps that they allow, and writes a line for each warning, and one on
-/// how the run ended where that is a fault. It answers the fate.
-pub fn watched<I: Source, W: Write>(
+/// settings' cells and with the steps that they allow, and keeps what is suspicious. An error is want
+/// of memory.
+pub fn watched<I: Source>(
     alloc: Global,
     settings: &Settings,
     input: &[u8],
     source: &mut I,
-    output: &mut W,
-) -> Result<Fate, TraceError>
+) -> Result<WatchedRun, AllocError>
     requires source_counts { I.failure_count source.old < 2 ^ 64 - 1 }
-    ensures input_failed { IfOk result (λ fate. I.failure_count source.new ≡
-        I.failure_count source.old + reported_input_failures fate) }
+    ensures input_failed { IfOk result (λ watched. I.failure_count source.new ≡
+        I.failure_count source.old + reported_input_failures watched.report.fate) }
 {
     let mut block = make_block(alloc, settings.cells)?;
     let mut machine = Machine::over(&mut block, settings.steps);
     let mut printed = Printed::new(alloc);
     let mut watch = Watch::new(alloc);
+    let mut findings = of_script(alloc, input)?;
     loop {
         let before = watch.look(&machine, input)?;
         let fate = machine.step(source, &mut printed);
         printed.clear();
         watch.tell(&before, &machine, input)?;
-        let mut lines = Vec::new(alloc);
-        push_warnings(&mut lines, &watch)?;
+        keep_warnings(&mut watch, &mut findings)?;
         if let Some(fate) = fate {
-            push_fault_line(&mut lines, &machine, fate)?;
-            write(output, lines.as_slice())?;
-            return Ok(fate);
+            let report = Report {
+                fate,
+                steps: machine.steps(),
+                peak: machine.peak(),
+            };
+            return Ok(WatchedRun {
+                watch,
+                findings,
+                report,
+            });
         }
-        write(output, lines.as_slice())?;
     }
 }
 
-// Adds the lines of the warnings of a step.
-fn push_warnings(lines: &mut Vec<u8>, watch: &Watch) -> Result<(), AllocError> {
-    for warning in watch.warnings() {
-        push_warning(lines, warning)?;
+// What is suspicious in how a script is written.
+fn of_script(alloc: Global, input: &[u8]) -> Result<Findings, AllocError> {
+    let mut findings = Findings::new(alloc);
+    let mut warnings = Vec::new(alloc);
+    look_at_script(&mut warnings, alloc, input)?;
+    for warning in warnings {
+        findings.add(warning)?;
+    }
+    Ok(findings)
+}
+
+// Keeps the warnings of a step.
+fn keep_warnings(watch: &mut Watch, findings: &mut Findings) -> Result<(), AllocError> {
+    for _ in 0..watch.warnings().len() {
+        if let Some(warning) = watch.take_warning() {
+            findings.add(warning)?;
+        }
     }
     Ok(())
 }
 
-// Adds the line on how a run ended, where that is a fault.
-fn push_fault_line(lines: &mut Vec<u8>, machine: &Machine, fate: Fate) -> Result<(), AllocError> {
-    if !is_fault(fate) {
-        return Ok(());
+impl WatchedRun {
+    /// The status of a program that tells these warnings: that of a fault, or 7 where there are some.
+    pub fn status(&self) -> u8 {
+        status_of(self.report.fate, self.findings.len())
     }
-    let report = Report {
-        fate,
-        steps: machine.steps(),
-        peak: machine.peak(),
-    };
-    push_end(lines, &report)
+
+    /// How many warnings there are.
+    pub fn len(&self) -> usize {
+        self.findings.len()
+    }
+
+    /// Adds a line for each warning behind a text, in the order of their places in the input. An error
+    /// is want of memory.
+    pub fn push_warnings(
+        &self,
+        lines: &mut Vec<u8>,
+        head: &[u8],
+        input: &[u8],
+    ) -> Result<(), AllocError> {
+        let mut offset: usize = 0;
+        let mut place = Place::first();
+        for (warning, times) in self.findings.counts() {
+            let next = warning.origin.offset.min(input.len());
+            place = place.behind_bytes(input.get(offset..next).unwrap_or(&[]));
+            offset = next.max(offset);
+            push(lines, head)?;
+            push_warning(lines, warning, place, self.form(warning), *times)?;
+        }
+        Ok(())
+    }
+
+    // The name of the form in whose value a warning is, null where it is in none.
+    fn form(&self, warning: &Warning) -> &[u8] {
+        match warning.origin.form {
+            Some(number) => self.watch.name(number),
+            None => &[],
+        }
+    }
+
+    /// Adds the line on how the run ended, where that is a fault. An error is want of memory.
+    pub fn push_fault(&self, lines: &mut Vec<u8>) -> Result<(), AllocError> {
+        if is_fault(self.report.fate) {
+            push_end(lines, &self.report)
+        } else {
+            Ok(())
+        }
+    }
+
+    /// Adds the line of a file of this name: how many warnings there are, and how the run ended. An
+    /// error is want of memory.
+    pub fn push_summary(&self, lines: &mut Vec<u8>, name: &[u8]) -> Result<(), AllocError> {
+        push(lines, name)?;
+        push(lines, b": warnings ")?;
+        push_number(lines, self.findings.len() as u64)?;
+        push(lines, b"; ")?;
+        push_end(lines, &self.report)
+    }
+}
+
+// The status after a run with this fate and so many warnings.
+fn status_of(fate: Fate, warnings: usize) -> u8
+    ensures { result ≡ warned_status fate warnings }
+{
+    if !is_fault(fate) && warnings > 0 {
+        7
+    } else {
+        status(fate)
+    }
+}
+
+/// The worse of two statuses: each other one is worse than that of warnings, and any than 0.
+pub fn worse(a: u8, b: u8) -> u8
+    ensures { result ≡ worse a b }
+{
+    if a == 0 {
+        b
+    } else if b == 0 {
+        a
+    } else if a == 7 {
+        b
+    } else if b == 7 {
+        a
+    } else if a < b {
+        b
+    } else {
+        a
+    }
 }

@@ -1,9 +1,9 @@
 //! The program's words.
-ghost use Rattle.std.specs.Prelude.{◌≡◌, IfOk, IfErr, map, string_bytes, true, false};
+ghost use Rattle.std.specs.Prelude.{◌≡◌, ◌≤◌, ◌+◌, length, take, drop, IfOk, IfErr, map, string_bytes, true, false};
 ghost use Rattle.clap.specs.Words.{FailsBy, app_of, fault_of, kind_of, matches_of, rule_of, takes};
 ghost use Rattle.trac_words.specs.CommandLine.{AreValuesOf, HasDefaults};
-ghost use Rattle.trac_trace.specs.CommandLine.{AreViewsOf, HasDefaultViews, flag_of};
-ghost use Rattle.trac_trace.specs.CommandLine.{trace_command, views_command};
+ghost use Rattle.trac_trace.specs.CommandLine.{AreViewsOf, HasDefaultViews, flag_of, has_check, is_version};
+ghost use Rattle.trac_trace.specs.CommandLine.{options_len, place_of_check, trace_command, views_command};
 
 use crate::views::{MOST_LAST, MOST_WIDTH, Options, Views};
 use clap::error::ErrorKind;
@@ -11,18 +11,96 @@ use clap::{Arg, ArgAction, Command, Error, value_parser};
 use std::alloc::{AllocError, Global};
 use trac_words::{MOST_STEPS, Settings, number, numbers_command};
 
+/// What the words give.
+#[derive(Drop)]
+pub struct Words {
+    /// The options before the files.
+    pub options: Options,
+    /// `--version` stands there alone.
+    pub is_version: bool,
+    /// `--check` stands there.
+    pub is_check: bool,
+    /// The files behind it.
+    pub files: Vec<String>,
+}
+
+/// Reads the program's words, its name first: `--version` alone; or options, as `options_from` reads
+/// them, and behind them maybe `--check FILE ..`. The error is clap's.
+pub fn words_from(alloc: Global, words: Vec<String>) -> Result<Words, Error>
+    ensures version { IfOk result (λ given.
+        given.is_version ≡ is_version (map string_bytes words.items)) }
+    ensures check { IfOk result (λ given.
+        given.is_check ≡ has_check (map string_bytes words.items)) }
+    ensures files { let len = options_len (map string_bytes words.items) in
+        IfOk result (λ given. given.files.items ≡ drop (len + 1) words.items) }
+    ensures taken { let len = options_len (map string_bytes words.items) in
+        let texts = map string_bytes (take len words.items) in
+        IfOk result (λ given. AreValuesOf false (matches_of trace_command texts)
+        given.options.settings) }
+    ensures views { let len = options_len (map string_bytes words.items) in
+        let texts = map string_bytes (take len words.items) in
+        IfOk result (λ given. AreViewsOf (matches_of trace_command texts) given.options.views) }
+{
+    let is_version = is_version(words.as_slice());
+    let len = options_len(words.as_slice());
+    let mut options = words;
+    let mut files = options.split_off(len)?;
+    let is_check = !files.is_empty() && !is_version;
+    let files = files.split_off(files.len().min(1))?;
+    Ok(Words {
+        options: options_from(alloc, options)?,
+        is_version,
+        is_check,
+        files,
+    })
+}
+
+// Whether `--version` stands alone behind the program's name.
+fn is_version(words: &[String]) -> bool
+    ensures { result ≡ is_version (map string_bytes words.now) }
+{
+    match words {
+        [_, word] => word.as_str() == "--version",
+        _ => false,
+    }
+}
+
+// How many words stand before the first `--check`, or before `--version` where that stands alone.
+fn options_len(words: &[String]) -> usize
+    ensures value { result ≡ options_len (map string_bytes words.now) }
+    ensures within { result ≤ length words.now }
+{
+    if is_version(words) {
+        return 1;
+    }
+    place_of_check(words)
+}
+
+// How many words stand before the first `--check`.
+fn place_of_check(words: &[String]) -> usize
+    ensures value { result ≡ place_of_check (map string_bytes words.now) }
+    ensures within { result ≤ length words.now }
+{
+    for (place, word) in words.iter().enumerate() {
+        if word.as_str() == "--check" {
+            return place;
+        }
+    }
+    words.len()
+}
+
 /// Reads the options from the program's words, its name first: `trac_trace [--cells N] [--steps N]
 /// [--from N] [--to N] [--last N] [--width N] [--calls] [--forms] [--warn]`. Where the words don't
-/// say, there are 65536 cells and 1000 steps, all steps are shown, and 100 bytes of a text. The error
+/// say, there are 65536 cells and 1000000 steps, all steps are shown, and 100 bytes of a text. The error
 /// is clap's, for words that it refuses, numbers out of range among them, for help, or for want of
 /// memory. The command is this processor's own choice.
-pub fn options_from(alloc: Global, words: Vec<String>) -> Result<Options, Error>
+fn options_from(alloc: Global, words: Vec<String>) -> Result<Options, Error>
     ensures taken { let texts = map string_bytes words.items in
         IfOk result (λ o. AreValuesOf false (matches_of trace_command texts) o.settings) }
     ensures views { let texts = map string_bytes words.items in
         IfOk result (λ o. AreViewsOf (matches_of trace_command texts) o.views) }
     ensures defaults { let texts = map string_bytes words.items in
-        IfOk result (λ o. HasDefaults trace_command 1000 texts o.settings) }
+        IfOk result (λ o. HasDefaults trace_command 1000000 texts o.settings) }
     ensures default_views { let texts = map string_bytes words.items in
         IfOk result (λ o. HasDefaultViews texts o.views) }
     ensures passes { let texts = map string_bytes words.items in
@@ -63,8 +141,10 @@ fn command<'a>(alloc: Global, name: &'a str) -> Result<Command<'a>, AllocError>
     let to = value_parser!(u64).range(1..=MOST_STEPS as i64);
     let last = value_parser!(u64).range(0..=MOST_LAST as i64);
     let width = value_parser!(u32).range(0..=MOST_WIDTH as i64);
-    numbers_command(alloc, name, about, "1000")?
-        .override_usage("trac_trace [OPTIONS] < SCRIPT")
+    numbers_command(alloc, name, about, "1000000")?
+        .override_usage(
+            "trac_trace [OPTIONS] < SCRIPT\n       trac_trace [OPTIONS] --check FILE ..\n       trac_trace --version",
+        )
         .arg(number(alloc, "from", from, "1").help("The first step to show, 1 to 1000000000000"))?
         .arg(number(alloc, "to", to, "1000000000000").help(
             "The last step to show, 1 to 1000000000000",

@@ -8,6 +8,7 @@ use Rattle.trac_language.specs.Text.{Text}
 use Rattle.trac_space.specs.declared.cell.Cell.{Cell}
 use Rattle.trac_space.specs.declared.cell.Cell.TheVariants.{Byte}
 use Rattle.trac_space.specs.Texts.{text_of_cells}
+use Rattle.trac_warnings.specs.Suspicions.{begins_argument, is_written}
 use Rattle.trac_warnings.specs.Gaps.{begins, begins_in_name, behind_opening, stands_in_name}
 
 -- a text that isn't at its end doesn't begin where no item is left
@@ -26,3 +27,13 @@ next_name text items i less other =
     let e = drop_more items i (Gap 0) less in
     let more = drop (i + 1) items in
     sym (ap (stands_in_name text) e ∙ ap (λ b. b || stands_in_name text more) (ap (λ t. begins_in_name text (behind_opening t)) (sym e) ∙ other))
+
+-- no name begins where no byte is left, nor does it stand there
+pub no_argument : (name : Text) (bytes : List ℕ) → length bytes < 1 → begins_argument name bytes ≡ false
+no_argument [] [] few = refl
+no_argument (c ∷ name) [] few = refl
+no_argument name (b ∷ bytes) few = absurd (omega arith)
+
+pub not_written : (name : Text) (bytes : List ℕ) → length bytes < 1 → is_written name bytes ≡ false
+not_written name [] few = refl
+not_written name (b ∷ bytes) few = absurd (omega arith)

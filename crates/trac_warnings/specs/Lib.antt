@@ -1,4 +1,6 @@
 pub mod Suspicions
+pub mod Arguments
 pub mod Gaps
+pub mod Origins
 pub mod Strings
 pub mod Watched

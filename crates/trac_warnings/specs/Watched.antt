@@ -1,13 +1,67 @@
--- What a run that is watched keeps of its warnings.
-use Rattle.std.specs.Prelude.{◌≡◌, ◌++◌, List, []}
+-- What a run that is watched keeps.
+use Rattle.std.specs.Prelude.{◌≡◌, ◌++◌, ℕ, Bool, true, false, List, [], length, min, reverse}
+use Rattle.std.specs.Prelude.{Some, slice_get}
+use Rattle.trac_space.specs.declared.cell.Cell.{Cell}
+use Rattle.trac_core.specs.Machine.{MachineState}
+use Rattle.trac_core.specs.declared.machine.session.Awaits.{Awaits}
+use Rattle.trac_core.specs.declared.machine.session.Awaits.TheVariants as awaits
+use Rattle.trac_core.specs.declared.machine.view.ScanningRule.{ScanningRule}
+use Rattle.trac_core.specs.declared.machine.view.ScanningRule.TheVariants as row
+use Rattle.trac_events.specs.Calls.{SeesValue, reads}
+use Rattle.trac_events.specs.declared.before.Before.{Before}
+use Rattle.trac_warnings.specs.Origins.{in_input, moved, more}
+use Rattle.trac_warnings.specs.declared.origin.Origin.{Origin}
 use Rattle.trac_warnings.specs.declared.warning.Warning.{Warning}
 use Rattle.trac_warnings.specs.declared.watch.Watch.{Watch}
 
 -- nothing was seen yet
 abbrev pub IsFresh : Watch → Type 0
-IsFresh watch = (watch.warnings.items ≡ []) × (watch.told ≡ 0) × (watch.read ≡ 0)
-    × (watch.strings.items ≡ []) × (watch.calls.items ≡ [])
+IsFresh watch = (watch.warnings.items ≡ []) × (watch.read ≡ 0) × (watch.runs.items ≡ [])
+    × (watch.strings.items ≡ []) × (watch.calls.items ≡ []) × (watch.commas.items ≡ [])
 
 -- the earlier warnings stay, in front of others
 unfoldable pub Kept : List Warning → List Warning → Type 0
 Kept old new = (more : List Warning) × (new ≡ old ++ more)
+
+-- a step that was not done leaves no warning, and all places as they were
+abbrev pub Stays : Watch → Watch → Type 0
+Stays old new = (new.warnings.items ≡ []) × (new.runs.items ≡ old.runs.items) × (new.read ≡ old.read)
+    × (new.calls.items ≡ old.calls.items)
+
+-- a step moves the origins of the active string; what it reads was written where the input was read
+abbrev pub Moves : Before → MachineState → Watch → Watch → Type 0
+Moves before m old new = (value : Origin)
+    × ((reads before.awaits ≡ true → value ≡ in_input old.read)
+    × (reverse new.runs.items ≡ moved before.rule before.active (length m.memory.active) value
+    (reverse old.runs.items)))
+
+-- a rule begins a call
+abbrev pub begins_call : ScanningRule → Bool
+begins_call row.ActiveCall = true
+begins_call row.NeutralCall = true
+begins_call _ = false
+
+-- where a text ends of so many characters that was read at a place of the input
+abbrev pub end_of_text : List ℕ → ℕ → ℕ → ℕ
+end_of_text input read len = min (more (min read (length input)) len) (length input)
+
+-- a string was read, and the meta character where it stands behind it
+abbrev pub ReadsText : Before → MachineState → List ℕ → ℕ → ℕ → Type 0
+ReadsText before m input old new = (value : List Cell)
+    × (SeesValue m before.call before.active value
+    × ((slice_get input (end_of_text input old (length value)) ≡ Some before.meta →
+    new ≡ more (end_of_text input old (length value)) 1)
+    × ((slice_get input (end_of_text input old (length value)) ≡ Some before.meta → ⊥) →
+    new ≡ end_of_text input old (length value))))
+
+-- by what the step reads
+abbrev pub ReadsBy : Awaits → Before → MachineState → List ℕ → ℕ → ℕ → Type 0
+ReadsBy awaits.Nothing before m input old new = new ≡ old
+ReadsBy awaits.Text before m input old new = ReadsText before m input old new
+ReadsBy awaits.Byte before m input old new = (value : List Cell)
+    × (SeesValue m before.call before.active value
+    × (new ≡ min (more old (length value)) (length input)))
+
+-- where the input is read behind a step
+abbrev pub Reads : Before → MachineState → List ℕ → ℕ → ℕ → Type 0
+Reads before m input old new = ReadsBy before.awaits before m input old new

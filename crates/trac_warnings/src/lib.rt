@@ -3,14 +3,24 @@
 //! it is this processor's own choice; none of it is a fault of the language.
 #![tactic(auto)]
 
+mod arguments;
+mod findings;
 mod gaps;
 mod names;
+mod origin;
+mod performed;
 mod strings;
+mod trail;
 mod warning;
 mod watch;
+mod written;
 
+pub use arguments::{default_place, most_arguments, takes_branches};
+pub use findings::Findings;
 pub use gaps::{body_of, stands_in_name};
-pub use names::{is_left_out, needs_form, suspicion_of_name};
+pub use names::{is_left_out, is_written, needs_form, suspicion_of_name};
+pub use origin::Origin;
 pub use strings::{begins_with_mark, layout_len};
 pub use warning::{Suspicion, Warning};
 pub use watch::Watch;
+pub use written::look_at_script;

@@ -1,7 +1,8 @@
 //! Names of calls.
 ghost use Rattle.std.specs.Prelude.{◌≡◌};
 ghost use Rattle.trac_space.specs.Texts.{text_of_cells};
-ghost use Rattle.trac_warnings.specs.Suspicions.{is_left_out, needs_form, suspicion_of_name};
+ghost use Rattle.trac_warnings.specs.Suspicions.{begins_argument, is_left_out, is_written};
+ghost use Rattle.trac_warnings.specs.Suspicions.{needs_form, suspicion_of_name};
 
 use crate::warning::Suspicion;
 use trac_functions::function::function_named;
@@ -54,4 +55,39 @@ pub fn needs_form(function: Function) -> bool
         | Function::CallRestore => true,
         _ => false,
     }
+}
+
+/// Whether a name stands in the input as an argument: behind a comma, and before another one or a right
+/// parenthesis.
+pub fn is_written(name: &[Cell], input: &[u8]) -> bool
+    ensures { result ≡ is_written (text_of_cells name.now) input.now }
+{
+    let mut rest = input;
+    for _ in 0..input.len() {
+        let [first, behind @ ..] = rest else {
+            return false;
+        };
+        if *first == b',' && begins_argument(name, behind) {
+            return true;
+        }
+        rest = behind;
+    }
+    false
+}
+
+// Whether bytes begin with a name and, behind it, a comma or a right parenthesis.
+fn begins_argument(name: &[Cell], bytes: &[u8]) -> bool
+    ensures { result ≡ begins_argument (text_of_cells name.now) bytes.now }
+{
+    let mut rest = bytes;
+    for cell in name {
+        let [byte, behind @ ..] = rest else {
+            return false;
+        };
+        if *byte != character_of(cell) {
+            return false;
+        }
+        rest = behind;
+    }
+    matches!(rest, [b',' | b')', ..])
 }

@@ -2,8 +2,8 @@ use Rattle.std.proofs.Common.{◌≡◌, ◌-◌, None}
 use Rattle.trac_trace.proofs.watched.watched.Given as goal
 
 -- the run is not over, and no device has failed
-abbrev pub invariant-loop-watch : goal.invariant-loop-watch
-invariant-loop-watch g l =
+abbrev pub invariant-loop-findings : goal.invariant-loop-findings
+invariant-loop-findings g l =
     record {
       not_over : l.machine.fate ≡ None;
       source_failures : g.I.Source.failure_count l.source ≡ g.I.Source.failure_count l.initial.source;
@@ -11,5 +11,5 @@ invariant-loop-watch g l =
     }
 
 -- the steps that are left
-abbrev pub decreases-loop-watch : goal.decreases-loop-watch
-decreases-loop-watch g l = l.machine.allowance - l.machine.steps
+abbrev pub decreases-loop-findings : goal.decreases-loop-findings
+decreases-loop-findings g l = l.machine.allowance - l.machine.steps

@@ -2,10 +2,12 @@ use Rattle.std.proofs.Common.{◌≡◌}
 use Rattle.trac_warnings.specs.Watched.{Kept}
 use Rattle.trac_warnings.proofs.watch.Watch.tell_ends.Given as goal
 
--- the earlier warnings stay
+-- the places and the earlier warnings stay
 abbrev pub invariant-loop : goal.invariant-loop
 invariant-loop l =
     record {
-      told : l.self.told ≡ l.initial.self.told;
+      runs : l.self.runs.items ≡ l.initial.self.runs.items;
+      read : l.self.read ≡ l.initial.self.read;
       kept : Kept l.initial.self.warnings.items l.self.warnings.items;
+      calls : l.self.calls.items ≡ l.initial.self.calls.items;
     }

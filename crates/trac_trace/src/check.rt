@@ -1,0 +1,71 @@
+//! Files that are checked, one after another.
+
+use crate::trace::{TraceError, write};
+use crate::watched::{watched, worse};
+use crate::{NO_MEMORY, NOT_WRITTEN, say};
+use std::io::{ErrorKind, Write};
+use std::{fs, io};
+use trac_core::{RetryingWriter, SliceSource};
+use trac_words::Settings;
+
+// The status where a file can't be read, as for a run whose input failed.
+const NOT_READ: u8 = 4;
+
+/// Runs each file as a script of its own, writes its warnings behind its name and a line that sums
+/// them up, and gives the worst status.
+pub fn check_files(rt: &HostRuntime, settings: &Settings, files: &[String]) -> u8 {
+    let mut output = RetryingWriter::new(rt.stdout());
+    let mut status = 0;
+    for name in files {
+        status = match check_file(rt, settings, name, &mut output) {
+            Ok(next) => worse(status, next),
+            Err(TraceError::NoMemory) => {
+                say(rt, &["no memory to check ", name]);
+                worse(status, NO_MEMORY)
+            }
+            Err(TraceError::NotWritten) => {
+                say(rt, &["output failed"]);
+                return NOT_WRITTEN;
+            }
+        };
+    }
+    status
+}
+
+// Runs a file, and gives its status.
+fn check_file<W: Write>(
+    rt: &HostRuntime,
+    settings: &Settings,
+    name: &str,
+    output: &mut W,
+) -> Result<u8, TraceError> {
+    let input = match fs::read(rt, name) {
+        Ok(input) => input,
+        Err(error) => return unread(rt, name, &error),
+    };
+    let mut source = SliceSource::new(&input, None);
+    let watched = watched(rt.alloc(), settings, &input, &mut source)?;
+    let mut head = Vec::new(rt.alloc());
+    head.extend_from_slice(name.as_bytes())?;
+    head.extend_from_slice(b": ")?;
+    let mut lines = Vec::new(rt.alloc());
+    watched.push_warnings(&mut lines, &head, &input)?;
+    watched.push_summary(&mut lines, name.as_bytes())?;
+    write(output, &lines)?;
+    Ok(watched.status())
+}
+
+// Says why a file can't be read, and gives the status.
+fn unread(rt: &HostRuntime, name: &str, error: &io::Error) -> Result<u8, TraceError> {
+    if error.kind() == ErrorKind::OutOfMemory {
+        return Err(TraceError::NoMemory);
+    }
+    let why = match error.kind() {
+        ErrorKind::NotFound => "there is no such file",
+        ErrorKind::PermissionDenied => "it may not be read",
+        ErrorKind::IsADirectory => "it is a folder",
+        _ => "the system refuses it",
+    };
+    say(rt, &["can't read ", name, ": ", why]);
+    Ok(NOT_READ)
+}

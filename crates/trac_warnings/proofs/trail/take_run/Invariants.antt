@@ -1,0 +1,12 @@
+use Rattle.std.proofs.Common.{◌≡◌, ◌+◌, length}
+use Rattle.std.specs.Prelude.{reverse}
+use Rattle.trac_warnings.specs.Origins.{taken}
+use Rattle.trac_warnings.proofs.trail.take_run.Given as goal
+
+-- what is left to take from the runs that are left gives what is wanted
+abbrev pub invariant-loop : goal.invariant-loop
+invariant-loop l =
+    record {
+      runs : taken l.left (reverse l.runs.items) ≡ taken l.count (reverse l.initial.runs.items);
+      len : length l.runs.items + l.counter ≡ length l.initial.runs.items;
+    }

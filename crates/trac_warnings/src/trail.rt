@@ -1,0 +1,67 @@
+//! The origins of the characters of the active string.
+ghost use Rattle.std.specs.Prelude.{◌≡◌, OnOk, OnErr, reverse};
+ghost use Rattle.trac_warnings.specs.Origins.{first_origin, pushed, shortened, taken};
+
+use crate::origin::Origin;
+use std::alloc::AllocError;
+
+/// Characters that stand beside one another and were written so.
+#[derive(Clone, Copy, Debug, PartialEq, Eq)]
+pub struct Run {
+    /// The origin of the first one.
+    pub origin: Origin,
+    /// How many there are, at least one.
+    pub len: usize,
+}
+
+impl Run {
+    // Without its first characters, fewer than it has.
+    fn shortened(self, count: usize) -> Run
+        ensures { result ≡ shortened count self }
+    {
+        Run {
+            origin: self.origin.behind(count),
+            len: self.len.saturating_sub(count),
+        }
+    }
+}
+
+/// The origin of the first character of runs, whose first one stands last. None where there is none.
+pub fn first_origin(runs: &[Run]) -> Option<Origin>
+    ensures { result ≡ first_origin (reverse runs.now) }
+{
+    match runs {
+        [.., run] => Some(run.origin),
+        [] => None,
+    }
+}
+
+/// Puts characters in front. An error is want of memory, and nothing is changed then.
+pub fn push_run(runs: &mut Vec<Run>, origin: Origin, len: usize) -> Result<(), AllocError>
+    ensures ok { OnOk result (reverse runs.new.items ≡ pushed origin len (reverse runs.old.items)) }
+    ensures err { OnErr result (runs.new.items ≡ runs.old.items) }
+{
+    if len == 0 {
+        return Ok(());
+    }
+    runs.push(Run { origin, len })?;
+    Ok(())
+}
+
+/// Takes the first characters away, or all where there are fewer. An error is want of memory.
+pub fn take_run(runs: &mut Vec<Run>, count: usize) -> Result<(), AllocError>
+    ensures { OnOk result (reverse runs.new.items ≡ taken count (reverse runs.old.items)) }
+{
+    let mut left = count;
+    for _ in 0..runs.len() {
+        let Some(run) = runs.pop() else {
+            return Ok(());
+        };
+        if left < run.len {
+            runs.push(run.shortened(left))?;
+            return Ok(());
+        }
+        left -= run.len;
+    }
+    Ok(())
+}

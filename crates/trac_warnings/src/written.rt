@@ -1,0 +1,151 @@
+//! What is suspicious in how a script is written, before it is run.
+ghost use Rattle.std.specs.Prelude.{◌≡◌, ◌≤◌, length, true};
+ghost use Rattle.trac_warnings.specs.Watched.{Kept};
+
+use crate::origin::Origin;
+use crate::strings::begins_with_mark;
+use crate::warning::{Suspicion, Warning};
+use std::alloc::{AllocError, Global};
+use trac_core::is_layout;
+use trac_functions::function::function_named;
+use trac_space::Cell;
+
+// How many numbered lines are suspicious.
+const FEW_LINES: usize = 3;
+
+/// Adds what is suspicious in how a script is written. An error is want of memory.
+#[tactic(auto, using(crate::proofs::Keeping::kept_same, crate::proofs::Keeping::kept_more, crate::proofs::Keeping::kept_pushed))]
+pub fn look_at_script(
+    warnings: &mut Vec<Warning>,
+    alloc: Global,
+    input: &[u8],
+) -> Result<(), AllocError>
+    ensures { Kept warnings.old.items warnings.new.items }
+{
+    if begins_with_mark(input) {
+        warn_at(warnings, alloc, Suspicion::Mark, 0, &[])?;
+    }
+    if let Some((place, byte)) = other_meta(input) {
+        warn_at(warnings, alloc, Suspicion::OtherMeta, place, &[byte])?;
+    }
+    look_at_lines(warnings, alloc, input)?;
+    look_at_spelling(warnings, alloc, input)
+}
+
+// The byte that seems to end the strings of a script without any apostrophe, behind so many others: the
+// last one that is neither layout nor a blank, where it is no letter, no digit and no right parenthesis.
+fn other_meta(input: &[u8]) -> Option<(usize, u8)> {
+    if input.contains(&b'\'') {
+        return None;
+    }
+    let mut last = None;
+    for (place, byte) in input.iter().enumerate() {
+        if !is_layout(*byte) && *byte != b' ' {
+            last = Some((place, *byte));
+        }
+    }
+    match last {
+        Some((_, byte)) if byte.is_ascii_alphanumeric() || byte == b')' => None,
+        _ => last,
+    }
+}
+
+// Looks for numbers at the heads of lines.
+#[tactic(auto, using(crate::proofs::Keeping::kept_same, crate::proofs::Keeping::kept_more, crate::proofs::Keeping::kept_pushed))]
+fn look_at_lines(warnings: &mut Vec<Warning>, alloc: Global, input: &[u8]) -> Result<(), AllocError>
+    ensures { Kept warnings.old.items warnings.new.items }
+{
+    let mut first = None;
+    let mut count: usize = 0;
+    for place in 0..input.len() {
+        let is_head = place == 0 || input[place - 1] == b'\n';
+        if is_head && is_numbered(&input[place..]) {
+            first = first.or(Some(place));
+            count = count.saturating_add(1);
+        }
+    }
+    match first {
+        Some(place) if count >= FEW_LINES => {
+            warn_at(warnings, alloc, Suspicion::LineNumbers, place, &[])
+        }
+        _ => Ok(()),
+    }
+}
+
+// Whether a line begins with a number and, behind a blank, with a call or a parenthesis.
+fn is_numbered(line: &[u8]) -> bool {
+    let mut rest = line;
+    for _ in 0..line.len() {
+        match rest {
+            [b'0'..=b'9', behind @ ..] => rest = behind,
+            _ => break,
+        }
+    }
+    rest.len() < line.len() && matches!(rest, [b' ', b'#' | b'(' | b':', ..])
+}
+
+// Looks for what is nearly a call.
+#[tactic(auto, using(crate::proofs::Keeping::kept_same, crate::proofs::Keeping::kept_more, crate::proofs::Keeping::kept_pushed))]
+fn look_at_spelling(
+    warnings: &mut Vec<Warning>,
+    alloc: Global,
+    input: &[u8],
+) -> Result<(), AllocError>
+    ensures { Kept warnings.old.items warnings.new.items }
+{
+    for place in 0..input.len() {
+        let rest = &input[place..];
+        if let Some(suspicion) = spelling_at(rest) {
+            warn_at(warnings, alloc, suspicion, place, &[])?;
+        }
+        let is_call = place > 0 && input[place - 1] == b'#';
+        if !is_call && names_function(rest) {
+            warn_at(warnings, alloc, Suspicion::NoNumberSign, place, &rest[1..3])?;
+        }
+    }
+    Ok(())
+}
+
+// What is nearly the beginning of a call at the head of bytes.
+fn spelling_at(bytes: &[u8]) -> Option<Suspicion> {
+    match bytes {
+        [b':', b'(', ..] => Some(Suspicion::Colon),
+        [b'#', b' ', b'(', ..] => Some(Suspicion::Blank),
+        [b'#', b'[', ..] => Some(Suspicion::Bracket),
+        _ => None,
+    }
+}
+
+// Whether a left parenthesis with the name of a function and a comma stands at the head of bytes.
+fn names_function(bytes: &[u8]) -> bool
+    ensures { result ≡ true → 3 ≤ length bytes.now }
+{
+    match *bytes {
+        [b'(', first, second, b',', ..] => {
+            function_named(&[Cell::Byte(first), Cell::Byte(second)]).is_some()
+        }
+        _ => false,
+    }
+}
+
+// Adds a warning of a place of the input.
+#[tactic(auto, using(crate::proofs::Keeping::kept_same, crate::proofs::Keeping::kept_more, crate::proofs::Keeping::kept_pushed))]
+fn warn_at(
+    warnings: &mut Vec<Warning>,
+    alloc: Global,
+    suspicion: Suspicion,
+    place: usize,
+    bytes: &[u8],
+) -> Result<(), AllocError>
+    ensures { Kept warnings.old.items warnings.new.items }
+{
+    let mut text = Vec::new(alloc);
+    text.extend_from_slice(bytes)?;
+    warnings.push(Warning {
+        origin: Origin::in_input(place),
+        suspicion,
+        count: 0,
+        text,
+    })?;
+    Ok(())
+}
