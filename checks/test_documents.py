@@ -1,0 +1,51 @@
+"""The documents: each link leads to a file and a heading that are there, and the words are spelt right."""
+import glob
+import os
+import re
+import subprocess
+import unittest
+
+from trac import TOP
+
+# Words that the list of misspellings takes for others: of the kit, functions, words of scripts and of code.
+WORDS = 'crate,bu,hel,nam,te,upto'
+BLOCK = re.compile(r'^```.*?^```', re.MULTILINE | re.DOTALL)
+LINK = re.compile(r'\]\(([^)#:\s]*)(#[^)]*)?\)')
+HEADING = re.compile(r'^#+ (.*)$', re.MULTILINE)
+
+
+def documents():
+    return [path for where in ('*.md', 'docs/*.md', 'hosts/*/*.md', 'examples/**/*.md', 'editors/*.md', 'conformance/*.md')
+            for path in glob.glob(os.path.join(TOP, where), recursive=True)]
+
+
+def read(path):
+    with open(path, encoding='utf-8') as page:
+        return page.read()
+
+
+def anchors(path):
+    """The names that links give the headings of a document."""
+    heads = HEADING.findall(BLOCK.sub('', read(path)))
+    return {re.sub(r'[^\w\- ]', '', head.lower()).replace(' ', '-') for head in heads}
+
+
+class Documents(unittest.TestCase):
+    def test_links(self):
+        seen = 0
+        for path in documents():
+            for link, anchor in LINK.findall(BLOCK.sub('', read(path))):
+                to = os.path.join(os.path.dirname(path), link) if link else path
+                with self.subTest(page=os.path.relpath(path, TOP), link=link + anchor):
+                    self.assertTrue(os.path.exists(to))
+                    if anchor and to.endswith('.md'):
+                        self.assertIn(anchor[1:], anchors(to))
+                    seen += 1
+        self.assertGreater(seen, 150)
+
+    def test_spelling(self):
+        pages = documents() + glob.glob(os.path.join(TOP, 'docs', '*.[0-9]'))
+        code = glob.glob(os.path.join(TOP, 'crates', '*', 'src', '**', '*.rt'), recursive=True)
+        code += glob.glob(os.path.join(TOP, 'hosts', '*', '*.js')) + [os.path.join(TOP, 'hosts', 'c', 'trac.h')]
+        told = subprocess.run(['codespell', '-L', WORDS, *pages, *code], capture_output=True, text=True, check=False)
+        self.assertEqual(told.stdout, '')
