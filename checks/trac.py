@@ -59,3 +59,8 @@ def trace(script, *words):
     """The lines of a trace of a script, and the status."""
     done = subprocess.run([TRACER, *words], input=script, capture_output=True, timeout=60)
     return done.stdout.decode().splitlines(), done.returncode
+
+
+def whole_trace(script, *words):
+    """The same, with strings of any length as they are."""
+    return trace(script, '--width', '0', *words)

@@ -10,7 +10,7 @@ import unittest
 
 from c_api import SANITIZED, STRICT, Engine, compiled, view
 from rows import rows
-from trac import TOP, make, trace
+from trac import TOP, make, whole_trace
 
 LIBRARY = os.path.join(TOP, 'dist', 'libtrac.a')
 EXAMPLE = os.path.join(TOP, 'examples', 'embedding_c', 'embedding.c')
@@ -43,7 +43,7 @@ def shown(code):
 
 def traced(row):
     """The steps of a row's trace: the rule, the size before it, and both strings after it."""
-    lines, _ = trace(row.script, '--cells', str(row.cells), '--steps', str(row.allowed))
+    lines, _ = whole_trace(row.script, '--cells', str(row.cells), '--steps', str(row.allowed))
     return [(line[8:21].rstrip(), int(line[21:27]), line[35:]) for line in lines
             if re.match(r' *\d+  [a-z]', line)]
 

@@ -9,7 +9,7 @@ import unittest
 import page
 from page import LOOP, PLACE, By, Page, example
 from test_trace import rows as traced
-from trac import TOP, report, trace
+from trac import TOP, report, whole_trace
 from selenium.webdriver.common.keys import Keys
 
 PICTURES = os.path.join(TOP, 'checks', 'pictures')
@@ -78,7 +78,7 @@ class Runs(Page):
                 self.run_script(script, '', cells, steps)
                 self.assertTrue(self.text('fate').startswith(words), self.text('fate'))
                 self.assertTrue(self.text('rule-says').endswith(last), self.text('rule-says'))
-                lines, _ = trace(script.encode(), '--cells', str(cells), '--steps', str(steps))
+                lines, _ = whole_trace(script.encode(), '--cells', str(cells), '--steps', str(steps))
                 self.assertEqual(self.strings(), traced(lines)[-1][4:])
                 output, done, _, _ = report(
                     script, '--cells', str(cells), '--steps', str(steps))
@@ -114,7 +114,7 @@ class Runs(Page):
 class Steps(Page):
     def test_strings_of_steps(self):
         for script in (example('factorial.trac').decode(), "#(ps,(é\t,)##(ps,(\\)))x'"):
-            lines = traced(trace(script.encode(), '--steps', '1000000')[0])
+            lines = traced(whole_trace(script.encode(), '--steps', '1000000')[0])
             self.run_script(script)
             last = len(lines)
             self.assertEqual(self.steps(), (last, last))
@@ -128,7 +128,7 @@ class Steps(Page):
 
     def test_buttons(self):
         script = example('factorial.trac')
-        lines = traced(trace(script, '--steps', '1000000')[0])
+        lines = traced(whole_trace(script, '--steps', '1000000')[0])
         calls = [number - 1 for number, rule, *_ in lines if rule == 'end of call']
         self.run_script(script.decode())
         self.wait_for_calls()
@@ -181,7 +181,7 @@ class Steps(Page):
     def test_block(self):
         script = "#(ds,a,bcd)#(ps,x)'"
         self.run_script(script, '', 100)
-        lines = traced(trace(script.encode(), '--cells', '100')[0])
+        lines = traced(whole_trace(script.encode(), '--cells', '100')[0])
         for step in (8, 20, len(lines) - 1):
             self.go(step)
             told = self.find('block').get_attribute('aria-label')

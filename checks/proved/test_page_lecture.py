@@ -11,7 +11,7 @@ import page
 from page import LOOP, PLACE, By, Page, example
 from selenium.webdriver.common.keys import Keys
 from test_trace import rows as traced
-from trac import TOP, run, trace
+from trac import TOP, run, whole_trace
 
 sys.path.insert(0, os.path.join(TOP, 'hosts', 'page'))
 import make  # noqa: E402
@@ -291,7 +291,7 @@ class Long(Lecture):
                             ('steps', 100000000)):
             self.put(name, value)
         gaps = []
-        while len(gaps) < 4 and not (gaps and gaps[-1] < 100):
+        while len(gaps) < 8 and not (gaps and gaps[-1] < 100):
             gaps.append(browser.execute_async_script(self.GAP))
         self.assertLess(min(gaps), 100)
         self.wait(self.is_at_rest)
@@ -435,7 +435,7 @@ class Steps(Lecture):
 
     def test_jumps(self):
         script = "#(ds,a,x)'#(ps,one)#(cl,a)'#(ds,a,y)#(ps,two)#(ds,a,y)'"
-        lines = traced(trace(script.encode())[0])
+        lines = traced(whole_trace(script.encode())[0])
         self.through(script)
         self.jump('change')
         self.assertEqual(self.rule(), 'end of call')
@@ -587,7 +587,7 @@ class Files(Lecture):
         self.run_script(script.decode())
         lines = self.saved('save-trace', 'trace.txt').decode().splitlines()[1:]
         wanted = [f'{number:6}  {rule:13}{size:6}  {neutral}|{active}' for number, rule, size, _, neutral, active in
-                  traced(trace(script, '--steps', '1000000')[0])]
+                  traced(whole_trace(script, '--steps', '1000000')[0])]
         self.assertEqual(lines, wanted)
 
     def test_a_link_with_a_step(self):
