@@ -17,8 +17,8 @@ ghost use Rattle.trac_forms.specs.Stored.{shown};
 
 use crate::item::FormId;
 use crate::work::Work;
-use trac_space::Space;
-use trac_store::{fill_items, heads_of, load_form, place_of};
+use trac_space::{Part, Space};
+use trac_store::{Located, fill_items, heads_of, load_form, place_of};
 
 impl<'a> Work<'a> {
     /// Puts the items of the form's body from its pointer on at the end of neutral, each gap of
@@ -36,10 +36,18 @@ impl<'a> Work<'a> {
         ensures full { OnFalse result (self.new ≡ self.old) }
         ensures sound { IsSound self.new }
     {
-        if self.last != form.0 {
+        if self.last.number != form.0 {
             return self.fill_other(form, first, end);
         }
-        fill_form(&mut self.space, form.0, self.start, first, end)
+        let texts = Part {
+            from: first,
+            to: end,
+        };
+        let here = Located {
+            number: form.0,
+            start: self.last.start,
+        };
+        fill_form(&mut self.space, here, texts)
     }
 
     // The same, where another form was used last.
@@ -56,8 +64,16 @@ impl<'a> Work<'a> {
         ensures full { OnFalse result (self.new ≡ self.old) }
         ensures sound { IsSound self.new }
     {
-        let start = place_of(&self.space, self.last, self.start, form.0);
-        fill_form(&mut self.space, form.0, start, first, end)
+        let start = place_of(&self.space, self.last, form.0);
+        let form = Located {
+            number: form.0,
+            start,
+        };
+        let texts = Part {
+            from: first,
+            to: end,
+        };
+        fill_form(&mut self.space, form, texts)
     }
 }
 
@@ -72,23 +88,27 @@ impl<'a> Work<'a> {
             (λ n. IsLoaded self.old self.new body n) }
         ensures sound { IsSound self.new }
     {
-        let start = place_of(&self.space, self.last, self.start, form.0);
-        load_form(&mut self.space, form.0, start)
+        let start = place_of(&self.space, self.last, form.0);
+        let form = Located {
+            number: form.0,
+            start,
+        };
+        load_form(&mut self.space, form)
     }
 }
 
-// As `fill_body`, of form `k`, which begins at a place of the store.
+// As `fill_body`, of a form whose place is known.
 #[inline(always)]
-fn fill_form(space: &mut Space, k: u32, start: u32, first: u32, end: u32) -> bool
+fn fill_form(space: &mut Space, form: Located, texts: Part) -> bool
     requires whole { flat_forms (forms_in space.old.store) ≡ space.old.store }
     requires bounded { length space.old.store ≤ 16777216 }
     requires forms { IsStore (forms_in space.old.store) }
-    requires known { k < length (forms_in space.old.store) }
-    requires begins { start ≡ start_of (forms_in space.old.store) k }
-    requires arguments { AreParted space.old.neutral first end }
-    ensures put { let text = filled_body (shown space.old) k first end in
+    requires known { form.number < length (forms_in space.old.store) }
+    requires begins { form.start ≡ start_of (forms_in space.old.store) form.number }
+    requires arguments { AreParted space.old.neutral texts.from texts.to }
+    ensures put { let text = filled_body (shown space.old) form.number texts.from texts.to in
         IsTrue result ↔ (cells_used space.old + length text ≤ space.old.room) }
-    ensures last { let text = filled_body (shown space.old) k first end in
+    ensures last { let text = filled_body (shown space.old) form.number texts.from texts.to in
         OnTrue result (space.new ≡ record space.old {
           neutral = space.old.neutral ++ flat_text text;
           spare = space.new.spare;
@@ -96,7 +116,11 @@ fn fill_form(space: &mut Space, k: u32, start: u32, first: u32, end: u32) -> boo
     ensures full { OnFalse result (space.new ≡ record space.old { spare = space.new.spare }) }
     ensures kept { IsKept space.old.spare space.new.spare }
 {
-    let (name, body, pointer) = heads_of(space, (k, start));
-    let place = start + 3 + name;
-    fill_items(space, place + pointer, place + body, first, end)
+    let (name, body, pointer) = heads_of(space, form);
+    let place = form.start + 3 + name;
+    let items = Part {
+        from: place + pointer,
+        to: place + body,
+    };
+    fill_items(space, items, texts)
 }

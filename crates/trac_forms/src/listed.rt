@@ -155,7 +155,7 @@ impl<'a> Work<'a> {
         requires { form_place form < length self.now.forms }
         ensures { result ≡ form_at self.now.forms (form_place form) }
     {
-        let start = place_of(&self.space, self.last, self.start, form.0);
+        let start = place_of(&self.space, self.last, form.0);
         let (name, body, pointer) = heads(&self.space, start);
         let from = start + 3 + name;
         StoredForm {

@@ -1,5 +1,5 @@
 -- Forms that are marked, and then removed.
-use Rattle.trac_store.proofs.Words.{◌≡◌, ◌<◌, ℕ, zero, suc, ◌+◌, ◌≤◌, Bool, true, false, List, [], ◌∷◌, length, set, slice_range, sym, ap, refl, ◌∙◌, subst, arith, ◌⊎◌, ⊎_elim, if◌then◌else◌, filter, not, ◌||◌, ◌==◌, length-append, length-set, get_or-set_other, All-head}
+use Rattle.trac_store.proofs.Words.{Located, ◌≡◌, ◌<◌, ℕ, zero, suc, ◌+◌, ◌≤◌, Bool, true, false, List, [], ◌∷◌, length, set, slice_range, sym, ap, refl, ◌∙◌, subst, arith, ◌⊎◌, ⊎_elim, if◌then◌else◌, filter, not, ◌||◌, ◌==◌, length-append, length-set, get_or-set_other, All-head}
 use Rattle.trac_store.proofs.Words.{All-tail, Text, Form, is_named, NoneNamed, IsStore, Cell, Head, Lists, flat_form, flat_forms, form_at, IsNamedAt, IsTextPart, part_text, part_texts, before_comma, parts_between, texts_between, AreParted, IsPlace, forms_in, start_of}
 use Rattle.trac_store.proofs.Words.{is_among, without_all, mark, is_marked, marked, marked_if, with_marks, unmarked, HaveOwnNames, IsFormed, IsMarkedFrom, begins}
 use Rattle.trac_store.proofs.FlatLemmas.{forms_in-flat, length-flat_form}
@@ -88,17 +88,17 @@ pub no-mark : (n : ℕ) → n ≤ 16777216 → (n == mark) ≡ false
 no-mark n small = grind arith
 
 -- where the first mark is or may be, once a form is marked
-pub marked-from : (forms : List Form) (k start : ℕ) (first now : ℕ × ℕ) → IsMarkedFrom forms first.0 first.1 → k < length forms → start ≡ start_of forms k → (now ≡ first) ⊎ (now ≡ (k, start)) → now.0 ≤ first.0 → now.0 ≤ k → IsMarkedFrom (set forms k (marked (form_at forms k))) now.0 now.1
+pub marked-from : (forms : List Form) (k start : ℕ) (first now : Located) → IsMarkedFrom forms first.number first.start → k < length forms → start ≡ start_of forms k → (now ≡ first) ⊎ (now ≡ record { number = k; start = start }) → now.number ≤ first.number → now.number ≤ k → IsMarkedFrom (set forms k (marked (form_at forms k))) now.number now.start
 marked-from forms k start first now h within begins one before order =
     let form = marked (form_at forms k) in
-    let place : IsPlace forms now.0 now.1 = ⊎_elim
-    (λ e. subst (λ (at : ℕ × ℕ). IsPlace forms at.0 at.1) (sym e) h.place)
-    (λ e. subst (λ (at : ℕ × ℕ). IsPlace forms at.0 at.1) (sym e) (record { within = omega (arith, within); start_is = begins }))
+    let place : IsPlace forms now.number now.start = ⊎_elim
+    (λ e. subst (λ (at : Located). IsPlace forms at.number at.start) (sym e) h.place)
+    (λ e. subst (λ (at : Located). IsPlace forms at.number at.start) (sym e) (record { within = omega (arith, within); start_is = begins }))
     one in
     record {
       place = record {
         within = omega (arith, place.within, length-set forms k form);
-        start_is = place.start_is ∙ sym (same_start (record (form_at forms k) { pointer = mark }) forms k now.0 refl);
+        start_is = place.start_is ∙ sym (same_start (record (form_at forms k) { pointer = mark }) forms k now.number refl);
       };
       plain = λ j less.
           let other = get_or-set_other forms k j form (record { name = []; body = []; pointer = 0 }) (λ e. absurd (omega (arith, e, less, order))) in

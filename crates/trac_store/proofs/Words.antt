@@ -33,6 +33,8 @@ pub use Rattle.trac_space.specs.Overlay.{HaveNumbers, over, takes_number, under}
 pub use Rattle.trac_space.specs.Texts.{IsByte, byte_cell_at, character_of, flat_text, is_byte_cell, text_of_cells}
 pub use Rattle.trac_space.specs.declared.cell.Cell.{Cell}
 pub use Rattle.trac_space.specs.declared.cell.Cell.TheVariants.{Byte, Call, Comma, Gap, Head}
+pub use Rattle.trac_space.specs.declared.part.Part.{Part}
+pub use Rattle.trac_store.specs.declared.located.Located.{Located}
 pub use Rattle.trac_store.specs.Arguments.{AreParted, IsHeadAt, before_comma, filled_cells, parts_between, texts_between}
 pub use Rattle.trac_store.specs.Borders.{AreLaid, GoesOn, HaveBorders, IsBorder, IsLongestBorder, IsNextBorder, byte_at, laid_text}
 pub use Rattle.trac_store.specs.FlatForms.{flat_form, flat_forms, flat_item}

@@ -10,8 +10,9 @@ ghost use Rattle.trac_store.specs.Index.{IsIndexed, IsKept};
 ghost use Rattle.trac_store.specs.Stored.{forms_in, start_of, head_at, IsFoundAt};
 
 use crate::index::unindex;
+use crate::located::Located;
 use crate::store::head;
-use trac_space::{Cell, Space};
+use trac_space::{Cell, Part, Space};
 
 // Takes the form that begins at `start` out of the store.
 fn remove_form(space: &mut Space, start: u32)
@@ -29,50 +30,45 @@ fn remove_form(space: &mut Space, start: u32)
     space.remove_store(start, start + cells);
 }
 
-/// Takes form `k` of `count`, which begins at `start`, out of the store and of the index.
-pub fn take_out(space: &mut Space, k: u32, start: u32, count: u32)
+/// Takes a form, one of `count`, out of the store and of the index.
+pub fn take_out(space: &mut Space, form: Located, count: u32)
     requires whole { flat_forms (forms_in space.old.store) ≡ space.old.store }
     requires bounded { length space.old.store ≤ 16777216 }
     requires count_is { count ≡ length (forms_in space.old.store) }
-    requires within { k < count }
-    requires begins { start ≡ start_of (forms_in space.old.store) k }
+    requires within { form.number < count }
+    requires begins { form.start ≡ start_of (forms_in space.old.store) form.number }
     requires index { IsIndexed space.old.spare (forms_in space.old.store) }
-    ensures gone { let rest = remove (forms_in space.old.store) k in
+    ensures gone { let rest = remove (forms_in space.old.store) form.number in
         space.new ≡ record space.old { store = flat_forms rest; spare = space.new.spare } }
-    ensures index { IsIndexed space.new.spare (remove (forms_in space.old.store) k) }
+    ensures index { IsIndexed space.new.spare (remove (forms_in space.old.store) form.number) }
 {
-    unindex(space, k, start, count);
-    remove_form(space, start);
+    unindex(space, form, count);
+    remove_form(space, form.start);
 }
 
 /// Takes the form that was found for a name, a part of neutral, out of the store, if there is one,
 /// and gives how many forms there are then.
-pub fn remove_found(
-    space: &mut Space,
-    count: u32,
-    found: Option<(u32, u32)>,
-    name: (u32, u32),
-) -> u32
+pub fn remove_found(space: &mut Space, count: u32, found: Option<Located>, name: Part) -> u32
     requires whole { flat_forms (forms_in space.old.store) ≡ space.old.store }
     requires bounded { length space.old.store ≤ 16777216 }
     requires count_is { count ≡ length (forms_in space.old.store) }
     requires distinct { IsStore (forms_in space.old.store) }
-    requires found { let named = part_text space.old.neutral name.0 name.1 in
+    requires found { let named = part_text space.old.neutral name.from name.to in
         MatchOption found
         (NoneNamed named (forms_in space.old.store))
-        (λ form. IsFoundAt (forms_in space.old.store) named form.0 form.1) }
+        (λ form. IsFoundAt (forms_in space.old.store) named form.number form.start) }
     requires index { IsIndexed space.old.spare (forms_in space.old.store) }
-    ensures gone { let named = part_text space.old.neutral name.0 name.1 in
+    ensures gone { let named = part_text space.old.neutral name.from name.to in
         let rest = without named (forms_in space.old.store) in
         space.new ≡ record space.old { store = flat_forms rest; spare = space.new.spare } }
-    ensures index { let named = part_text space.old.neutral name.0 name.1 in
+    ensures index { let named = part_text space.old.neutral name.from name.to in
         IsIndexed space.new.spare (without named (forms_in space.old.store)) }
-    ensures count { let named = part_text space.old.neutral name.0 name.1 in
+    ensures count { let named = part_text space.old.neutral name.from name.to in
         result ≡ length (without named (forms_in space.old.store)) }
 {
     match found {
-        Some((k, start)) => {
-            take_out(space, k, start, count);
+        Some(form) => {
+            take_out(space, form, count);
             count - 1
         }
         None => count,
@@ -80,13 +76,13 @@ pub fn remove_found(
 }
 
 /// Puts the cells of a new form, of which there are `need`, at the end of the store.
-pub fn store_form(space: &mut Space, need: u32, name: (u32, u32), text: (u32, u32))
-    requires name_part { IsTextPart space.old.neutral name.0 name.1 }
-    requires text_part { IsTextPart space.old.neutral text.0 text.1 }
-    requires need { need ≡ 3 + (name.1 - name.0) + (text.1 - text.0) }
+pub fn store_form(space: &mut Space, need: u32, name: Part, text: Part)
+    requires name_part { IsTextPart space.old.neutral name.from name.to }
+    requires text_part { IsTextPart space.old.neutral text.from text.to }
+    requires need { need ≡ 3 + (name.to - name.from) + (text.to - text.from) }
     requires room { lists.used space.old + need ≤ space.old.room }
     ensures kept { IsKept space.old.spare space.new.spare }
-    ensures stored { let form = new_form space.old.neutral name.0 name.1 text.0 text.1 in
+    ensures stored { let form = new_form space.old.neutral name.from name.to text.from text.to in
         space.new ≡ record space.old {
           store = space.old.store ++ flat_form form;
           spare = space.new.spare;
@@ -100,18 +96,18 @@ pub fn store_form(space: &mut Space, need: u32, name: (u32, u32), text: (u32, u3
 }
 
 // Writes the cells of a new form over the last ones of the store, from a place on.
-fn write_form(space: &mut Space, start: u32, name: (u32, u32), text: (u32, u32))
-    requires name_part { IsTextPart space.old.neutral name.0 name.1 }
-    requires text_part { IsTextPart space.old.neutral text.0 text.1 }
+fn write_form(space: &mut Space, start: u32, name: Part, text: Part)
+    requires name_part { IsTextPart space.old.neutral name.from name.to }
+    requires text_part { IsTextPart space.old.neutral text.from text.to }
     requires bounded { length space.old.store ≤ 16777216 }
     requires last { length space.old.store ≡
-        start + (3 + (name.1 - name.0) + (text.1 - text.0)) }
-    ensures { let form = new_form space.old.neutral name.0 name.1 text.0 text.1 in
+        start + (3 + (name.to - name.from) + (text.to - text.from)) }
+    ensures { let form = new_form space.old.neutral name.from name.to text.from text.to in
         space.new ≡ record space.old { store = take start space.old.store ++ flat_form form } }
 {
-    space.write_store(start, Cell::Head(name.1 - name.0));
-    space.write_store(start + 1, Cell::Head(text.1 - text.0));
+    space.write_store(start, Cell::Head(name.to - name.from));
+    space.write_store(start + 1, Cell::Head(text.to - text.from));
     space.write_store(start + 2, Cell::Head(0));
-    space.write_part(start + 3, name.0, name.1);
-    space.write_part(start + 3 + (name.1 - name.0), text.0, text.1);
+    space.write_part(start + 3, name.from, name.to);
+    space.write_part(start + 3 + (name.to - name.from), text.from, text.to);
 }

@@ -14,114 +14,129 @@ ghost use Rattle.trac_store.specs.Stored.{forms_in};
 
 use crate::arguments::before_comma;
 use crate::index::{index_from, keep_index, unindex_from};
+use crate::located::Located;
 use crate::store::{find_named, heads};
-use trac_space::{Cell, Space};
+use trac_space::{Cell, Part, Space};
 
 // The pointer of a form that is to go.
 const MARK: u32 = u32::MAX;
 
-/// Marks each form whose name stands between two comma marks of neutral from a place up to another.
-/// Gives a place in the list before which none has a mark, and where that form begins. `last` and
-/// `toil` are those of `find_named`.
+/// Marks each form whose name stands between two comma marks of a part of neutral. Gives a form
+/// before which none has a mark. `last` and `search_cost` are those of `find_named`.
 pub fn mark_all(
     space: &mut Space,
     count: u32,
-    last: (u32, u32),
-    names: (u32, u32),
-    toil: &mut u32,
-) -> (u32, u32)
-    requires formed { IsFormed space.old count last.0 last.1 }
-    requires names { AreParted space.old.neutral names.0 names.1 }
+    last: Located,
+    names: Part,
+    search_cost: &mut u32,
+) -> Located
+    requires formed { IsFormed space.old count last.number last.start }
+    requires names { AreParted space.old.neutral names.from names.to }
     requires plain { let forms = forms_in space.old.store in
         IsMarkedFrom forms (length forms) (length space.old.store) }
-    ensures marked { let texts = texts_between space.old.neutral names.0 names.1 in
+    ensures marked { let texts = texts_between space.old.neutral names.from names.to in
         let forms = with_marks texts (forms_in space.old.store) in
         space.new ≡ record space.old { store = flat_forms forms; spare = space.new.spare } }
-    ensures first { IsMarkedFrom (forms_in space.new.store) result.0 result.1 }
+    ensures first { IsMarkedFrom (forms_in space.new.store) result.number result.start }
     ensures index { IsIndexed space.new.spare (forms_in space.new.store) }
 {
-    let mut places = (last, (count, space.store_len()));
-    let mut from = names.0;
-    while from <= names.1 {
-        let to = from + before_comma(space.neutral_part(from, names.1));
-        keep_index(space, count, toil);
-        places = mark_named(space, count, places, (from, to), toil);
+    let end = Located {
+        number: count,
+        start: space.store_len(),
+    };
+    let mut places = Marking { last, first: end };
+    let mut from = names.from;
+    while from <= names.to {
+        let to = from + before_comma(space.neutral_part(from, names.to));
+        keep_index(space, count, search_cost);
+        places = mark_named(space, count, places, Part { from, to }, search_cost);
         from = to + 1;
     }
-    places.1
+    places.first
 }
 
-// Marks the form whose name is the part of neutral, if there is one. Is told and gives two places of
-// the list, each with where that form begins: that of the form used last, and one before which no
-// form has a mark.
+// The form used last, and one before which no form has a mark.
+#[derive(Clone, Copy)]
+struct Marking {
+    last: Located,
+    first: Located,
+}
+
+// Marks the form whose name is the part of neutral, if there is one.
 fn mark_named(
     space: &mut Space,
     count: u32,
-    places: ((u32, u32), (u32, u32)),
-    name: (u32, u32),
-    toil: &mut u32,
-) -> ((u32, u32), (u32, u32))
-    requires formed { IsFormed space.old count places.0.0 places.0.1 }
-    requires first { IsMarkedFrom (forms_in space.old.store) places.1.0 places.1.1 }
-    requires name_part { IsTextPart space.old.neutral name.0 name.1 }
-    ensures marked { let named = part_text space.old.neutral name.0 name.1 in
+    places: Marking,
+    name: Part,
+    search_cost: &mut u32,
+) -> Marking
+    requires formed { IsFormed space.old count places.last.number places.last.start }
+    requires first { IsMarkedFrom (forms_in space.old.store) places.first.number places.first.start }
+    requires name_part { IsTextPart space.old.neutral name.from name.to }
+    ensures marked { let named = part_text space.old.neutral name.from name.to in
         let forms = with_marks (named ∷ []) (forms_in space.old.store) in
         space.new ≡ record space.old { store = flat_forms forms } }
-    ensures formed { IsFormed space.new count result.0.0 result.0.1 }
-    ensures first { IsMarkedFrom (forms_in space.new.store) result.1.0 result.1.1 }
+    ensures formed { IsFormed space.new count result.last.number result.last.start }
+    ensures first { IsMarkedFrom (forms_in space.new.store) result.first.number result.first.start }
 {
-    match find_named(space, count, places.0, name, toil) {
-        Some((k, start)) => {
-            space.write_store(start + 2, Cell::Head(MARK));
-            ((k, start), earlier(places.1, (k, start)))
+    match find_named(space, count, places.last, name, search_cost) {
+        Some(form) => {
+            space.write_store(form.start + 2, Cell::Head(MARK));
+            Marking {
+                last: form,
+                first: earlier(places.first, form),
+            }
         }
         None => places,
     }
 }
 
-// The place that comes first in the list.
-fn earlier(a: (u32, u32), b: (u32, u32)) -> (u32, u32)
+// The form that comes first in the list.
+fn earlier(a: Located, b: Located) -> Located
     ensures one { (result ≡ a) ⊎ (result ≡ b) }
-    ensures first { result.0 ≤ a.0 }
-    ensures second { result.0 ≤ b.0 }
+    ensures first { result.number ≤ a.number }
+    ensures second { result.number ≤ b.number }
 {
-    if b.0 < a.0 { b } else { a }
+    if b.number < a.number { b } else { a }
 }
 
-/// Takes the marked forms out of the store and of the index, none of which stands before a place of
-/// the list. Gives how many there are then.
-pub fn take_out_marked(space: &mut Space, first: (u32, u32), count: u32) -> u32
+/// Takes the marked forms out of the store and of the index, none of which stands before `first`.
+/// Gives how many there are then.
+pub fn take_out_marked(space: &mut Space, first: Located, count: u32) -> u32
     requires whole { flat_forms (forms_in space.old.store) ≡ space.old.store }
     requires bounded { length space.old.store ≤ 16777216 }
     requires count_is { count ≡ length (forms_in space.old.store) }
-    requires first { IsMarkedFrom (forms_in space.old.store) first.0 first.1 }
+    requires first { IsMarkedFrom (forms_in space.old.store) first.number first.start }
     requires index { IsIndexed space.old.spare (forms_in space.old.store) }
     ensures gone { let forms = unmarked (forms_in space.old.store) in
         space.new ≡ record space.old { store = flat_forms forms; spare = space.new.spare } }
     ensures count { result ≡ length (unmarked (forms_in space.old.store)) }
     ensures index { IsIndexed space.new.spare (unmarked (forms_in space.old.store)) }
 {
-    unindex_from(space, first.0, count);
+    unindex_from(space, first.number, count);
     let count = remove_marked(space, first, count);
     index_from(space, first, count);
     count
 }
 
-// Takes the marked forms out of the store, none of which stands before a place of the list, and
-// gives how many there are then.
-fn remove_marked(space: &mut Space, first: (u32, u32), count: u32) -> u32
+// Takes the marked forms out of the store, none of which stands before `first`, and gives how many
+// there are then.
+fn remove_marked(space: &mut Space, first: Located, count: u32) -> u32
     requires whole { flat_forms (forms_in space.old.store) ≡ space.old.store }
     requires bounded { length space.old.store ≤ 16777216 }
     requires count_is { count ≡ length (forms_in space.old.store) }
-    requires first { IsMarkedFrom (forms_in space.old.store) first.0 first.1 }
+    requires first { IsMarkedFrom (forms_in space.old.store) first.number first.start }
     ensures gone { let forms = unmarked (forms_in space.old.store) in
         space.new ≡ record space.old { store = flat_forms forms } }
     ensures count { result ≡ length (unmarked (forms_in space.old.store)) }
 {
-    let mut kept = first.0;
-    let mut gap = (first.1, first.1);
-    let mut from = first.1;
-    for _form in first.0..count {
+    let mut kept = first.number;
+    let mut gap = Part {
+        from: first.start,
+        to: first.start,
+    };
+    let mut from = first.start;
+    for _form in first.number..count {
         let (name, body, pointer) = heads(space, from);
         let end = from + 3 + name + body;
         if pointer == MARK {
@@ -131,28 +146,31 @@ fn remove_marked(space: &mut Space, first: (u32, u32), count: u32) -> u32
         }
         from = end;
     }
-    space.remove_store(gap.0, gap.1);
+    space.remove_store(gap.from, gap.to);
     kept
 }
 
 // Moves what stands behind the gap up to place `from` to where the gap begins. Gives the gap then,
 // which has the cells up to `end`.
-fn move_gap(space: &mut Space, gap: (u32, u32), from: u32, end: u32) -> (u32, u32)
-    requires gap { gap.0 ≤ gap.1 }
-    requires order { gap.1 ≤ from }
+fn move_gap(space: &mut Space, gap: Part, from: u32, end: u32) -> Part
+    requires gap { gap.from ≤ gap.to }
+    requires order { gap.to ≤ from }
     requires more { from ≤ end }
     requires within { end ≤ length space.old.store }
-    ensures begin { result.0 ≡ gap.0 + (from - gap.1) }
-    ensures end { result.1 ≡ end }
+    ensures begin { result.from ≡ gap.from + (from - gap.to) }
+    ensures end { result.to ≡ end }
     ensures moved { let store = space.old.store in
-        let cells = slice_range store gap.1 from in
+        let cells = slice_range store gap.to from in
         space.new ≡ record space.old {
-          store = take gap.0 store ++ cells ++ drop (gap.0 + (from - gap.1)) store;
+          store = take gap.from store ++ cells ++ drop (gap.from + (from - gap.to)) store;
         } }
 {
-    if gap.0 == gap.1 {
-        return (from, end);
+    if gap.from == gap.to {
+        return Part { from, to: end };
     }
-    space.move_in_store(gap.1, from, gap.0);
-    (gap.0 + (from - gap.1), end)
+    space.move_in_store(gap.to, from, gap.from);
+    Part {
+        from: gap.from + (from - gap.to),
+        to: end,
+    }
 }

@@ -8,7 +8,7 @@ ghost use Rattle.trac_store.specs.Search.{IsLast};
 ghost use Rattle.trac_store.specs.Gaps.{is_gap_cell, gap_cell_at, text_cells_at};
 
 use crate::borders::{first_place, lay_borders};
-use trac_space::{Cell, Space, is_character};
+use trac_space::{Cell, Part, Space, is_character};
 
 // Whether the cell is a gap.
 #[inline]
@@ -68,29 +68,29 @@ pub fn last_character(cells: &[Cell], from: u32) -> Option<u32>
     None
 }
 
-/// The first place at `from` or after at which the part of neutral stands in the store from one
-/// place up to another. None where there is none.
+/// The first place at `from` or after at which the part of neutral stands in a part of the store.
+/// None where there is none.
 ///
-/// Places count from the first of these. One pass over the cells of the store, and two over the
+/// Places count from the first of the cells of the store. One pass over the cells of the store, and two over the
 /// part; afterwards nothing has changed.
-pub fn find_text(space: &mut Space, body: (u32, u32), from: u32, part: (u32, u32)) -> Option<u32>
-    requires order { body.0 ≤ body.1 }
-    requires within { body.1 ≤ length space.old.store }
-    requires bounded { body.1 ≤ 16777216 }
-    requires begin { from ≤ body.1 - body.0 }
-    requires text_part { IsTextPart space.old.neutral part.0 part.1 }
-    requires text_bounded { part.1 ≤ 16777216 }
-    requires some { part.0 < part.1 }
-    ensures found { let text = part_text space.old.neutral part.0 part.1 in
-        let cells = slice_range space.old.store body.0 body.1 in
+pub fn find_text(space: &mut Space, body: Part, from: u32, part: Part) -> Option<u32>
+    requires order { body.from ≤ body.to }
+    requires within { body.to ≤ length space.old.store }
+    requires bounded { body.to ≤ 16777216 }
+    requires begin { from ≤ body.to - body.from }
+    requires text_part { IsTextPart space.old.neutral part.from part.to }
+    requires text_bounded { part.to ≤ 16777216 }
+    requires some { part.from < part.to }
+    ensures found { let text = part_text space.old.neutral part.from part.to in
+        let cells = slice_range space.old.store body.from body.to in
         MatchOption result
         (NonePasses (text_cells_at text cells) from (length cells))
         (λ place. IsFirst (text_cells_at text cells) from (length cells) place) }
     ensures same { space.new ≡ space.old }
 {
     lay_borders(space, part);
-    let text = space.neutral_part(part.0, part.1);
-    let found = first_place(space.store_part(body.0, body.1), from, text);
-    space.lift_neutral(part.0, part.1);
+    let text = space.neutral_part(part.from, part.to);
+    let found = first_place(space.store_part(body.from, body.to), from, text);
+    space.lift_neutral(part.from, part.to);
     found
 }

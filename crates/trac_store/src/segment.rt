@@ -8,7 +8,7 @@ ghost use Rattle.trac_store.specs.Gaps.{is_byte, text_cells_at, segment_cells, s
 ghost use Rattle.trac_store.specs.Search.{NonePasses, IsFirst};
 
 use crate::borders::{first_place, lay_borders};
-use trac_space::{Cell, Space};
+use trac_space::{Cell, Part, Space};
 
 // Whether both cells are the same byte.
 #[inline]
@@ -22,60 +22,61 @@ pub(crate) fn is_same_byte(cell: Cell, byte: Cell) -> bool
     }
 }
 
-// The first place of the store from `from` up to `to` at which the text stands, over which its borders
-// lie. None where there is none.
-fn next_place(space: &Space, from: u32, to: u32, text: (u32, u32)) -> Option<u32>
-    requires order { from ≤ to }
-    requires within { to ≤ length space.now.store }
-    requires bounded { to ≤ 16777216 }
-    requires text_order { text.0 < text.1 }
-    requires text_within { text.1 ≤ length space.now.neutral }
-    requires text_bounded { text.1 ≤ 16777216 }
-    requires borders { let cells = slice_range space.now.neutral text.0 text.1 in
+// The first place of a part of the store at which the text stands, over which its borders lie. None
+// where there is none.
+fn next_place(space: &Space, body: Part, text: Part) -> Option<u32>
+    requires order { body.from ≤ body.to }
+    requires within { body.to ≤ length space.now.store }
+    requires bounded { body.to ≤ 16777216 }
+    requires text_order { text.from < text.to }
+    requires text_within { text.to ≤ length space.now.neutral }
+    requires text_bounded { text.to ≤ 16777216 }
+    requires borders { let cells = slice_range space.now.neutral text.from text.to in
         HaveBorders cells (length cells) }
-    ensures { let bytes = laid_text (slice_range space.now.neutral text.0 text.1) in
-        let cells = slice_range space.now.store from to in
+    ensures { let bytes = laid_text (slice_range space.now.neutral text.from text.to) in
+        let cells = slice_range space.now.store body.from body.to in
         MatchOption result
         (NonePasses (text_cells_at bytes cells) 0 (length cells))
-        (λ place. (from ≤ place) × (place + (text.1 - text.0) ≤ to)
-        × IsFirst (text_cells_at bytes cells) 0 (length cells) (place - from)) }
+        (λ place. (body.from ≤ place) × (place + (text.to - text.from) ≤ body.to)
+        × IsFirst (text_cells_at bytes cells) 0 (length cells) (place - body.from)) }
 {
-    let cells = space.store_part(from, to);
-    match first_place(cells, 0, space.neutral_part(text.0, text.1)) {
-        Some(place) => Some(from + place),
+    let cells = space.store_part(body.from, body.to);
+    match first_place(cells, 0, space.neutral_part(text.from, text.to)) {
+        Some(place) => Some(body.from + place),
         None => None,
     }
 }
 
-// Makes each occurrence of a text, over which its borders lie, a gap, in the store from place `from`
-// up to `to`, and gives the new end.
-fn make_gaps(space: &mut Space, from: u32, to: u32, text: (u32, u32), ordinal: u32) -> u32
-    requires order { from ≤ to }
-    requires within { to ≤ length space.old.store }
-    requires bounded { to ≤ 16777216 }
-    requires text_order { text.0 < text.1 }
-    requires text_within { text.1 ≤ length space.old.neutral }
-    requires text_bounded { text.1 ≤ 16777216 }
-    requires borders { let cells = slice_range space.old.neutral text.0 text.1 in
+// Makes each occurrence of a text, over which its borders lie, a gap in a part of the store, and
+// gives the new end.
+fn make_gaps(space: &mut Space, body: Part, text: Part, ordinal: u32) -> u32
+    requires order { body.from ≤ body.to }
+    requires within { body.to ≤ length space.old.store }
+    requires bounded { body.to ≤ 16777216 }
+    requires text_order { text.from < text.to }
+    requires text_within { text.to ≤ length space.old.neutral }
+    requires text_bounded { text.to ≤ 16777216 }
+    requires borders { let cells = slice_range space.old.neutral text.from text.to in
         HaveBorders cells (length cells) }
-    ensures after { let bytes = laid_text (slice_range space.old.neutral text.0 text.1) in
-        let gapped = segment_cells bytes ordinal 0 (slice_range space.old.store from to) in
+    ensures after { let bytes = laid_text (slice_range space.old.neutral text.from text.to) in
+        let gapped = segment_cells bytes ordinal 0 (slice_range space.old.store body.from body.to) in
         space.new ≡ record space.old {
-          store = take from space.old.store ++ gapped ++ drop to space.old.store;
+          store = take body.from space.old.store ++ gapped ++ drop body.to space.old.store;
         } }
-    ensures end { let bytes = laid_text (slice_range space.old.neutral text.0 text.1) in
-        let gapped = segment_cells bytes ordinal 0 (slice_range space.old.store from to) in
-        result ≡ from + length gapped }
-    ensures shorter { result ≤ to }
+    ensures end { let bytes = laid_text (slice_range space.old.neutral text.from text.to) in
+        let gapped = segment_cells bytes ordinal 0 (slice_range space.old.store body.from body.to) in
+        result ≡ body.from + length gapped }
+    ensures shorter { result ≤ body.to }
 {
-    let mut read = from;
-    let mut write = from;
-    while let Some(place) = next_place(space, read, to, text) {
+    let to = body.to;
+    let mut read = body.from;
+    let mut write = body.from;
+    while let Some(place) = next_place(space, Part { from: read, to }, text) {
         space.move_in_store(read, place, write);
         write += place - read;
         space.write_store(write, Cell::Gap(ordinal));
         write += 1;
-        read = place + (text.1 - text.0);
+        read = place + (text.to - text.from);
     }
     space.move_in_store(read, to, write);
     write += to - read;
@@ -83,30 +84,30 @@ fn make_gaps(space: &mut Space, from: u32, to: u32, text: (u32, u32), ordinal: u
     write
 }
 
-/// Makes each occurrence of a text, a part of neutral, from the left a gap of that ordinal, in the
-/// store from place `from` up to `to`, and gives the new end. No occurrence reaches across a gap,
+/// Makes each occurrence of a text, a part of neutral, from the left a gap of that ordinal in a part
+/// of the store, and gives the new end. No occurrence reaches across a gap,
 /// and a null text makes none. The cells that this frees are free at once.
-pub fn segment_store(space: &mut Space, from: u32, to: u32, text: (u32, u32), ordinal: u32) -> u32
-    requires order { from ≤ to }
-    requires within { to ≤ length space.old.store }
-    requires bounded { to ≤ 16777216 }
-    requires text_part { IsTextPart space.old.neutral text.0 text.1 }
-    requires text_bounded { text.1 ≤ 16777216 }
-    ensures after { let bytes = part_text space.old.neutral text.0 text.1 in
-        let gapped = segmented_cells bytes ordinal (slice_range space.old.store from to) in
+pub fn segment_store(space: &mut Space, body: Part, text: Part, ordinal: u32) -> u32
+    requires order { body.from ≤ body.to }
+    requires within { body.to ≤ length space.old.store }
+    requires bounded { body.to ≤ 16777216 }
+    requires text_part { IsTextPart space.old.neutral text.from text.to }
+    requires text_bounded { text.to ≤ 16777216 }
+    ensures after { let bytes = part_text space.old.neutral text.from text.to in
+        let gapped = segmented_cells bytes ordinal (slice_range space.old.store body.from body.to) in
         space.new ≡ record space.old {
-          store = take from space.old.store ++ gapped ++ drop to space.old.store;
+          store = take body.from space.old.store ++ gapped ++ drop body.to space.old.store;
         } }
-    ensures end { let bytes = part_text space.old.neutral text.0 text.1 in
-        let gapped = segmented_cells bytes ordinal (slice_range space.old.store from to) in
-        result ≡ from + length gapped }
-    ensures shorter { result ≤ to }
+    ensures end { let bytes = part_text space.old.neutral text.from text.to in
+        let gapped = segmented_cells bytes ordinal (slice_range space.old.store body.from body.to) in
+        result ≡ body.from + length gapped }
+    ensures shorter { result ≤ body.to }
 {
-    if text.0 == text.1 {
-        return to;
+    if text.from == text.to {
+        return body.to;
     }
     lay_borders(space, text);
-    let end = make_gaps(space, from, to, text, ordinal);
-    space.lift_neutral(text.0, text.1);
+    let end = make_gaps(space, body, text, ordinal);
+    space.lift_neutral(text.from, text.to);
     end
 }

@@ -15,8 +15,9 @@ ghost use Rattle.trac_store.specs.Stored.{forms_in, start_of, head_number, head_
 ghost use Rattle.trac_store.specs.Stored.{IsPlace, IsFoundAt, item_of};
 
 use crate::index::look_up;
+use crate::located::{FIRST_FORM, Located};
 use trac_language::Item;
-use trac_space::{Cell, Space, byte_in};
+use trac_space::{Cell, Part, Space, byte_in};
 
 /// The number in the head cell at place `i` of the store, 0 where no head cell stands there.
 #[inline]
@@ -43,18 +44,18 @@ pub fn heads(space: &Space, start: u32) -> (u32, u32, u32)
     (number(cells[0]), number(cells[1]), number(cells[2]))
 }
 
-/// The same of a form, of a number and a place where it begins: its heads need no test.
+/// The same of a form whose place is known: its heads need no test.
 #[inline]
-pub fn heads_of(space: &Space, form: (u32, u32)) -> (u32, u32, u32)
+pub fn heads_of(space: &Space, form: Located) -> (u32, u32, u32)
     requires whole { flat_forms (forms_in space.now.store) ≡ space.now.store }
     requires bounded { length space.now.store ≤ 16777216 }
-    requires known { form.0 < length (forms_in space.now.store) }
-    requires begins { form.1 ≡ start_of (forms_in space.now.store) form.0 }
-    ensures name { result.0 ≡ head_at space.now.store form.1 }
-    ensures body { result.1 ≡ head_at space.now.store (form.1 + 1) }
-    ensures pointer { result.2 ≡ head_at space.now.store (form.1 + 2) }
+    requires known { form.number < length (forms_in space.now.store) }
+    requires begins { form.start ≡ start_of (forms_in space.now.store) form.number }
+    ensures name { result.0 ≡ head_at space.now.store form.start }
+    ensures body { result.1 ≡ head_at space.now.store (form.start + 1) }
+    ensures pointer { result.2 ≡ head_at space.now.store (form.start + 2) }
 {
-    let cells = space.store_part(form.1, form.1 + 3);
+    let cells = space.store_part(form.start, form.start + 3);
     (
         number_in_head(cells[0]),
         number_in_head(cells[1]),
@@ -83,37 +84,38 @@ pub fn item_of(cell: &Cell) -> Item
     }
 }
 
-// Where form `k` begins in the store, where the form at place `from` begins at `start`.
-fn walk(space: &Space, from: u32, start: u32, k: u32) -> u32
+// Where form `k` begins in the store, which stands at the place of another or behind it.
+fn walk(space: &Space, from: Located, k: u32) -> u32
     requires whole { flat_forms (forms_in space.now.store) ≡ space.now.store }
     requires bounded { length space.now.store ≤ 16777216 }
-    requires begins { start ≡ start_of (forms_in space.now.store) from }
-    requires order { from ≤ k }
+    requires begins { from.start ≡ start_of (forms_in space.now.store) from.number }
+    requires order { from.number ≤ k }
     requires within { k ≤ length (forms_in space.now.store) }
     ensures { result ≡ start_of (forms_in space.now.store) k }
 {
-    let mut start = start;
-    for _form in from..k {
+    let mut start = from.start;
+    for _form in from.number..k {
         start += 3 + head(space, start) + head(space, start + 1);
     }
     start
 }
 
-/// Where form `k` begins in the store, where the form at place `last` begins at `start`.
+/// Where form `k` begins in the store. Costs a walk from the form used last, or from the first one
+/// where that stands behind form `k`.
 #[inline]
-pub fn place_of(space: &Space, last: u32, start: u32, k: u32) -> u32
+pub fn place_of(space: &Space, last: Located, k: u32) -> u32
     requires whole { flat_forms (forms_in space.now.store) ≡ space.now.store }
     requires bounded { length space.now.store ≤ 16777216 }
-    requires begins { start ≡ start_of (forms_in space.now.store) last }
+    requires begins { last.start ≡ start_of (forms_in space.now.store) last.number }
     requires within { k ≤ length (forms_in space.now.store) }
     ensures { result ≡ start_of (forms_in space.now.store) k }
 {
-    if last == k {
-        start
-    } else if last < k {
-        walk(space, last, start, k)
+    if last.number == k {
+        last.start
+    } else if last.number < k {
+        walk(space, last, k)
     } else {
-        walk(space, 0, 0, k)
+        walk(space, FIRST_FORM, k)
     }
 }
 
@@ -200,82 +202,87 @@ fn is_text_at(cells: &[Cell], from: usize, len: usize, text: &[Cell], last: u8) 
     is_text(&cells[from..from + len], text)
 }
 
-// Whether the form that begins at a place of the store has the name.
+// Whether the form has the name.
 #[inline(always)]
-fn is_named(store: &[Cell], form: (u32, u32), name: &[Cell]) -> bool
+fn is_named(store: &[Cell], form: Located, name: &[Cell]) -> bool
     requires whole { flat_forms (forms_in (map seen store.now)) ≡ map seen store.now }
     requires bounded { length store.now ≤ 16777216 }
-    requires begins { IsPlace (forms_in (map seen store.now)) form.0 form.1 }
-    requires within { form.0 < length (forms_in (map seen store.now)) }
+    requires begins { IsPlace (forms_in (map seen store.now)) form.number form.start }
+    requires within { form.number < length (forms_in (map seen store.now)) }
     requires bytes { All IsByte (map seen name.now) }
     ensures { let forms = forms_in (map seen store.now) in
         let text = text_of_cells (map seen name.now) in
-        IsTrue result → IsFoundAt forms text form.0 form.1 }
+        IsTrue result → IsFoundAt forms text form.number form.start }
 {
-    let start = form.1 as usize;
+    let start = form.start as usize;
     let len = number_in_head(store[start]) as usize;
     len == name.len() && is_text_back(&store[start + 3..start + 3 + len], name)
 }
 
 /// Whether the first form has the name that is the part of neutral.
 #[inline(always)]
-pub fn is_first_named(space: &Space, count: u32, part: (u32, u32)) -> bool
+pub fn is_first_named(space: &Space, count: u32, part: Part) -> bool
     requires whole { flat_forms (forms_in space.now.store) ≡ space.now.store }
     requires bounded { length space.now.store ≤ 16777216 }
     requires count_is { count ≡ length (forms_in space.now.store) }
     requires some { 0 < count }
-    requires name_part { IsTextPart space.now.neutral part.0 part.1 }
-    ensures { let name = part_text space.now.neutral part.0 part.1 in
+    requires name_part { IsTextPart space.now.neutral part.from part.to }
+    ensures { let name = part_text space.now.neutral part.from part.to in
         IsTrue result → IsFoundAt (forms_in space.now.store) name 0 0 }
 {
     let store = space.store_part(0, space.store_len());
-    is_named(store, (0, 0), space.neutral_part(part.0, part.1))
+    is_named(store, FIRST_FORM, space.neutral_part(part.from, part.to))
 }
 
-// The form of the null name among the cells of the store, and where it begins.
-fn find_null(store: &[Cell], count: u32) -> Option<(u32, u32)>
+// The form of the null name among the cells of the store.
+fn find_null(store: &[Cell], count: u32) -> Option<Located>
     requires whole { flat_forms (forms_in (map seen store.now)) ≡ map seen store.now }
     requires bounded { length store.now ≤ 16777216 }
     requires count_is { count ≡ length (forms_in (map seen store.now)) }
     ensures { MatchOption result
         (NoneNamed [] (forms_in (map seen store.now)))
-        (λ found. IsFoundAt (forms_in (map seen store.now)) [] found.0 found.1) }
+        (λ found. IsFoundAt (forms_in (map seen store.now)) [] found.number found.start) }
 {
     let mut start = 0;
     for k in 0..count {
         let len = number_in_head(store[start]) as usize;
         if len == 0 {
-            return Some((k, start as u32));
+            return Some(Located {
+                number: k,
+                start: start as u32,
+            });
         }
         start += 3 + len + number_in_head(store[start + 1]) as usize;
     }
     None
 }
 
-// The form of a name that is not null among those from a place on,
-// which begins at the second number, up to place `end`, and where it begins.
+// The form of a name that is not null among those from one on, up to place `end` of the list.
 #[inline(always)]
-fn search_some(store: &[Cell], from: (u32, u32), end: u32, name: &[Cell]) -> Option<(u32, u32)>
+fn search_some(store: &[Cell], from: Located, end: u32, name: &[Cell]) -> Option<Located>
     requires whole { flat_forms (forms_in (map seen store.now)) ≡ map seen store.now }
     requires bounded { length store.now ≤ 16777216 }
-    requires begins { IsPlace (forms_in (map seen store.now)) from.0 from.1 }
-    requires order { from.0 ≤ end }
+    requires begins { IsPlace (forms_in (map seen store.now)) from.number from.start }
+    requires order { from.number ≤ end }
     requires within { end ≤ length (forms_in (map seen store.now)) }
     requires bytes { All IsByte (map seen name.now) }
     requires some { 0 < length name.now }
     ensures { let forms = forms_in (map seen store.now) in
         let text = text_of_cells (map seen name.now) in
         MatchOption result
-        (NoneNamed text (slice_range forms from.0 end))
-        (λ found. IsFoundAt forms text found.0 found.1) }
+        (NoneNamed text (slice_range forms from.number end))
+        (λ found. IsFoundAt forms text found.number found.start) }
 {
     let last = byte_in(&name[name.len() - 1]);
-    let mut at = from.1 as usize + 3;
-    let mut left = end - from.0;
+    let mut at = from.start as usize + 3;
+    let mut left = end - from.number;
     while left > 0 {
         let len = number_in_head(store[at - 3]) as usize;
         if is_text_at(store, at, len, name, last) {
-            return Some((end - left, (at - 3) as u32));
+            return Some(Located {
+                number: end - left,
+                start: (at - 3) as u32,
+            });
         }
         at += 3 + len + number_in_head(store[at - 2]) as usize;
         left -= 1;
@@ -285,163 +292,161 @@ fn search_some(store: &[Cell], from: (u32, u32), end: u32, name: &[Cell]) -> Opt
 
 // The same, as a function of its own, so that its loop has the registers.
 #[inline(never)]
-fn find_some(store: &[Cell], from: (u32, u32), end: u32, name: &[Cell]) -> Option<(u32, u32)>
+fn find_some(store: &[Cell], from: Located, end: u32, name: &[Cell]) -> Option<Located>
     requires whole { flat_forms (forms_in (map seen store.now)) ≡ map seen store.now }
     requires bounded { length store.now ≤ 16777216 }
-    requires begins { IsPlace (forms_in (map seen store.now)) from.0 from.1 }
-    requires order { from.0 ≤ end }
+    requires begins { IsPlace (forms_in (map seen store.now)) from.number from.start }
+    requires order { from.number ≤ end }
     requires within { end ≤ length (forms_in (map seen store.now)) }
     requires bytes { All IsByte (map seen name.now) }
     requires some { 0 < length name.now }
     ensures { let forms = forms_in (map seen store.now) in
         let text = text_of_cells (map seen name.now) in
         MatchOption result
-        (NoneNamed text (slice_range forms from.0 end))
-        (λ found. IsFoundAt forms text found.0 found.1) }
+        (NoneNamed text (slice_range forms from.number end))
+        (λ found. IsFoundAt forms text found.number found.start) }
 {
     search_some(store, from, end, name)
 }
 
-// The form of a name that is not null, and where it begins: first among those from the one used
-// last on, then among those before it.
+// The form of a name that is not null: first among those from the one used last on, then among
+// those before it.
 #[inline(never)]
-fn find_round(store: &[Cell], last: (u32, u32), count: u32, name: &[Cell]) -> Option<(u32, u32)>
+fn find_round(store: &[Cell], last: Located, count: u32, name: &[Cell]) -> Option<Located>
     requires whole { flat_forms (forms_in (map seen store.now)) ≡ map seen store.now }
     requires bounded { length store.now ≤ 16777216 }
     requires count_is { count ≡ length (forms_in (map seen store.now)) }
-    requires last { IsPlace (forms_in (map seen store.now)) last.0 last.1 }
+    requires last { IsPlace (forms_in (map seen store.now)) last.number last.start }
     requires bytes { All IsByte (map seen name.now) }
     requires some { 0 < length name.now }
     ensures { let forms = forms_in (map seen store.now) in
         let text = text_of_cells (map seen name.now) in
         MatchOption result
         (NoneNamed text forms)
-        (λ found. IsFoundAt forms text found.0 found.1) }
+        (λ found. IsFoundAt forms text found.number found.start) }
 {
     match search_some(store, last, count, name) {
-        None => search_some(store, (0, 0), last.0, name),
+        None => search_some(store, FIRST_FORM, last.number, name),
         found => found,
     }
 }
 
-/// The form whose name is the part of neutral, and where it begins. Among many forms the search
-/// starts at the one that was used last, since the next is often that one or near behind it. None
-/// where no form has that name.
+/// The form whose name is the part of neutral. Among many forms the search starts at the one that was
+/// used last, since the next is often that one or near behind it. None where no form has that name.
 ///
-/// `last` is the form used last and where it begins. To `toil` is added what the search has cost:
-/// forms and slots looked at beyond a few.
+/// To `search_cost` is added what the search has cost: forms and slots looked at beyond a few.
 #[inline(always)]
 pub fn find_named(
     space: &Space,
     count: u32,
-    last: (u32, u32),
-    part: (u32, u32),
-    toil: &mut u32,
-) -> Option<(u32, u32)>
+    last: Located,
+    part: Part,
+    search_cost: &mut u32,
+) -> Option<Located>
     requires whole { flat_forms (forms_in space.now.store) ≡ space.now.store }
     requires bounded { length space.now.store ≤ 16777216 }
     requires count_is { count ≡ length (forms_in space.now.store) }
-    requires last { IsPlace (forms_in space.now.store) last.0 last.1 }
-    requires name_part { IsTextPart space.now.neutral part.0 part.1 }
+    requires last { IsPlace (forms_in space.now.store) last.number last.start }
+    requires name_part { IsTextPart space.now.neutral part.from part.to }
     requires index { IsIndexed space.now.spare (forms_in space.now.store) }
-    ensures { let name = part_text space.now.neutral part.0 part.1 in
+    ensures { let name = part_text space.now.neutral part.from part.to in
         MatchOption result
         (NoneNamed name (forms_in space.now.store))
-        (λ found. IsFoundAt (forms_in space.now.store) name found.0 found.1) }
+        (λ found. IsFoundAt (forms_in space.now.store) name found.number found.start) }
 {
     let store = space.store_part(0, space.store_len());
-    let name = space.neutral_part(part.0, part.1);
+    let name = space.neutral_part(part.from, part.to);
     if count >= MANY {
-        return find_among_many(space, store, count, last, name, toil);
+        return find_among_many(space, store, count, last, name, search_cost);
     }
     if name.is_empty() {
         return find_null(store, count);
     }
     if count < FEW {
-        return search_some(store, (0, 0), count, name);
+        return search_some(store, FIRST_FORM, count, name);
     }
     find_round(store, last, count, name)
 }
 
 /// The same, where there are so few forms that the search starts at the first.
 #[inline(always)]
-pub fn find_few(space: &Space, count: u32, part: (u32, u32)) -> Option<(u32, u32)>
+pub fn find_few(space: &Space, count: u32, part: Part) -> Option<Located>
     requires whole { flat_forms (forms_in space.now.store) ≡ space.now.store }
     requires bounded { length space.now.store ≤ 16777216 }
     requires count_is { count ≡ length (forms_in space.now.store) }
-    requires name_part { IsTextPart space.now.neutral part.0 part.1 }
-    ensures { let name = part_text space.now.neutral part.0 part.1 in
+    requires name_part { IsTextPart space.now.neutral part.from part.to }
+    ensures { let name = part_text space.now.neutral part.from part.to in
         MatchOption result
         (NoneNamed name (forms_in space.now.store))
-        (λ found. IsFoundAt (forms_in space.now.store) name found.0 found.1) }
+        (λ found. IsFoundAt (forms_in space.now.store) name found.number found.start) }
 {
     let store = space.store_part(0, space.store_len());
-    let name = space.neutral_part(part.0, part.1);
+    let name = space.neutral_part(part.from, part.to);
     if name.is_empty() {
         return find_null(store, count);
     }
-    search_some(store, (0, 0), count, name)
+    search_some(store, FIRST_FORM, count, name)
 }
 
 // As `find_named`, by the index if there is one. Else looks at forms beyond a few are added to
-// `toil`.
+// `search_cost`.
 #[inline(always)]
 fn find_among_many(
     space: &Space,
     store: &[Cell],
     count: u32,
-    last: (u32, u32),
+    last: Located,
     name: &[Cell],
-    toil: &mut u32,
-) -> Option<(u32, u32)>
+    search_cost: &mut u32,
+) -> Option<Located>
     requires is_store { map seen store.now ≡ space.now.store }
     requires whole { flat_forms (forms_in (map seen store.now)) ≡ map seen store.now }
     requires bounded { length store.now ≤ 16777216 }
     requires count_is { count ≡ length (forms_in (map seen store.now)) }
-    requires last { IsPlace (forms_in (map seen store.now)) last.0 last.1 }
+    requires last { IsPlace (forms_in (map seen store.now)) last.number last.start }
     requires bytes { All IsByte (map seen name.now) }
     requires index { IsIndexed space.now.spare (forms_in (map seen store.now)) }
     ensures { let forms = forms_in (map seen store.now) in
         let text = text_of_cells (map seen name.now) in
         MatchOption result
         (NoneNamed text forms)
-        (λ found. IsFoundAt forms text found.0 found.1) }
+        (λ found. IsFoundAt forms text found.number found.start) }
 {
     if space.spare_len() > 0 {
-        return look_up(store, space.spare_cells(), name, toil);
+        return look_up(store, space.spare_cells(), name, search_cost);
     }
     if name.is_empty() {
         let found = find_null(store, count);
-        add_toil(toil, looked_at(found, count));
+        add_search_cost(search_cost, looked_at(found, count));
         return found;
     }
-    if let Some((k, start)) = find_some(store, last, count, name) {
-        add_toil(toil, k.wrapping_sub(last.0));
-        return Some((k, start));
+    if let Some(form) = find_some(store, last, count, name) {
+        add_search_cost(search_cost, form.number.wrapping_sub(last.number));
+        return Some(form);
     }
-    let found = find_some(store, (0, 0), last.0, name);
-    add_toil(
-        toil,
+    let found = find_some(store, FIRST_FORM, last.number, name);
+    add_search_cost(
+        search_cost,
         count
-            .wrapping_sub(last.0)
-            .saturating_add(looked_at(found, last.0)),
+            .wrapping_sub(last.number)
+            .saturating_add(looked_at(found, last.number)),
     );
     found
 }
 
 // How many forms a search from the first up to one has looked at.
 #[inline]
-fn looked_at(found: Option<(u32, u32)>, end: u32) -> u32 {
+fn looked_at(found: Option<Located>, end: u32) -> u32 {
     match found {
-        Some((k, _)) => k,
+        Some(form) => form.number,
         None => end,
     }
 }
 
 // Adds what a search has cost that looked at so many forms, beyond what one by an index would.
 #[inline]
-fn add_toil(toil: &mut u32, looks: u32) {
+fn add_search_cost(search_cost: &mut u32, looks: u32) {
     if looks > FEW {
-        *toil = toil.saturating_add(looks - FEW);
+        *search_cost = search_cost.saturating_add(looks - FEW);
     }
 }

@@ -3,7 +3,7 @@ use Rattle.trac_forms.proofs.fill.fill_form.Goals as goal
 use Rattle.trac_forms.proofs.fill.fill_form.Goals.{After-heads_of-name}
 
 -- those that are called, once the heads are read
-called : (c : After-heads_of-name) → AreItems c.args.space.now c.args.k c.args.start c.heads_of-name.result.0 c.heads_of-name.result.1 c.heads_of-name.result.2
+called : (c : After-heads_of-name) → AreItems c.args.space.now c.args.form.number c.args.form.start c.heads_of-name.result.0 c.heads_of-name.result.1 c.heads_of-name.result.2
 called c =
     let heads = c.heads_of-name.ensures in
     items _ _ _ _ _ _ c.requires.whole c.requires.forms c.requires.known c.requires.begins heads.name heads.body heads.pointer
@@ -14,11 +14,11 @@ overflow_add-place c = omega (arith, called (goal.at.overflow_add-place c).After
 pub overflow_add-place-2 : goal.overflow_add-place-2
 overflow_add-place-2 c = omega (arith, called (goal.at.overflow_add-place-2 c).After-heads_of-name)
 
-pub overflow_add-place-3 : goal.overflow_add-place-3
-overflow_add-place-3 c = omega (arith, called (goal.at.overflow_add-place-3 c).After-heads_of-name)
+pub overflow_add-items : goal.overflow_add-items
+overflow_add-items c = omega (arith, called (goal.at.overflow_add-items c).After-heads_of-name)
 
-pub overflow_add-place-4 : goal.overflow_add-place-4
-overflow_add-place-4 c = omega (arith, called (goal.at.overflow_add-place-4 c).After-heads_of-name)
+pub overflow_add-items-2 : goal.overflow_add-items-2
+overflow_add-items-2 c = omega (arith, called (goal.at.overflow_add-items-2 c).After-heads_of-name)
 
 pub fill_items-requires-clause-order : goal.fill_items-requires-clause-order
 fill_items-requires-clause-order c =

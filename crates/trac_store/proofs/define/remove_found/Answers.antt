@@ -17,12 +17,12 @@ returns-in-Some-clause-count c =
 
 pub returns-in-None-clause-gone : goal.returns-in-None-clause-gone
 returns-in-None-clause-gone c =
-    rw (without-none (part_text c.args.space.now.neutral c.args.name.0 c.args.name.1) (forms_in c.args.space.now.store) (rw c.in-None.is at c.requires.found), c.requires.whole)
+    rw (without-none (part_text c.args.space.now.neutral c.args.name.from c.args.name.to) (forms_in c.args.space.now.store) (rw c.in-None.is at c.requires.found), c.requires.whole)
 
 pub returns-in-None-clause-index : goal.returns-in-None-clause-index
 returns-in-None-clause-index c =
-    rw (without-none (part_text c.args.space.now.neutral c.args.name.0 c.args.name.1) (forms_in c.args.space.now.store) (rw c.in-None.is at c.requires.found)) c.requires.index
+    rw (without-none (part_text c.args.space.now.neutral c.args.name.from c.args.name.to) (forms_in c.args.space.now.store) (rw c.in-None.is at c.requires.found)) c.requires.index
 
 pub returns-in-None-clause-count : goal.returns-in-None-clause-count
 returns-in-None-clause-count c =
-    rw (without-none (part_text c.args.space.now.neutral c.args.name.0 c.args.name.1) (forms_in c.args.space.now.store) (rw c.in-None.is at c.requires.found)) c.requires.count_is
+    rw (without-none (part_text c.args.space.now.neutral c.args.name.from c.args.name.to) (forms_in c.args.space.now.store) (rw c.in-None.is at c.requires.found)) c.requires.count_is

@@ -14,10 +14,10 @@ returns c =
     let u = c.remove_form.new.space in
     let forms = forms_in s.store in
     let same : t.store ≡ s.store = ap (λ (w : Lists). w.store) c.unindex.ensures.same in
-    let f = stands forms t.store c.args.k c.args.start (c.requires.whole ∙ sym same) (omega (arith, c.requires.within, c.requires.count_is)) c.requires.begins in
-    let is = removed-lists t u forms c.args.k c.args.start f c.remove_form.ensures in
+    let f = stands forms t.store c.args.form.number c.args.form.start (c.requires.whole ∙ sym same) (omega (arith, c.requires.within, c.requires.count_is)) c.requires.begins in
+    let is = removed-lists t u forms c.args.form.number c.args.form.start f c.remove_form.ensures in
     let spare : u.spare ≡ t.spare = ap (λ (w : Lists). w.spare) is in
     record {
-      gone = is ∙ ap (λ (w : Lists). record w { store = flat_forms (remove forms c.args.k) }) c.unindex.ensures.same ∙ ap (λ l. record s { store = flat_forms (remove forms c.args.k); spare = l }) (sym spare);
-      index = subst (λ l. IsIndexed l (remove forms c.args.k)) (sym spare) c.unindex.ensures.index;
+      gone = is ∙ ap (λ (w : Lists). record w { store = flat_forms (remove forms c.args.form.number) }) c.unindex.ensures.same ∙ ap (λ l. record s { store = flat_forms (remove forms c.args.form.number); spare = l }) (sym spare);
+      index = subst (λ l. IsIndexed l (remove forms c.args.form.number)) (sym spare) c.unindex.ensures.index;
     }

@@ -4,58 +4,58 @@ use Rattle.trac_store.proofs.FilledParts.{IsBegin, given-takes, filled-flat, fil
 use Rattle.trac_store.proofs.fill.fill_gaps.Goals as goal
 use Rattle.trac_store.proofs.fill.fill_gaps.Goals.{After-min-first, After-lay_commas-commas}
 
-begin : (c : After-min-first) → IsBegin c.args.first c.args.end c.min-first.result
+begin : (c : After-min-first) → IsBegin c.args.texts.from c.args.texts.to c.min-first.result
 begin c = record { some = λ le. omega (arith, c.min-first.ensures, le); none = λ lt. omega (arith, c.min-first.ensures, lt) }
 
 pub lay_commas-commas-requires-clause-takes : goal.lay_commas-commas-requires-clause-takes
 lay_commas-commas-requires-clause-takes c =
     let k = (goal.at.lay_commas-commas-requires-clause-takes c).After-min-first in
-    given-takes c.args.space.now.neutral c.args.first c.args.end c.min-first.result (begin k) c.requires.arguments.within c.requires.arguments.texts
+    given-takes c.args.space.now.neutral c.args.texts.from c.args.texts.to c.min-first.result (begin k) c.requires.arguments.within c.requires.arguments.texts
 
 -- what fills the items, as they stood before
-same : (c : After-lay_commas-commas) → IsBegin c.args.first c.args.end c.min-first.result → (let mid = c.lay_commas-commas.new.self in filled (map under (slice_range mid.neutral c.min-first.result c.args.end)) (slice_range mid.store c.args.from c.args.stop) ≡ flat_text (filled_cells c.args.space.now c.args.from c.args.stop c.args.first c.args.end))
+same : (c : After-lay_commas-commas) → IsBegin c.args.texts.from c.args.texts.to c.min-first.result → (let mid = c.lay_commas-commas.new.self in filled (map under (slice_range mid.neutral c.min-first.result c.args.texts.to)) (slice_range mid.store c.args.items.from c.args.items.to) ≡ flat_text (filled_cells c.args.space.now c.args.items.from c.args.items.to c.args.texts.from c.args.texts.to))
 same c begin_is =
     let old = c.args.space.now in
     let mid = c.lay_commas-commas.new.self in
     let laid = c.lay_commas-commas.ensures in
-    let order : c.min-first.result ≤ c.args.end = omega (arith, c.min-first.ensures) in
-    ap (λ cells. filled cells (slice_range mid.store c.args.from c.args.stop)) (under-numbers old.neutral mid.neutral c.min-first.result c.args.end order c.requires.arguments.within laid.numbers)
-    ∙ ap (λ (l : Lists). filled (slice_range old.neutral c.min-first.result c.args.end) (slice_range l.store c.args.from c.args.stop)) laid.same
-    ∙ filled-flat old.neutral c.args.first c.args.end c.min-first.result begin_is c.requires.arguments.within c.requires.arguments.texts (slice_range old.store c.args.from c.args.stop)
+    let order : c.min-first.result ≤ c.args.texts.to = omega (arith, c.min-first.ensures) in
+    ap (λ cells. filled cells (slice_range mid.store c.args.items.from c.args.items.to)) (under-numbers old.neutral mid.neutral c.min-first.result c.args.texts.to order c.requires.arguments.within laid.numbers)
+    ∙ ap (λ (l : Lists). filled (slice_range old.neutral c.min-first.result c.args.texts.to) (slice_range l.store c.args.items.from c.args.items.to)) laid.same
+    ∙ filled-flat old.neutral c.args.texts.from c.args.texts.to c.min-first.result begin_is c.requires.arguments.within c.requires.arguments.texts (slice_range old.store c.args.items.from c.args.items.to)
 
 pub put_filled-filled-requires-clause-no_call : goal.put_filled-filled-requires-clause-no_call
 put_filled-filled-requires-clause-no_call c =
     let at = goal.at.put_filled-filled-requires-clause-no_call c in
     let old = c.args.space.now in
     let begin_is = begin at.After-min-first in
-    let flat = filled-flat old.neutral c.args.first c.args.end c.min-first.result begin_is c.requires.arguments.within c.requires.arguments.texts (slice_range old.store c.args.from c.args.stop) in
-    subst NoCall (flat ∙ sym (same at.After-lay_commas-commas begin_is)) (filled-no_call old.neutral c.args.first c.args.end c.min-first.result begin_is c.requires.arguments.within c.requires.arguments.texts (slice_range old.store c.args.from c.args.stop))
+    let flat = filled-flat old.neutral c.args.texts.from c.args.texts.to c.min-first.result begin_is c.requires.arguments.within c.requires.arguments.texts (slice_range old.store c.args.items.from c.args.items.to) in
+    subst NoCall (flat ∙ sym (same at.After-lay_commas-commas begin_is)) (filled-no_call old.neutral c.args.texts.from c.args.texts.to c.min-first.result begin_is c.requires.arguments.within c.requires.arguments.texts (slice_range old.store c.args.items.from c.args.items.to))
 
 pub returns-clause-put : goal.returns-clause-put
 returns-clause-put c =
     let at = goal.at.returns-clause-put c in
     let laid = c.lay_commas-commas.ensures in
-    let text = filled_cells c.args.space.now c.args.from c.args.stop c.args.first c.args.end in
+    let text = filled_cells c.args.space.now c.args.items.from c.args.items.to c.args.texts.from c.args.texts.to in
     let long = ap length (same at.After-lay_commas-commas (begin at.After-min-first)) ∙ length-map text Byte in
     let put = c.put_filled-filled.ensures.put in
     let store = ap (λ (l : Lists). length l.store) laid.same in
     let active = ap (λ (l : Lists). length l.active) laid.same in
     let room = ap (λ (l : Lists). l.room) laid.same in
-    let neutral = numbers-long c.args.space.now.neutral c.lay_commas-commas.new.self.neutral c.min-first.result c.args.end (omega (arith, c.min-first.ensures)) c.requires.arguments.within laid.numbers in
+    let neutral = numbers-long c.args.space.now.neutral c.lay_commas-commas.new.self.neutral c.min-first.result c.args.texts.to (omega (arith, c.min-first.ensures)) c.requires.arguments.within laid.numbers in
     (λ e. omega (arith, put.0 e, long, store, active, room, neutral), λ fits. put.1 (omega (arith, fits, long, store, active, room, neutral)))
 
 -- the cells over which numbers lie
 fewer : (c : After-lay_commas-commas) → HaveNumbers c.args.space.now.neutral c.lay_commas-commas.new.self.neutral c.min-first.result (c.min-first.result + c.lay_commas-commas.result)
 fewer c =
     let laid = c.lay_commas-commas.ensures in
-    numbers-fewer c.args.space.now.neutral c.lay_commas-commas.new.self.neutral c.min-first.result c.args.end c.lay_commas-commas.result (omega (arith, c.min-first.ensures)) c.requires.arguments.within laid.numbers laid.commas.within laid.commas.others
+    numbers-fewer c.args.space.now.neutral c.lay_commas-commas.new.self.neutral c.min-first.result c.args.texts.to c.lay_commas-commas.result (omega (arith, c.min-first.ensures)) c.requires.arguments.within laid.numbers laid.commas.within laid.commas.others
 
 -- they are within
 few : (c : After-lay_commas-commas) → c.min-first.result + c.lay_commas-commas.result ≤ length c.args.space.now.neutral
 few c =
     let laid = c.lay_commas-commas.ensures in
-    let neutral = numbers-long c.args.space.now.neutral c.lay_commas-commas.new.self.neutral c.min-first.result c.args.end (omega (arith, c.min-first.ensures)) c.requires.arguments.within laid.numbers in
-    let size = length-between c.lay_commas-commas.new.self.neutral c.min-first.result c.args.end (omega (arith, c.requires.arguments.within, neutral)) in
+    let neutral = numbers-long c.args.space.now.neutral c.lay_commas-commas.new.self.neutral c.min-first.result c.args.texts.to (omega (arith, c.min-first.ensures)) c.requires.arguments.within laid.numbers in
+    let size = length-between c.lay_commas-commas.new.self.neutral c.min-first.result c.args.texts.to (omega (arith, c.requires.arguments.within, neutral)) in
     omega (arith, laid.commas.within, size, c.min-first.ensures, c.requires.arguments.within)
 
 -- the lists once the numbers are taken off again
@@ -74,7 +74,7 @@ returns-clause-last c =
     let at = goal.at.returns-clause-last c in
     let laid = c.lay_commas-commas.ensures in
     let old = c.args.space.now in
-    let more = flat_text (filled_cells old c.args.from c.args.stop c.args.first c.args.end) in
+    let more = flat_text (filled_cells old c.args.items.from c.args.items.to c.args.texts.from c.args.texts.to) in
     let is = same at.After-lay_commas-commas (begin at.After-min-first) in
     lifted c.put_filled-filled.result old c.lay_commas-commas.new.self c.put_filled-filled.new.space c.lift_neutral.new.self c.min-first.result (c.min-first.result + c.lay_commas-commas.result) more (omega arith) (few at.After-lay_commas-commas) (fewer at.After-lay_commas-commas) laid.same
     (subst (λ cells. OnTrue c.put_filled-filled.result (c.put_filled-filled.new.space ≡ record c.lay_commas-commas.new.self { neutral = c.lay_commas-commas.new.self.neutral ++ cells; spare = c.put_filled-filled.new.space.spare })) is c.put_filled-filled.ensures.last)

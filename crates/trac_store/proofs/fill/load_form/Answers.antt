@@ -5,7 +5,7 @@ use Rattle.trac_store.proofs.fill.load_form.Goals as goal
 use Rattle.trac_store.proofs.fill.load_form.Goals.{After-heads_of-name}
 
 -- the items that are called, once the heads are read
-called : (c : After-heads_of-name) → AreItems c.args.space.now c.args.k c.args.start c.heads_of-name.result.0 c.heads_of-name.result.1 c.heads_of-name.result.2
+called : (c : After-heads_of-name) → AreItems c.args.space.now c.args.form.number c.args.form.start c.heads_of-name.result.0 c.heads_of-name.result.1 c.heads_of-name.result.2
 called c =
     let heads = c.heads_of-name.ensures in
     items _ _ _ _ _ _ c.requires.whole c.requires.forms c.requires.known c.requires.begins heads.name heads.body heads.pointer
@@ -48,9 +48,9 @@ pub returns-then-from-stop : goal.returns-then-from-stop
 returns-then-from-stop c =
     let old = c.args.space.now in
     let i = called (goal.at.returns-then-from-stop c).After-heads_of-name in
-    let from = c.args.start + 3 + c.heads_of-name.result.0 + c.heads_of-name.result.2 in
-    let none : slice_range old.store from (c.args.start + 3 + c.heads_of-name.result.0 + c.heads_of-name.result.1) ≡ [] =
-    (let zero : c.args.start + 3 + c.heads_of-name.result.0 + c.heads_of-name.result.1 - from ≡ 0 = omega (arith, c.if-from-stop.true) in rw zero refl) in
+    let from = c.args.form.start + 3 + c.heads_of-name.result.0 + c.heads_of-name.result.2 in
+    let none : slice_range old.store from (c.args.form.start + 3 + c.heads_of-name.result.0 + c.heads_of-name.result.1) ≡ [] =
+    (let zero : c.args.form.start + 3 + c.heads_of-name.result.0 + c.heads_of-name.result.1 - from ≡ 0 = omega (arith, c.if-from-stop.true) in rw zero refl) in
     let items_are = sym i.are ∙ ap (map item_of) none in
     let stays : nat_le (used old + 0 + length old.spare) old.room ≡ true = grind (arith, c.way-way.ensures) in
     rw (items_are, stays) (All-nil (λ item. is_character item ≡ true), refl, omega (arith, c.way-way.ensures), refl)

@@ -6,19 +6,19 @@ use Rattle.trac_store.proofs.removal.mark_all.Goals as goal
 pub overflow_add-to : goal.overflow_add-to
 overflow_add-to c =
     let left = c.loop-from.invariant.left in
-    omega (arith, shown-fits c.loop-from.space.neutral _ c.loop-from.from c.args.names.1 _ c.loop-from-test.true left.within c.neutral_part.ensures c.before_comma.ensures, left.bounded)
+    omega (arith, shown-fits c.loop-from.space.neutral _ c.loop-from.from c.args.names.to _ c.loop-from-test.true left.within c.neutral_part.ensures c.before_comma.ensures, left.bounded)
 
 pub mark_named-places-requires-clause-name_part : goal.mark_named-places-requires-clause-name_part
 mark_named-places-requires-clause-name_part c =
     let from = c.loop-from.from in
-    let comma = found-comma c.neutral_part.result.now (slice_range c.loop-from.space.neutral from c.args.names.1) c.before_comma.result c.neutral_part.ensures c.before_comma.ensures in
-    let part = first-part c.loop-from.space.neutral from c.args.names.1 c.before_comma.result c.loop-from.invariant.left c.loop-from-test.true comma in
+    let comma = found-comma c.neutral_part.result.now (slice_range c.loop-from.space.neutral from c.args.names.to) c.before_comma.result c.neutral_part.ensures c.before_comma.ensures in
+    let part = first-part c.loop-from.space.neutral from c.args.names.to c.before_comma.result c.loop-from.invariant.left c.loop-from-test.true comma in
     subst (λ cells. IsTextPart cells from (from + c.before_comma.result)) (sym (ap (λ (w : Lists). w.neutral) c.keep_index.ensures.same)) part
 
 pub overflow_add-from : goal.overflow_add-from
 overflow_add-from c =
     let left = c.loop-from.invariant.left in
-    omega (arith, shown-fits c.loop-from.space.neutral _ c.loop-from.from c.args.names.1 _ c.loop-from-test.true left.within c.neutral_part.ensures c.before_comma.ensures, left.bounded)
+    omega (arith, shown-fits c.loop-from.space.neutral _ c.loop-from.from c.args.names.to _ c.loop-from-test.true left.within c.neutral_part.ensures c.before_comma.ensures, left.bounded)
 
 pub loop-from-preserved : goal.loop-from-preserved
 loop-from-preserved c =
@@ -26,7 +26,7 @@ loop-from-preserved c =
     let t = c.keep_index.new.space in
     let u = c.mark_named-places.new.space in
     let from = c.loop-from.from in
-    let end = c.args.names.1 in
+    let end = c.args.names.to in
     let n = c.before_comma.result in
     let i = c.loop-from.invariant in
     let comma = found-comma c.neutral_part.result.now (slice_range s.neutral from end) n c.neutral_part.ensures c.before_comma.ensures in
@@ -55,8 +55,8 @@ returns c =
     let s = c.loop-from.space in
     let i = c.loop-from.invariant in
     let old = c.args.space.now in
-    let none = ap (part_texts s.neutral) (parts-none s.neutral c.loop-from.from c.args.names.1 (omega (arith, c.loop-from-test.false))) in
-    let forms : forms_in s.store ≡ with_marks (texts_between old.neutral c.args.names.0 c.args.names.1) (forms_in old.store) =
+    let none = ap (part_texts s.neutral) (parts-none s.neutral c.loop-from.from c.args.names.to (omega (arith, c.loop-from-test.false))) in
+    let forms : forms_in s.store ≡ with_marks (texts_between old.neutral c.args.names.from c.args.names.to) (forms_in old.store) =
     sym (ap (λ texts. with_marks texts (forms_in s.store)) none ∙ marks-none (forms_in s.store)) ∙ i.marks in
     record {
       marked = i.same ∙ ap (λ cells. record old { store = cells; spare = s.spare }) (sym i.formed.whole ∙ ap flat_forms forms);

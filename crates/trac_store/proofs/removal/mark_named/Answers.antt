@@ -3,8 +3,8 @@ use Rattle.trac_store.proofs.Places.{stands}
 use Rattle.trac_store.proofs.Removals.{mark-none, marked-lists, marked-read, marked-from}
 use Rattle.trac_store.proofs.removal.mark_named.Goals as goal
 
-pub overflow_add-start : goal.overflow_add-start
-overflow_add-start c =
+pub overflow_add-form : goal.overflow_add-form
+overflow_add-form c =
     let f = stands _ _ _ _ c.requires.formed.whole c.in-Some.ensures.named.within c.in-Some.ensures.start_is in
     omega (arith, f.end, c.requires.formed.bounded)
 
@@ -24,7 +24,7 @@ returns-in-Some-clause-formed c =
 pub returns-in-None-clause-marked : goal.returns-in-None-clause-marked
 returns-in-None-clause-marked c =
     let s = c.args.space.now in
-    let none = mark-none (part_text s.neutral c.args.name.0 c.args.name.1) (forms_in s.store) c.in-None.ensures in
+    let none = mark-none (part_text s.neutral c.args.name.from c.args.name.to) (forms_in s.store) c.in-None.ensures in
     ap (λ cells. record s { store = cells }) (sym c.requires.formed.whole ∙ ap flat_forms (sym none))
 
 pub returns-in-Some-clause-first : goal.returns-in-Some-clause-first
@@ -32,7 +32,7 @@ returns-in-Some-clause-first c =
     let s = c.args.space.now in
     let found = c.in-Some.ensures in
     let is = (marked-lists c.requires.formed found.named found.start_is c.write_store.ensures).0 in
-    let read = marked-read s c.write_store.new.self c.in-Some.k (part_text s.neutral c.args.name.0 c.args.name.1) c.requires.formed.distinct found.named is in
+    let read = marked-read s c.write_store.new.self c.in-Some.form.number (part_text s.neutral c.args.name.from c.args.name.to) c.requires.formed.distinct found.named is in
     let e = c.earlier.ensures in
-    subst (λ fs. IsMarkedFrom fs c.earlier.result.0 c.earlier.result.1) (sym read)
-    (marked-from (forms_in s.store) c.in-Some.k c.in-Some.start c.args.places.1 c.earlier.result c.requires.first found.named.within found.start_is e.one e.first e.second)
+    subst (λ fs. IsMarkedFrom fs c.earlier.result.number c.earlier.result.start) (sym read)
+    (marked-from (forms_in s.store) c.in-Some.form.number c.in-Some.form.start c.args.places.first c.earlier.result c.requires.first found.named.within found.start_is e.one e.first e.second)

@@ -3,4 +3,4 @@ use Rattle.trac_store.proofs.removal.move_gap.Goals as goal
 
 pub returns-then-gap-clause-moved : goal.returns-then-gap-clause-moved
 returns-then-gap-clause-moved c =
-    unmoved c.args.space.now c.args.gap.0 c.args.gap.1 c.args.from c.if-gap.true c.requires.order
+    unmoved c.args.space.now c.args.gap.from c.args.gap.to c.args.from c.if-gap.true c.requires.order

@@ -1,4 +1,4 @@
-use Rattle.trac_store.proofs.Words.{◌≡◌, ◌+◌, ◌<◌, ◌≤◌, length, true, false, sym, ap, ◌∙◌, arith, ◌==◌, form_at, is_marked, mark, forms_in}
+use Rattle.trac_store.proofs.Words.{Part, ◌≡◌, ◌+◌, ◌<◌, ◌≤◌, length, true, false, sym, ap, ◌∙◌, arith, ◌==◌, form_at, is_marked, mark, forms_in}
 use Rattle.trac_store.proofs.Sweeping.{swept-name, swept-body, swept-pointer, swept-end, swept-more, swept-gone, swept-first}
 use Rattle.trac_store.proofs.removal.remove_marked.Goals.{then-pointer, else-pointer}
 use Rattle.trac_store.proofs.removal.remove_marked.Goals as goal
@@ -44,8 +44,8 @@ loop-form-preserved c =
     elim c.if-pointer.branch [
       | then-pointer w ↦
           let marked : is_marked form ≡ true = ap (λ p. p == mark) (sym pointer ∙ w.if-pointer.true) in
-          let begin = ap (λ g. g.0) w.gap-is ∙ w.move_gap-gap.ensures.begin in
-          let stop = ap (λ g. g.1) w.gap-is ∙ w.move_gap-gap.ensures.end in
+          let begin = ap (λ (g : Part). g.from) w.gap-is ∙ w.move_gap-gap.ensures.begin in
+          let stop = ap (λ (g : Part). g.to) w.gap-is ∙ w.move_gap-gap.ensures.end in
           rw (w.space-is, w.kept-is, begin, stop) (swept-gone i c.requires.whole (less k) end ends w.move_gap-gap.new.space marked w.move_gap-gap.ensures.moved)
       | else-pointer w ↦
           let plain : is_marked form ≡ false = grind (arith, pointer, w.if-pointer.false) in
@@ -53,4 +53,4 @@ loop-form-preserved c =
     ]
 
 pub loop-form-init : goal.loop-form-init
-loop-form-init c = swept-first c.args.space.now c.args.first.0 c.args.first.1 c.requires.whole c.requires.first
+loop-form-init c = swept-first c.args.space.now c.args.first.number c.args.first.start c.requires.whole c.requires.first

@@ -24,13 +24,13 @@ returns-clause-index c =
 pub index_from-requires-clause-place : goal.index_from-requires-clause-place
 index_from-requires-clause-place c =
     let read = unmarked-read c.args.space.now _ _ c.unindex_from.ensures.same c.remove_marked-count.ensures.gone in
-    subst (λ fs. IsPlace fs c.args.first.0 c.args.first.1) (sym read) (place-stays (forms_in c.args.space.now.store) c.args.first.0 c.args.first.1 c.requires.first)
+    subst (λ fs. IsPlace fs c.args.first.number c.args.first.start) (sym read) (place-stays (forms_in c.args.space.now.store) c.args.first.number c.args.first.start c.requires.first)
 
 pub index_from-requires-clause-index : goal.index_from-requires-clause-index
 index_from-requires-clause-index c =
     let s = c.args.space.now in
-    let k = c.args.first.0 in
+    let k = c.args.first.number in
     let read = unmarked-read s _ _ c.unindex_from.ensures.same c.remove_marked-count.ensures.gone in
-    let front : take k (forms_in c.remove_marked-count.new.space.store) ≡ take k (forms_in s.store) = ap (take k) read ∙ first-stay (forms_in s.store) k c.args.first.1 c.requires.first in
+    let front : take k (forms_in c.remove_marked-count.new.space.store) ≡ take k (forms_in s.store) = ap (take k) read ∙ first-stay (forms_in s.store) k c.args.first.start c.requires.first in
     let spare : c.remove_marked-count.new.space.spare ≡ c.unindex_from.new.space.spare = ap (λ (w : Lists). w.spare) c.remove_marked-count.ensures.gone in
     subst (λ l. IsIndexed l (take k (forms_in c.remove_marked-count.new.space.store))) (sym spare) (subst (IsIndexed c.unindex_from.new.space.spare) (sym front) c.unindex_from.ensures.index)

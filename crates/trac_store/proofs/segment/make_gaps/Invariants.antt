@@ -6,12 +6,12 @@ abbrev pub invariant-loop-place : goal.invariant-loop-place
 invariant-loop-place l = record {
   others : l.space ≡ record l.initial.space { store = l.space.store };
   len : length l.space.store ≡ length l.initial.space.store;
-  lower : l.from ≤ l.write;
+  lower : l.fn.body.from ≤ l.write;
   order : l.write ≤ l.read;
   upper : l.read ≤ l.to;
   rest : drop l.read l.space.store ≡ drop l.read l.initial.space.store;
-  written : take l.write l.space.store ++ segment_cells (laid_text (slice_range l.initial.space.neutral l.text.0 l.text.1)) l.ordinal 0 (slice_range l.initial.space.store l.read l.to)
-      ≡ take l.from l.initial.space.store ++ segment_cells (laid_text (slice_range l.initial.space.neutral l.text.0 l.text.1)) l.ordinal 0 (slice_range l.initial.space.store l.from l.to);
+  written : take l.write l.space.store ++ segment_cells (laid_text (slice_range l.initial.space.neutral l.text.from l.text.to)) l.ordinal 0 (slice_range l.initial.space.store l.read l.to)
+      ≡ take l.fn.body.from l.initial.space.store ++ segment_cells (laid_text (slice_range l.initial.space.neutral l.text.from l.text.to)) l.ordinal 0 (slice_range l.initial.space.store l.fn.body.from l.to);
 }
 
 abbrev pub decreases-loop-place : goal.decreases-loop-place

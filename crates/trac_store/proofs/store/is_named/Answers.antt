@@ -7,7 +7,7 @@ use Rattle.trac_store.proofs.store.is_named.Goals as goal
 use Rattle.trac_store.proofs.store.is_named.Goals.{Start}
 
 -- the form begins at the place
-here : (c : Start) → Begins c.args.store.now c.args.form.0 c.args.form.1
+here : (c : Start) → Begins c.args.store.now c.args.form.number c.args.form.start
 here c = begins_at _ _ _ c.requires.whole c.requires.within c.requires.begins.start_is
 
 -- the name of a form, which has the length that was read
@@ -49,7 +49,7 @@ pub is_text_back-requires-clause-cell_bytes : goal.is_text_back-requires-clause-
 is_text_back-requires-clause-cell_bytes c =
     let b = here (goal.at.is_text_back-requires-clause-cell_bytes c).Start in
     let len = c.number_in_head-len.ensures ∙ number_is _ _ b.name_len in
-    bytes c.args.store.now c.args.form.0 c.args.form.1 c.number_in_head-len.result b len
+    bytes c.args.store.now c.args.form.number c.args.form.start c.number_in_head-len.result b len
 
 pub is_text_back-requires-clause-bytes : goal.is_text_back-requires-clause-bytes
 is_text_back-requires-clause-bytes c = bytes-of-seen c.args.name.now c.requires.bytes
@@ -58,7 +58,7 @@ pub returns-then-len-name : goal.returns-then-len-name
 returns-then-len-name c = λ t.
     let b = here (goal.at.returns-then-len-name c).Start in
     let len = c.number_in_head-len.ensures ∙ number_is _ _ b.name_len in
-    let text = same c.args.store.now c.args.form.0 c.args.form.1 c.number_in_head-len.result b len c.args.name.now in
+    let text = same c.args.store.now c.args.form.number c.args.form.start c.number_in_head-len.result b len c.args.name.now in
     record {
       named = record { within = c.requires.within; named = text (c.is_text_back.ensures t) };
       start_is = c.requires.begins.start_is;

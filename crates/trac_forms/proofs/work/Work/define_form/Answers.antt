@@ -8,21 +8,21 @@ use Rattle.trac_forms.proofs.work.Work.define_form.Goals.{After-store_form, Afte
 
 -- the forms beside the new one, and it
 abbrev rest : After-store_form → List Form
-rest c = without (part_text c.self.inside.space.neutral c.args.name.0 c.args.name.1) (forms_in c.self.inside.space.store)
+rest c = without (part_text c.self.inside.space.neutral c.args.name.from c.args.name.to) (forms_in c.self.inside.space.store)
 
 abbrev form : After-store_form → Form
-form c = new_form c.self.inside.space.neutral c.args.name.0 c.args.name.1 c.args.text.0 c.args.text.1
+form c = new_form c.self.inside.space.neutral c.args.name.from c.args.name.to c.args.text.from c.args.text.to
 
 -- the store once it is put there
 put : (c : After-store_form) → c.store_form.new.space ≡ record c.self.inside.space { store = flat_forms (rest c ++ form c ∷ []); spare = c.store_form.new.space.spare }
-put c = redefined c.self.inside.space c.remove_found-count.new.space c.store_form.new.space (rest c) c.args.name.0 c.args.name.1 c.args.text.0 c.args.text.1 c.remove_found-count.ensures.gone c.store_form.ensures.stored
+put c = redefined c.self.inside.space c.remove_found-count.new.space c.store_form.new.space (rest c) c.args.name.from c.args.name.to c.args.text.from c.args.text.to c.remove_found-count.ensures.gone c.store_form.ensures.stored
 
 read : (c : After-store_form) → forms_in c.store_form.new.space.store ≡ rest c ++ form c ∷ []
 read c = ap (λ (w : Lists). forms_in w.store) (put c) ∙ forms_in-flat (rest c ++ form c ∷ [])
 
 stored : (c : After-index_last) → IsStored c.index_last.new.space (c.remove_found-count.result + 1) c.remove_found-count.result c.store_len-start.result
 stored c =
-    defined-stored c.self.inside.space c.remove_found-count.new.space c.store_form.new.space c.index_last.new.space c.self.inside.count c.self.inside.last c.self.inside.start c.args.name.0 c.args.name.1 c.args.text.0 c.args.text.1 c.remove_found-count.result c.store_len-start.result c.self.invariant (rw (← c.self.view_is) at c.requires.name_part.within) (rw (← c.self.view_is) at c.requires.text_part.within) (omega (arith, c.free-free.ensures)) c.remove_found-count.ensures.gone c.remove_found-count.ensures.count c.store_len-start.ensures c.store_form.ensures.stored c.index_last.ensures.index c.index_last.ensures.same
+    defined-stored c.self.inside.space c.remove_found-count.new.space c.store_form.new.space c.index_last.new.space c.self.inside.count c.self.inside.last.number c.self.inside.last.start c.args.name.from c.args.name.to c.args.text.from c.args.text.to c.remove_found-count.result c.store_len-start.result c.self.invariant (rw (← c.self.view_is) at c.requires.name_part.within) (rw (← c.self.view_is) at c.requires.text_part.within) (omega (arith, c.free-free.ensures)) c.remove_found-count.ensures.gone c.remove_found-count.ensures.count c.store_len-start.ensures c.store_form.ensures.stored c.index_last.ensures.index c.index_last.ensures.same
 
 pub returns-then-free-need-clause-full : goal.returns-then-free-need-clause-full
 returns-then-free-need-clause-full c =
@@ -37,7 +37,7 @@ store_form-requires-clause-room c =
     let used = used-stored s c.self.invariant.whole in
     let name_in = rw (← c.self.view_is) at c.requires.name_part.within in
     let text_in = rw (← c.self.view_is) at c.requires.text_part.within in
-    let name = part_text s.neutral c.args.name.0 c.args.name.1 in
+    let name = part_text s.neutral c.args.name.from c.args.name.to in
     let gone = c.remove_found-count.ensures.gone in
     let is = ap lists.used gone in
     let room = ap (λ v. v.room) gone in
@@ -74,9 +74,9 @@ index_last-requires-clause-bounded c =
     let name_in = rw (← c.self.view_is) at c.requires.name_part.within in
     let text_in = rw (← c.self.view_is) at c.requires.text_part.within in
     let there = ap (λ (w : Lists). length w.store) (put k) in
-    let size = length-new_form s.neutral c.args.name.0 c.args.name.1 c.args.text.0 c.args.text.1 name_in text_in in
+    let size = length-new_form s.neutral c.args.name.from c.args.name.to c.args.text.from c.args.text.to name_in text_in in
     let more = sum_by_push form_cells (rest k) (form k) in
-    let fewer = cells-without (part_text s.neutral c.args.name.0 c.args.name.1) (forms_in s.store) in
+    let fewer = cells-without (part_text s.neutral c.args.name.from c.args.name.to) (forms_in s.store) in
     omega (arith, there, length-flat (rest k ++ form k ∷ []), length-flat (forms_in s.store), size, more, fewer, used-stored s h.whole, h.sound.fits, h.sound.bounded, c.free-free.ensures)
 
 pub overflow_add-self : goal.overflow_add-self

@@ -4,7 +4,7 @@ use Rattle.trac_forms.proofs.work.Work.delete_named.Goals as goal
 
 pub mark_all-first-requires-clause-formed : goal.mark_all-first-requires-clause-formed
 mark_all-first-requires-clause-formed c =
-    formed c.self.inside.space c.self.inside.count c.self.inside.last c.self.inside.start c.self.invariant
+    formed c.self.inside.space c.self.inside.count c.self.inside.last.number c.self.inside.last.start c.self.invariant
 
 pub take_out_marked-self-inside-requires-clause-whole :
     goal.take_out_marked-self-inside-requires-clause-whole
@@ -35,4 +35,4 @@ returns-clause-sound c = (invariant_of-self c).sound
 
 pub mark_all-first-requires-clause-plain : goal.mark_all-first-requires-clause-plain
 mark_all-first-requires-clause-plain c =
-    none-marked c.self.inside.space c.self.inside.count c.self.inside.last c.self.inside.start c.self.invariant
+    none-marked c.self.inside.space c.self.inside.count c.self.inside.last.number c.self.inside.last.start c.self.invariant

@@ -18,5 +18,5 @@ returns-clause-done c =
     let now = c.args.self.now in
     let found = rw c.in-Some.is at c.requires.found in
     let sound : IsSound now = rw (← c.self.view_is) c.self.invariant.sound in
-    let last : length now.forms ≤ c.in-Some.k + 1 = rw (← c.self.view_is) (omega (arith, c.self.invariant.count_is, c.if-k-count.false)) in
-    c.write_body.ensures.written ∙ ap (λ forms. record now { forms = forms }) (defined-last (part_text now.neutral c.args.name.0 c.args.name.1) (part_text now.neutral c.args.text.0 c.args.text.1) now.forms c.in-Some.k sound.forms found.named last)
+    let last : length now.forms ≤ c.in-Some.form.number + 1 = rw (← c.self.view_is) (omega (arith, c.self.invariant.count_is, c.if-form-count.false)) in
+    c.write_body.ensures.written ∙ ap (λ forms. record now { forms = forms }) (defined-last (part_text now.neutral c.args.name.from c.args.name.to) (part_text now.neutral c.args.text.from c.args.text.to) now.forms c.in-Some.form.number sound.forms found.named last)
