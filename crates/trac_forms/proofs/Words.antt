@@ -20,7 +20,7 @@ pub use Rattle.trac_language.specs.Store.{IsStore, defined, form_cells, without}
 pub use Rattle.trac_language.specs.Text.{Text}
 pub use Rattle.trac_language.specs.declared.item.Item.{Item}
 pub use Rattle.trac_space.specs.Cells.{IsNoCall, NoCall, bytes, seen}
-pub use Rattle.trac_space.specs.Lists.{Lists, with_way}
+pub use Rattle.trac_space.specs.Lists.{Lists, claimed}
 pub use Rattle.trac_space.specs.Runs.{number_in, turned, turned_by}
 pub use Rattle.trac_space.specs.Texts.{IsByte, byte_cell_at, character_of, flat_text, text_of_cells}
 pub use Rattle.trac_space.specs.declared.cell.Cell.{Cell}
@@ -31,7 +31,7 @@ pub use Rattle.trac_store.proofs.FlatLemmas.{Byte-character_of, character_of-Byt
 pub use Rattle.trac_store.proofs.FormTables.{front-cells, index-set}
 pub use Rattle.trac_store.proofs.Gaps.{bytes-seen}
 pub use Rattle.trac_store.proofs.HeadCells.{number-at}
-pub use Rattle.trac_store.proofs.IndexSearch.{index-kept, index-pointer, index-replaced, way-kept}
+pub use Rattle.trac_store.proofs.IndexSearch.{index-kept, index-pointer, index-replaced, claimed-kept}
 pub use Rattle.trac_store.proofs.Items.{item-stored}
 pub use Rattle.trac_store.proofs.Places.{Stands, repointed, stands, start_of-set}
 pub use Rattle.trac_store.proofs.Removals.{IsStore-filter, cells-filter, length-marks, no-mark, own-names, unmarked-marks}

@@ -11,13 +11,13 @@ ghost use Rattle.trac_space.specs.Texts.{IsByte, byte_cell_at};
 use crate::cell::{Cell, are_characters, are_four, are_two, byte_in, is_character};
 
 // How many cells a long move takes at once.
-const PART: usize = 256;
+const LONG_PART: usize = 256;
 // How near two places are whose cells go one by one.
 const NEAR: usize = 8;
 // How many cells are moved by blocks at most, and not by a call, where the two places are apart.
-const FEW: usize = 24;
+const MOST_BY_BLOCKS: usize = 24;
 // How many are moved so where they overlap, and not part by part.
-const MANY: usize = 48;
+const MOST_OVERLAPPING_BY_BLOCKS: usize = 48;
 // How many characters are moved at once before each of them is looked at.
 pub(crate) const BLOCK: usize = 8;
 
@@ -98,7 +98,7 @@ fn copy_long(cells: &mut [Cell], start: usize, end: usize, to: usize)
         cells.copy_within(start..end, to);
     } else if start < to {
         copy_up(cells, start, end, to);
-    } else if end - start <= MANY {
+    } else if end - start <= MOST_OVERLAPPING_BY_BLOCKS {
         copy_blocks_before(cells, start, end - start, to);
     } else {
         copy_down(cells, start, end, to);
@@ -134,7 +134,7 @@ fn copy_up(cells: &mut [Cell], start: usize, end: usize, to: usize)
     ensures len { length cells.new ≡ length cells.old }
     ensures after { cells.new ≡ copy_within cells.old start end to }
 {
-    let part = (to - start).min(PART);
+    let part = (to - start).min(LONG_PART);
     let mut left = end - start;
     while left > 0 {
         let last = left;
@@ -152,7 +152,7 @@ fn copy_down(cells: &mut [Cell], start: usize, end: usize, to: usize)
     ensures len { length cells.new ≡ length cells.old }
     ensures after { cells.new ≡ copy_within cells.old start end to }
 {
-    let part = (start - to).min(PART);
+    let part = (start - to).min(LONG_PART);
     let all = end - start;
     let mut done = 0;
     while done < all {
@@ -168,7 +168,7 @@ fn copy_other(from: &[Cell], to: &mut [Cell])
     requires { length from.now ≡ length to.old }
     ensures { to.new ≡ from.now }
 {
-    if from.len() <= PART {
+    if from.len() <= LONG_PART {
         to.copy_from_slice(from);
     } else {
         copy_parts(from, to);
@@ -183,7 +183,7 @@ fn copy_parts(from: &[Cell], to: &mut [Cell])
 {
     let mut done = 0;
     while done < from.len() {
-        let end = done + PART.min(from.len() - done);
+        let end = done + LONG_PART.min(from.len() - done);
         to[done..end].copy_from_slice(&from[done..end]);
         done = end;
     }
@@ -343,7 +343,7 @@ pub(crate) fn copy_forward(cells: &mut [Cell], start: usize, end: usize, to: usi
     ensures len { length cells.new ≡ length cells.old }
     ensures after { cells.new ≡ copy_within cells.old start end to }
 {
-    if end <= to && end - start <= FEW {
+    if end <= to && end - start <= MOST_BY_BLOCKS {
         copy_behind(cells, start, to - start, end - start);
     } else {
         copy_cells(cells, start, end, to);
@@ -360,7 +360,7 @@ pub(crate) fn copy_back(cells: &mut [Cell], start: usize, end: usize, to: usize)
     ensures after { cells.new ≡ copy_within cells.old start end to }
 {
     let n = end - start;
-    if n >= BLOCK && n <= FEW && start - to >= BLOCK {
+    if n >= BLOCK && n <= MOST_BY_BLOCKS && start - to >= BLOCK {
         copy_blocks_before(cells, start, n, to);
     } else {
         copy_cells(cells, start, end, to);
@@ -377,7 +377,7 @@ pub(crate) fn copy_on(cells: &mut [Cell], start: usize, end: usize, to: usize)
     ensures after { cells.new ≡ copy_within cells.old start end to }
 {
     let n = end - start;
-    if n >= BLOCK && n <= MANY && to - start >= BLOCK {
+    if n >= BLOCK && n <= MOST_OVERLAPPING_BY_BLOCKS && to - start >= BLOCK {
         copy_blocks_up(cells, start, n, to - start);
     } else {
         copy_cells(cells, start, end, to);
@@ -412,7 +412,7 @@ pub(crate) fn copy_before(cells: &mut [Cell], start: usize, n: usize, to: usize)
     ensures len { length cells.new ≡ length cells.old }
     ensures after { cells.new ≡ copy_within cells.old start (start + n) to }
 {
-    if n > FEW {
+    if n > MOST_BY_BLOCKS {
         copy_long(cells, start, start + n, to);
     } else if n >= BLOCK {
         copy_blocks_before(cells, start, n, to);
@@ -481,7 +481,7 @@ pub(crate) fn copy_ahead(cells: &mut [Cell], start: usize, n: usize, to: usize)
     ensures len { length cells.new ≡ length cells.old }
     ensures after { cells.new ≡ copy_within cells.old start (start + n) to }
 {
-    if n > FEW {
+    if n > MOST_BY_BLOCKS {
         copy_long(cells, start, start + n, to);
     } else {
         copy_behind(cells, start, to - start, n);

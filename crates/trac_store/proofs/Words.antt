@@ -28,7 +28,7 @@ pub use Rattle.trac_space.proofs.Characters.{part-on, tested-seen}
 pub use Rattle.trac_space.proofs.Runs.{character-seen}
 pub use Rattle.trac_space.specs.Cells.{IsNoCall, NoCall, is_call, is_comma, seen}
 pub use Rattle.trac_space.specs.Filled.{HaveCommas, filled, filling, numbered_part, part_between, parts_at}
-pub use Rattle.trac_space.specs.Lists.{HasWay, Lists, used, with_way}
+pub use Rattle.trac_space.specs.Lists.{FitsBesideSpare, Lists, used, claimed}
 pub use Rattle.trac_space.specs.Overlay.{HaveNumbers, over, takes_number, under}
 pub use Rattle.trac_space.specs.Texts.{IsByte, byte_cell_at, character_of, flat_text, is_byte_cell, text_of_cells}
 pub use Rattle.trac_space.specs.declared.cell.Cell.{Cell}

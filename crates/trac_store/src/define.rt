@@ -88,7 +88,7 @@ pub fn store_form(space: &mut Space, need: u32, name: Part, text: Part)
           spare = space.new.spare;
         } }
 {
-    space.make_way(need);
+    space.claim(need);
     let start = space.store_len();
     space.open_store(need);
     prove!(space.used() <= space.room());

@@ -7,7 +7,7 @@ ghost use Rattle.trac_language.specs.Store.{IsStore};
 ghost use Rattle.trac_language.specs.Form.{text_of};
 ghost use Rattle.trac_space.specs.Cells.{NoCall};
 ghost use Rattle.trac_space.specs.Filled.{HaveCommas, filled};
-ghost use Rattle.trac_space.specs.Lists.{used as cells_used, with_way};
+ghost use Rattle.trac_space.specs.Lists.{used as cells_used, claimed};
 ghost use Rattle.trac_space.specs.Overlay.{under};
 ghost use Rattle.trac_space.specs.Texts.{flat_text, IsByte};
 ghost use Rattle.trac_store.specs.Loading.{called_part, AreCharacters};
@@ -33,15 +33,15 @@ pub fn load_form(space: &mut Space, form: Located) -> Option<u32>
         MatchOption result (space.new ≡ space.old)
         (λ n. AreCharacters body × (length body ≡ n)
         × (cells_used space.old + n ≤ space.old.room)
-        × (space.new ≡ record (with_way n space.old) {
+        × (space.new ≡ record (claimed n space.old) {
           active = flat_text (text_of body) ++ space.old.active;
         })) }
 {
     let (name, body, pointer) = heads_of(space, form);
     let place = form.start + 3 + name;
     let (from, stop) = (place + pointer, place + body);
-    // hands on that the lists fit
-    let _way = space.way();
+    // The lists fit in the block.
+    prove!(space.free_beside_spare() <= space.room());
     if from == stop {
         return Some(0);
     }
@@ -57,11 +57,11 @@ fn load_items(space: &mut Space, items: Part) -> Option<u32>
     ensures { let cells = slice_range space.old.store items.from items.to in
         MatchOption result (space.new ≡ space.old)
         (λ n. All IsByte cells × (items.from + n ≡ items.to) × (cells_used space.old + n ≤ space.old.room)
-        × (space.new ≡ record (with_way n space.old) { active = cells ++ space.old.active })) }
+        × (space.new ≡ record (claimed n space.old) { active = cells ++ space.old.active })) }
 {
     let size = items.to - items.from;
-    if space.way() < size {
-        return load_items_in_way(space, items);
+    if space.free_beside_spare() < size {
+        return load_items_over_spare(space, items);
     }
     if space.load_characters(items.from, items.to) {
         Some(size)
@@ -72,19 +72,19 @@ fn load_items(space: &mut Space, items: Part) -> Option<u32>
 
 // The same where the spare list may be in the way.
 #[inline(never)]
-fn load_items_in_way(space: &mut Space, items: Part) -> Option<u32>
+fn load_items_over_spare(space: &mut Space, items: Part) -> Option<u32>
     requires order { items.from ≤ items.to }
     requires within { items.to ≤ length space.old.store }
     ensures { let cells = slice_range space.old.store items.from items.to in
         MatchOption result (space.new ≡ space.old)
         (λ n. All IsByte cells × (items.from + n ≡ items.to) × (cells_used space.old + n ≤ space.old.room)
-        × (space.new ≡ record (with_way n space.old) { active = cells ++ space.old.active })) }
+        × (space.new ≡ record (claimed n space.old) { active = cells ++ space.old.active })) }
 {
     let size = items.to - items.from;
     if space.characters_from(items.from, items.to) < size || space.free() < size {
         return None;
     }
-    space.make_way(size);
+    space.claim(size);
     space.load_from_store(items.from, items.to);
     Some(size)
 }
@@ -108,8 +108,8 @@ pub fn fill_items(space: &mut Space, items: Part, texts: Part) -> bool
     ensures full { OnFalse result (space.new ≡ record space.old { spare = space.new.spare }) }
     ensures kept { IsKept space.old.spare space.new.spare }
 {
-    // hands on that the lists fit
-    let _way = space.way();
+    // The lists fit in the block.
+    prove!(space.free_beside_spare() <= space.room());
     if items.from == items.to {
         return true;
     }

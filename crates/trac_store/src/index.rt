@@ -19,7 +19,7 @@ ghost use Rattle.trac_store.specs.Index.{IsOpenFor, is_open, with_entry, start_i
 ghost use Rattle.trac_store.specs.Index.{forward, earlier, started, HasStartsFrom};
 
 use crate::located::{FIRST_FORM, Located};
-use crate::store::{MANY, head, heads_of, is_text, number, number_in_head};
+use crate::store::{FORMS_FOR_INDEX, head, heads_of, is_text, number, number_in_head};
 use trac_space::{Cell, Space, byte_in};
 
 // An odd number near 2^64 divided by the golden ratio.
@@ -107,7 +107,7 @@ pub(crate) fn look_up(
     let slots = 2 * (table.len() / 4);
     let first = hash(name);
     for i in 0..slots {
-        if i >= FEW_SLOTS {
+        if i >= SLOTS_AT_NO_COST {
             *search_cost = search_cost.saturating_add(1);
         }
         match table[(first + i) & (slots - 1)] {
@@ -124,7 +124,7 @@ pub(crate) fn look_up(
 }
 
 // How many slots a search may look at before that counts as its cost.
-const FEW_SLOTS: usize = 6;
+const SLOTS_AT_NO_COST: usize = 6;
 
 // How many slots are looked at for a new form before the table is given up: names that are mixed to
 // one number would make it long to fill, and no shorter to search than the forms.
@@ -441,7 +441,7 @@ pub(crate) fn index_fitting(space: &mut Space, count: u32) -> bool
 }
 
 // How many looks at a form, or at a slot, making a table costs for each form.
-const COST: u32 = 8;
+const INDEX_COST: u32 = 8;
 
 /// Makes a table of the forms in free cells, by which they are found, where searches have cost more
 /// since the last one than that does: so much is `search_cost`, which begins anew then. Nothing else
@@ -455,7 +455,7 @@ pub fn keep_index(space: &mut Space, count: u32, search_cost: &mut u32)
     ensures same { space.new ≡ record space.old { spare = space.new.spare } }
     ensures index { IsIndexed space.new.spare (forms_in space.old.store) }
 {
-    if count >= MANY && *search_cost / COST > count {
+    if count >= FORMS_FOR_INDEX && *search_cost / INDEX_COST > count {
         index_worthwhile(space, count, search_cost);
     }
 }
@@ -470,7 +470,7 @@ fn index_worthwhile(space: &mut Space, count: u32, search_cost: &mut u32)
     ensures same { space.new ≡ record space.old { spare = space.new.spare } }
     ensures index { IsIndexed space.new.spare (forms_in space.old.store) }
 {
-    if (*search_cost / COST).saturating_sub(count) < space.active_len() / 256 {
+    if (*search_cost / INDEX_COST).saturating_sub(count) < space.active_len() / 256 {
         return;
     }
     *search_cost = 0;

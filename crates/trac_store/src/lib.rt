@@ -29,7 +29,7 @@ pub use removal::{mark_all, take_out_marked};
 pub use search::{find_text, first_character, first_gap, last_character};
 pub use segment::segment_store;
 pub use store::{
-    FEW, find_few, find_named, head, heads, heads_of, is_first_named, item_in, item_of,
+    FEW_FORMS, find_few, find_named, head, heads, heads_of, is_first_named, item_in, item_of,
     number_in_head, place_of,
 };
 pub use trac_language::Item;

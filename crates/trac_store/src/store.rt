@@ -134,9 +134,9 @@ pub(crate) fn number(cell: Cell) -> u32
 const NO_NUMBER: [u32; 0] = [];
 
 /// How many forms are too few for a search to start at the form used last.
-pub const FEW: u32 = 8;
+pub const FEW_FORMS: u32 = 8;
 // From how many forms on an index of them is made and used.
-pub(crate) const MANY: u32 = 12;
+pub(crate) const FORMS_FOR_INDEX: u32 = 12;
 
 /// The number in a cell that is a head.
 #[inline]
@@ -356,13 +356,13 @@ pub fn find_named(
 {
     let store = space.store_part(0, space.store_len());
     let name = space.neutral_part(part.from, part.to);
-    if count >= MANY {
+    if count >= FORMS_FOR_INDEX {
         return find_among_many(space, store, count, last, name, search_cost);
     }
     if name.is_empty() {
         return find_null(store, count);
     }
-    if count < FEW {
+    if count < FEW_FORMS {
         return search_some(store, FIRST_FORM, count, name);
     }
     find_round(store, last, count, name)
@@ -446,7 +446,7 @@ fn looked_at(found: Option<Located>, end: u32) -> u32 {
 // Adds what a search has cost that looked at so many forms, beyond what one by an index would.
 #[inline]
 fn add_search_cost(search_cost: &mut u32, looks: u32) {
-    if looks > FEW {
-        *search_cost = search_cost.saturating_add(looks - FEW);
+    if looks > FEW_FORMS {
+        *search_cost = search_cost.saturating_add(looks - FEW_FORMS);
     }
 }

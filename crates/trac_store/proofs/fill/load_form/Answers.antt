@@ -1,4 +1,4 @@
-use Rattle.trac_store.proofs.Words.{◌≡◌, ℕ, ◌+◌, ◌-◌, ◌≤◌, ◌++◌, List, [], Option, Some, None, MatchOption, true, nat_le, length, map, All, slice_range, refl, sym, ap, ◌∙◌, subst, arith, Lists, used, with_way, Item, length-map, All-nil, length-between, flat_text, IsByte, text_of, is_character}
+use Rattle.trac_store.proofs.Words.{◌≡◌, ℕ, ◌+◌, ◌-◌, ◌≤◌, ◌++◌, List, [], Option, Some, None, MatchOption, true, nat_le, length, map, All, slice_range, refl, sym, ap, ◌∙◌, subst, arith, Lists, used, claimed, Item, length-map, All-nil, length-between, flat_text, IsByte, text_of, is_character}
 use Rattle.trac_store.proofs.Words.{AreCharacters, item_of}
 use Rattle.trac_store.proofs.Filling.{AreItems, items, plain-items, plain-text}
 use Rattle.trac_store.proofs.fill.load_form.Goals as goal
@@ -29,7 +29,7 @@ pub load_items-requires-clause-within : goal.load_items-requires-clause-within
 load_items-requires-clause-within c = (called (goal.at.load_items-requires-clause-within c).After-heads_of-name).behind
 
 -- characters in the store are items, and a text
-handed : (result : Option ℕ) (s t : Lists) (body : List Item) (from stop : ℕ) → map item_of (slice_range s.store from stop) ≡ body → stop ≤ length s.store → MatchOption result (t ≡ s) (λ n. All IsByte (slice_range s.store from stop) × (from + n ≡ stop) × (used s + n ≤ s.room) × (t ≡ record (with_way n s) { active = slice_range s.store from stop ++ s.active })) → MatchOption result (t ≡ s) (λ n. AreCharacters body × (length body ≡ n) × (used s + n ≤ s.room) × (t ≡ record (with_way n s) { active = flat_text (text_of body) ++ s.active }))
+handed : (result : Option ℕ) (s t : Lists) (body : List Item) (from stop : ℕ) → map item_of (slice_range s.store from stop) ≡ body → stop ≤ length s.store → MatchOption result (t ≡ s) (λ n. All IsByte (slice_range s.store from stop) × (from + n ≡ stop) × (used s + n ≤ s.room) × (t ≡ record (claimed n s) { active = slice_range s.store from stop ++ s.active })) → MatchOption result (t ≡ s) (λ n. AreCharacters body × (length body ≡ n) × (used s + n ≤ s.room) × (t ≡ record (claimed n s) { active = flat_text (text_of body) ++ s.active }))
 handed None s t body from stop are within same = same
 handed (Some n) s t body from stop are within loaded =
     let cells = slice_range s.store from stop in (
@@ -52,5 +52,5 @@ returns-then-from-stop c =
     let none : slice_range old.store from (c.args.form.start + 3 + c.heads_of-name.result.0 + c.heads_of-name.result.1) ≡ [] =
     (let zero : c.args.form.start + 3 + c.heads_of-name.result.0 + c.heads_of-name.result.1 - from ≡ 0 = omega (arith, c.if-from-stop.true) in rw zero refl) in
     let items_are = sym i.are ∙ ap (map item_of) none in
-    let stays : nat_le (used old + 0 + length old.spare) old.room ≡ true = grind (arith, c.way-way.ensures) in
-    rw (items_are, stays) (All-nil (λ item. is_character item ≡ true), refl, omega (arith, c.way-way.ensures), refl)
+    let stays : nat_le (used old + 0 + length old.spare) old.room ≡ true = grind (arith, c.free_beside_spare.ensures) in
+    rw (items_are, stays) (All-nil (λ item. is_character item ≡ true), refl, omega (arith, c.free_beside_spare.ensures), refl)

@@ -1,5 +1,5 @@
-use Rattle.trac_forms.proofs.Words.{◌≡◌, ℕ, ◌+◌, ◌≤◌, ◌++◌, List, [], ◌∷◌, length, Option, Some, None, MatchOption, refl, sym, ap, subst, arith, length-map, Item, text_of, Byte, Lists, with_way, flat_text, form_place, AreCharacters, called_part, IsLoaded, forms_in, shown, IsStored, bytes-flat}
-use Rattle.trac_forms.proofs.Words.{way-kept}
+use Rattle.trac_forms.proofs.Words.{◌≡◌, ℕ, ◌+◌, ◌≤◌, ◌++◌, List, [], ◌∷◌, length, Option, Some, None, MatchOption, refl, sym, ap, subst, arith, length-map, Item, text_of, Byte, Lists, claimed, flat_text, form_place, AreCharacters, called_part, IsLoaded, forms_in, shown, IsStored, bytes-flat}
+use Rattle.trac_forms.proofs.Words.{claimed-kept}
 use Rattle.trac_language.specs.declared.item.Item.TheVariants as item
 use Rattle.trac_space.specs.Lists as lists
 use Rattle.trac_forms.proofs.Strings.{used-stored, before-active}
@@ -9,7 +9,7 @@ use Rattle.trac_forms.proofs.work.Work.load_body.Goals as goal
 abbrev Loads : List Item → Lists → Lists → Option ℕ → Type 0
 Loads body s t result =
     MatchOption result (t ≡ s)
-    (λ n. AreCharacters body × (length body ≡ n) × (lists.used s + n ≤ s.room) × (t ≡ record (with_way n s) { active = flat_text (text_of body) ++ s.active }))
+    (λ n. AreCharacters body × (length body ≡ n) × (lists.used s + n ≤ s.room) × (t ≡ record (claimed n s) { active = flat_text (text_of body) ++ s.active }))
 
 text-within : (items : List Item) → length (text_of items) ≤ length items
 text-within [] = omega arith
@@ -21,7 +21,7 @@ stored body s t None count last start h same = subst (λ (l : Lists). IsStored l
 stored body s t (Some n) count last start h is =
     let size = length-map (text_of body) Byte in
     let fits : lists.used s + length (flat_text (text_of body)) ≤ s.room = omega (arith, text-within body, is.1, is.2) in
-    before-active _ s (with_way n s) t count last start (flat_text (text_of body)) (way-kept n s) h (bytes-flat (text_of body)) fits refl is.3
+    before-active _ s (claimed n s) t count last start (flat_text (text_of body)) (claimed-kept n s) h (bytes-flat (text_of body)) fits refl is.3
 
 seen : (body : List Item) (s t : Lists) (result : Option ℕ) (count last start : ℕ) → IsStored s count last start → Loads body s t result → MatchOption result (shown t ≡ shown s) (λ n. IsLoaded (shown s) (shown t) body n)
 seen body s t None count last start h same = ap shown same
