@@ -2,23 +2,18 @@
 ghost use Rattle.std.specs.Prelude.{◌≡◌, ◌+◌, ◌≤◌, ◌<◌, ◌↔◌, ◌++◌};
 ghost use Rattle.std.specs.Prelude.{length, IsTrue, MatchOption};
 ghost use Rattle.std.specs.Bool.{OnTrue, OnFalse};
-ghost use Rattle.trac_language.specs.Store.{IsStore};
-ghost use Rattle.trac_space.specs.Lists.{used as cells_used};
 ghost use Rattle.trac_space.specs.Texts.{flat_text};
 ghost use Rattle.trac_forms.specs.Contents.{used, IsSound, form_place};
 ghost use Rattle.trac_store.specs.Loading.{called_part};
 ghost use Rattle.trac_forms.specs.Loading.{IsLoaded};
 ghost use Rattle.trac_store.specs.Arguments.{AreParted};
 ghost use Rattle.trac_forms.specs.Arguments.{filled_body};
-ghost use Rattle.trac_store.specs.FlatForms.{flat_forms};
-ghost use Rattle.trac_store.specs.Index.{IsKept};
-ghost use Rattle.trac_store.specs.Stored.{forms_in, start_of};
-ghost use Rattle.trac_forms.specs.Stored.{shown};
+ghost use Rattle.trac_store.specs.Stored.{start_of};
 
 use crate::item::FormId;
 use crate::work::Work;
-use trac_space::{Part, Space};
-use trac_store::{Located, fill_items, heads_of, load_form, place_of};
+use trac_space::Part;
+use trac_store::{Located, fill_items, heads_of, load_form};
 
 impl<'a> Work<'a> {
     /// Puts the items of the form's body from its pointer on at the end of neutral, each gap of
@@ -47,7 +42,7 @@ impl<'a> Work<'a> {
             number: form.0,
             start: self.last.start,
         };
-        fill_form(&mut self.space, here, texts)
+        self.fill_located(here, texts)
     }
 
     // The same, where another form was used last.
@@ -64,16 +59,36 @@ impl<'a> Work<'a> {
         ensures full { OnFalse result (self.new ≡ self.old) }
         ensures sound { IsSound self.new }
     {
-        let start = place_of(&self.space, self.last, form.0);
-        let form = Located {
-            number: form.0,
-            start,
-        };
         let texts = Part {
             from: first,
             to: end,
         };
-        fill_form(&mut self.space, form, texts)
+        let at = self.locate(form);
+        self.fill_located(at, texts)
+    }
+
+    // The same of a form whose place is known.
+    #[inline(always)]
+    fn fill_located(&mut self, form: Located, texts: Part) -> bool
+        requires known { form.number < length self.old.forms }
+        requires begins { form.start ≡ start_of self.old.forms form.number }
+        requires arguments { AreParted self.old.neutral texts.from texts.to }
+        ensures put { let text = filled_body self.old form.number texts.from texts.to in
+            IsTrue result ↔ (used self.old + length text ≤ self.old.room) }
+        ensures last { let text = filled_body self.old form.number texts.from texts.to in
+            OnTrue result (self.new ≡ record self.old {
+              neutral = self.old.neutral ++ flat_text text;
+            }) }
+        ensures full { OnFalse result (self.new ≡ self.old) }
+        ensures sound { IsSound self.new }
+    {
+        let (name, body, pointer) = heads_of(&self.space, form);
+        let place = form.start + 3 + name;
+        let items = Part {
+            from: place + pointer,
+            to: place + body,
+        };
+        fill_items(&mut self.space, items, texts)
     }
 }
 
@@ -88,39 +103,7 @@ impl<'a> Work<'a> {
             (λ n. IsLoaded self.old self.new body n) }
         ensures sound { IsSound self.new }
     {
-        let start = place_of(&self.space, self.last, form.0);
-        let form = Located {
-            number: form.0,
-            start,
-        };
-        load_form(&mut self.space, form)
+        let at = self.locate(form);
+        load_form(&mut self.space, at)
     }
-}
-
-// As `fill_body`, of a form whose place is known.
-#[inline(always)]
-fn fill_form(space: &mut Space, form: Located, texts: Part) -> bool
-    requires whole { flat_forms (forms_in space.old.store) ≡ space.old.store }
-    requires bounded { length space.old.store ≤ 16777216 }
-    requires forms { IsStore (forms_in space.old.store) }
-    requires known { form.number < length (forms_in space.old.store) }
-    requires begins { form.start ≡ start_of (forms_in space.old.store) form.number }
-    requires arguments { AreParted space.old.neutral texts.from texts.to }
-    ensures put { let text = filled_body (shown space.old) form.number texts.from texts.to in
-        IsTrue result ↔ (cells_used space.old + length text ≤ space.old.room) }
-    ensures last { let text = filled_body (shown space.old) form.number texts.from texts.to in
-        OnTrue result (space.new ≡ record space.old {
-          neutral = space.old.neutral ++ flat_text text;
-          spare = space.new.spare;
-        }) }
-    ensures full { OnFalse result (space.new ≡ record space.old { spare = space.new.spare }) }
-    ensures kept { IsKept space.old.spare space.new.spare }
-{
-    let (name, body, pointer) = heads_of(space, form);
-    let place = form.start + 3 + name;
-    let items = Part {
-        from: place + pointer,
-        to: place + body,
-    };
-    fill_items(space, items, texts)
 }

@@ -46,35 +46,6 @@ pub fn take_out(space: &mut Space, form: Located, count: u32)
     remove_form(space, form.start);
 }
 
-/// Takes the form that was found for a name, a part of neutral, out of the store, if there is one,
-/// and gives how many forms there are then.
-pub fn remove_found(space: &mut Space, count: u32, found: Option<Located>, name: Part) -> u32
-    requires whole { flat_forms (forms_in space.old.store) ≡ space.old.store }
-    requires bounded { length space.old.store ≤ 16777216 }
-    requires count_is { count ≡ length (forms_in space.old.store) }
-    requires distinct { IsStore (forms_in space.old.store) }
-    requires found { let named = part_text space.old.neutral name.from name.to in
-        MatchOption found
-        (NoneNamed named (forms_in space.old.store))
-        (λ form. IsFoundAt (forms_in space.old.store) named form.number form.start) }
-    requires index { IsIndexed space.old.spare (forms_in space.old.store) }
-    ensures gone { let named = part_text space.old.neutral name.from name.to in
-        let rest = without named (forms_in space.old.store) in
-        space.new ≡ record space.old { store = flat_forms rest; spare = space.new.spare } }
-    ensures index { let named = part_text space.old.neutral name.from name.to in
-        IsIndexed space.new.spare (without named (forms_in space.old.store)) }
-    ensures count { let named = part_text space.old.neutral name.from name.to in
-        result ≡ length (without named (forms_in space.old.store)) }
-{
-    match found {
-        Some(form) => {
-            take_out(space, form, count);
-            count - 1
-        }
-        None => count,
-    }
-}
-
 /// Puts the cells of a new form, of which there are `need`, at the end of the store.
 pub fn store_form(space: &mut Space, need: u32, name: Part, text: Part)
     requires name_part { IsTextPart space.old.neutral name.from name.to }

@@ -21,7 +21,7 @@ mod segment;
 mod store;
 
 pub use arguments::before_comma;
-pub use define::{remove_found, store_form, take_out};
+pub use define::{store_form, take_out};
 pub use fill::{fill_items, load_form};
 pub use index::{clear_index, index_last, keep_index, shift_starts};
 pub use located::{FIRST_FORM, Located};

@@ -37,4 +37,4 @@ returns-clause-sound c = (invariant_of-self c).sound
 
 pub returns-clause-loaded : goal.returns-clause-loaded
 returns-clause-loaded c =
-    rw (← c.self.view_is) (seen (called_part (forms_in c.self.inside.space.store) (form_place c.args.form)) c.self.inside.space c.load_form.new.space c.load_form.result _ _ _ c.self.invariant c.load_form.ensures)
+    rw (← c.self.view_is) (seen (called_part (forms_in c.self.inside.space.store) (form_place c.args.form)) c.self.inside.space c.load_form.new.space c.load_form.result _ _ _ c.self.invariant (rw c.locate-at.ensures.number at c.load_form.ensures))

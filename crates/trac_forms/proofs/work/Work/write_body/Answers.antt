@@ -5,36 +5,36 @@ use Rattle.trac_forms.proofs.work.Work.write_body.Goals as goal
 
 pub overflow_add-body : goal.overflow_add-body
 overflow_add-body c =
-    omega (arith, known c.self.invariant c.self.view_is c.requires.known (rw (← c.self.view_is) at c.requires.begins))
+    omega (arith, known c.self.invariant c.self.view_is c.requires.known c.requires.begins)
 
 pub overflow_add-body-2 : goal.overflow_add-body-2
 overflow_add-body-2 c =
-    omega (arith, known c.self.invariant c.self.view_is c.requires.known (rw (← c.self.view_is) at c.requires.begins))
+    omega (arith, known c.self.invariant c.self.view_is c.requires.known c.requires.begins)
 
 pub write_part-requires-clause-inside : goal.write_part-requires-clause-inside
 write_part-requires-clause-inside c =
-    let f = known c.self.invariant c.self.view_is c.requires.known (rw (← c.self.view_is) at c.requires.begins) in
+    let f = known c.self.invariant c.self.view_is c.requires.known c.requires.begins in
     omega (arith, f.end, f.name_len, c.head-name.ensures, rw (← c.self.view_is) at c.requires.same)
 
 pub overflow_add-form : goal.overflow_add-form
 overflow_add-form c =
-    omega (arith, known c.self.invariant c.self.view_is c.requires.known (rw (← c.self.view_is) at c.requires.begins))
+    omega (arith, known c.self.invariant c.self.view_is c.requires.known c.requires.begins)
 
 pub write_store-requires-clause-within : goal.write_store-requires-clause-within
 write_store-requires-clause-within c =
     let s = c.self.inside.space in
-    let f = known c.self.invariant c.self.view_is c.requires.known (rw (← c.self.view_is) at c.requires.begins) in
+    let f = known c.self.invariant c.self.view_is c.requires.known c.requires.begins in
     let long = written-long s c.write_part.new.self (c.args.form.start + 3 + c.head-name.result) c.args.text.from c.args.text.to (rw (← c.self.view_is) at c.requires.text_part.within) (omega (arith, f.end, f.name_len, c.head-name.ensures, rw (← c.self.view_is) at c.requires.same)) c.write_part.ensures in
     omega (arith, long, f.end)
 
 pub overflow_add-form-2 : goal.overflow_add-form-2
 overflow_add-form-2 c =
-    omega (arith, known c.self.invariant c.self.view_is c.requires.known (rw (← c.self.view_is) at c.requires.begins))
+    omega (arith, known c.self.invariant c.self.view_is c.requires.known c.requires.begins)
 
 pub write_store-requires-2-clause-within : goal.write_store-requires-2-clause-within
 write_store-requires-2-clause-within c =
     let s = c.self.inside.space in
-    let f = known c.self.invariant c.self.view_is c.requires.known (rw (← c.self.view_is) at c.requires.begins) in
+    let f = known c.self.invariant c.self.view_is c.requires.known c.requires.begins in
     let long = written-long s c.write_part.new.self (c.args.form.start + 3 + c.head-name.result) c.args.text.from c.args.text.to (rw (← c.self.view_is) at c.requires.text_part.within) (omega (arith, f.end, f.name_len, c.head-name.ensures, rw (← c.self.view_is) at c.requires.same)) c.write_part.ensures in
     omega (arith, long, f.end, ap (λ (w : Lists). length w.store) c.write_store.ensures, length-set c.write_part.new.self.store (c.args.form.start + 1) (Head (c.args.text.to - c.args.text.from)))
 
