@@ -25,7 +25,7 @@ pub use Rattle.trac_space.specs.Runs.{number_in, turned, turned_by}
 pub use Rattle.trac_space.specs.Texts.{IsByte, byte_cell_at, character_of, flat_text, text_of_cells}
 pub use Rattle.trac_space.specs.declared.cell.Cell.{Cell}
 pub use Rattle.trac_space.specs.declared.cell.Cell.TheVariants.{Byte, Call, Comma, Gap, Head}
-pub use Rattle.trac_store.proofs.Filling.{AreItems, items}
+pub use Rattle.trac_store.proofs.Filling.{AreItems, items, plain-items, plain-text}
 pub use Rattle.trac_store.proofs.Finding.{bytes-flat, part-seen}
 pub use Rattle.trac_store.proofs.FlatLemmas.{Byte-character_of, character_of-Byte, count-le, flat_items_of, forms_in-flat, item_of-cell, length-flat, length-flat_form, length-new_form, no_call-flat_forms}
 pub use Rattle.trac_store.proofs.FormTables.{front-cells, index-set}
@@ -33,7 +33,7 @@ pub use Rattle.trac_store.proofs.Gaps.{bytes-seen}
 pub use Rattle.trac_store.proofs.HeadCells.{number-at}
 pub use Rattle.trac_store.proofs.IndexSearch.{index-kept, index-pointer, index-replaced, claimed-kept}
 pub use Rattle.trac_store.proofs.Items.{item-stored}
-pub use Rattle.trac_store.proofs.Places.{Stands, repointed, stands, start_of-set}
+pub use Rattle.trac_store.proofs.Places.{Stands, removed-lists, repointed, stands, start_of-set}
 pub use Rattle.trac_store.proofs.Removals.{IsStore-filter, cells-filter, length-marks, no-mark, own-names, unmarked-marks}
 pub use Rattle.trac_store.proofs.Searches.{begins-within, body_len, characters-agree, first-agrees, gaps-agree, last-agrees, texts-agree}
 pub use Rattle.trac_store.proofs.Segments.{flat-segment, regapped, written}

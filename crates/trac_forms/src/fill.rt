@@ -13,7 +13,7 @@ ghost use Rattle.trac_store.specs.Stored.{start_of};
 use crate::item::FormId;
 use crate::work::Work;
 use trac_space::Part;
-use trac_store::{Located, fill_items, heads_of, load_form};
+use trac_store::{Located, fill_items, heads_of, load_items};
 
 impl<'a> Work<'a> {
     /// Puts the items of the form's body from its pointer on at the end of neutral, each gap of
@@ -104,6 +104,12 @@ impl<'a> Work<'a> {
         ensures sound { IsSound self.new }
     {
         let at = self.locate(form);
-        load_form(&mut self.space, at)
+        let (name, body, pointer) = heads_of(&self.space, at);
+        let place = at.start + 3 + name;
+        let items = Part {
+            from: place + pointer,
+            to: place + body,
+        };
+        load_items(&mut self.space, items)
     }
 }

@@ -1,21 +1,17 @@
 //! The cells of forms, put into the store and taken out of it.
 ghost use Rattle.std.specs.Prelude.{◌≡◌, ◌+◌, ◌-◌, ◌≤◌, ◌<◌, ◌++◌, length};
-ghost use Rattle.std.specs.Prelude.{take, drop, slice_range, remove};
-ghost use Rattle.std.specs.Prelude.{MatchOption};
-ghost use Rattle.trac_language.specs.Store.{IsStore, NoneNamed, without};
+ghost use Rattle.std.specs.Prelude.{take, drop, slice_range};
 ghost use Rattle.trac_space.specs.Lists as lists;
-ghost use Rattle.trac_store.specs.FlatForms.{flat_form, flat_forms};
-ghost use Rattle.trac_store.specs.Parts.{IsTextPart, part_text, new_form};
-ghost use Rattle.trac_store.specs.Index.{IsIndexed, IsKept};
-ghost use Rattle.trac_store.specs.Stored.{forms_in, start_of, head_at, IsFoundAt};
+ghost use Rattle.trac_store.specs.FlatForms.{flat_form};
+ghost use Rattle.trac_store.specs.Parts.{IsTextPart, new_form};
+ghost use Rattle.trac_store.specs.Index.{IsKept};
+ghost use Rattle.trac_store.specs.Stored.{head_at};
 
-use crate::index::unindex;
-use crate::located::Located;
 use crate::store::head;
 use trac_space::{Cell, Part, Space};
 
-// Takes the form that begins at `start` out of the store.
-fn remove_form(space: &mut Space, start: u32)
+/// Takes the form that begins at `start` out of the store.
+pub fn remove_form(space: &mut Space, start: u32)
     requires bounded { length space.old.store ≤ 16777216 }
     requires within { let store = space.old.store in
         let cells = 3 + head_at store start + head_at store (start + 1) in
@@ -28,22 +24,6 @@ fn remove_form(space: &mut Space, start: u32)
 {
     let cells = 3 + head(space, start) + head(space, start + 1);
     space.remove_store(start, start + cells);
-}
-
-/// Takes a form, one of `count`, out of the store and of the index.
-pub fn take_out(space: &mut Space, form: Located, count: u32)
-    requires whole { flat_forms (forms_in space.old.store) ≡ space.old.store }
-    requires bounded { length space.old.store ≤ 16777216 }
-    requires count_is { count ≡ length (forms_in space.old.store) }
-    requires within { form.number < count }
-    requires begins { form.start ≡ start_of (forms_in space.old.store) form.number }
-    requires index { IsIndexed space.old.spare (forms_in space.old.store) }
-    ensures gone { let rest = remove (forms_in space.old.store) form.number in
-        space.new ≡ record space.old { store = flat_forms rest; spare = space.new.spare } }
-    ensures index { IsIndexed space.new.spare (remove (forms_in space.old.store) form.number) }
-{
-    unindex(space, form, count);
-    remove_form(space, form.start);
 }
 
 /// Puts the cells of a new form, of which there are `need`, at the end of the store.

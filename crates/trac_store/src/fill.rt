@@ -16,42 +16,12 @@ ghost use Rattle.trac_store.specs.FlatForms.{flat_forms};
 ghost use Rattle.trac_store.specs.Index.{IsKept};
 ghost use Rattle.trac_store.specs.Stored.{forms_in, start_of};
 
-use crate::located::Located;
-use crate::store::heads_of;
 use trac_space::{Part, Space};
 
-/// Puts the characters of the form's body from its pointer on before active, where no gap stands
-/// among them and they fit, and gives how many they are. None where it does not put them.
+/// Puts items of the store before active, where they are all characters and fit, and gives how many
+/// they are. None where it does not put them.
 #[inline(always)]
-pub fn load_form(space: &mut Space, form: Located) -> Option<u32>
-    requires whole { flat_forms (forms_in space.old.store) ≡ space.old.store }
-    requires bounded { length space.old.store ≤ 16777216 }
-    requires forms { IsStore (forms_in space.old.store) }
-    requires known { form.number < length (forms_in space.old.store) }
-    requires begins { form.start ≡ start_of (forms_in space.old.store) form.number }
-    ensures { let body = called_part (forms_in space.old.store) form.number in
-        MatchOption result (space.new ≡ space.old)
-        (λ n. AreCharacters body × (length body ≡ n)
-        × (cells_used space.old + n ≤ space.old.room)
-        × (space.new ≡ record (claimed n space.old) {
-          active = flat_text (text_of body) ++ space.old.active;
-        })) }
-{
-    let (name, body, pointer) = heads_of(space, form);
-    let place = form.start + 3 + name;
-    let (from, stop) = (place + pointer, place + body);
-    // The lists fit in the block.
-    prove!(space.free_beside_spare() <= space.room());
-    if from == stop {
-        return Some(0);
-    }
-    load_items(space, Part { from, to: stop })
-}
-
-// Puts items of the store before active, where they are all characters and fit, and gives how many
-// they are. None where it does not put them.
-#[inline(always)]
-fn load_items(space: &mut Space, items: Part) -> Option<u32>
+pub fn load_items(space: &mut Space, items: Part) -> Option<u32>
     requires order { items.from ≤ items.to }
     requires within { items.to ≤ length space.old.store }
     ensures { let cells = slice_range space.old.store items.from items.to in
@@ -59,7 +29,12 @@ fn load_items(space: &mut Space, items: Part) -> Option<u32>
         (λ n. All IsByte cells × (items.from + n ≡ items.to) × (cells_used space.old + n ≤ space.old.room)
         × (space.new ≡ record (claimed n space.old) { active = cells ++ space.old.active })) }
 {
+    // The lists fit in the block.
+    prove!(space.free_beside_spare() <= space.room());
     let size = items.to - items.from;
+    if size == 0 {
+        return Some(0);
+    }
     if space.free_beside_spare() < size {
         return load_items_over_spare(space, items);
     }

@@ -293,10 +293,10 @@ fn start_earlier(space: &mut Space, k: u32, cells: u32)
     space.set_spare_at(place, Cell::Head(start - cells));
 }
 
-// Takes a form out of the table of `count` forms, if there is one: those behind it come one place
-// forward.
+/// Takes a form out of the table of `count` forms, if there is one: those behind it come one place
+/// forward.
 #[inline(always)]
-pub(crate) fn unindex(space: &mut Space, form: Located, count: u32)
+pub fn unindex(space: &mut Space, form: Located, count: u32)
     requires whole { flat_forms (forms_in space.old.store) ≡ space.old.store }
     requires bounded { length space.old.store ≤ 16777216 }
     requires count_is { count ≡ length (forms_in space.old.store) }

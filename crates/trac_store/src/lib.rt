@@ -21,9 +21,9 @@ mod segment;
 mod store;
 
 pub use arguments::before_comma;
-pub use define::{store_form, take_out};
-pub use fill::{fill_items, load_form};
-pub use index::{clear_index, index_last, keep_index, shift_starts};
+pub use define::{remove_form, store_form};
+pub use fill::{fill_items, load_items};
+pub use index::{clear_index, index_last, keep_index, shift_starts, unindex};
 pub use located::{FIRST_FORM, Located};
 pub use removal::{mark_all, take_out_marked};
 pub use search::{find_text, first_character, first_gap, last_character};
