@@ -6,7 +6,7 @@ ghost use Rattle.trac_store.specs.Gaps.{text_cells_at};
 ghost use Rattle.trac_store.specs.Parts.{IsTextPart};
 ghost use Rattle.trac_store.specs.Search.{NonePasses, IsFirst};
 
-use crate::segment::is_same_byte;
+use crate::gap_making::is_same_byte;
 use trac_space::{Cell, Part, Space, cell_under, laid, number_over};
 
 // How many characters of the text stand up to the cell, where so many of them stand before it.

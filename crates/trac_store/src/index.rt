@@ -18,8 +18,8 @@ ghost use Rattle.trac_store.specs.Index.{hash, quarter, slots, IsIndex, IsIndexB
 ghost use Rattle.trac_store.specs.Index.{IsOpenFor, is_open, with_entry, start_in, home_in, buried};
 ghost use Rattle.trac_store.specs.Index.{forward, earlier, started, HasStartsFrom};
 
+use crate::form_cells::{FORMS_FOR_INDEX, head, heads_of, is_text, number, number_in_head};
 use crate::located::{FIRST_FORM, Located};
-use crate::store::{FORMS_FOR_INDEX, head, heads_of, is_text, number, number_in_head};
 use trac_space::{Cell, Space, byte_in};
 
 // An odd number near 2^64 divided by the golden ratio.
