@@ -17,10 +17,10 @@ added-stored s u v count last start a b from to begins h name_in text_in need no
     let forms = forms_in s.store in
     let form = new_form s.neutral a b from to in
     let all = forms ++ form ∷ [] in
-    let is = added s u a b from to h.whole put in
+    let is = added s u a b from to h.forms.whole put in
     let size = length-new_form s.neutral a b from to name_in text_in in
     let more = sum_by_push form_cells forms form in
-    let long = ap length h.whole in
+    let long = ap length h.forms.whole in
     let room : length (flat_forms all) + length s.neutral + length s.active ≤ s.room = omega (arith, length-flat all, length-flat forms, long) in
     let all_count = length_push forms form in
     let first = take_at forms (form ∷ []) (length forms) refl in
@@ -37,7 +37,7 @@ gapped-long s t from gapped rest within is =
 pub segmented-stored : (s t u v w : Lists) (count last begins k start from to end a b ordinal : ℕ) → IsStored s count last begins → k < length (forms_in s.store) → start ≡ start_of (forms_in s.store) k → from ≡ start + 3 + length (form_at (forms_in s.store) k).name → to ≡ from + length (form_at (forms_in s.store) k).body → t ≡ record s { store = take from s.store ++ segmented_cells (part_text s.neutral a b) ordinal (slice_range s.store from to) ++ drop to s.store } → end ≡ from + length (segmented_cells (part_text s.neutral a b) ordinal (slice_range s.store from to)) → end ≤ to → u ≡ record t { store = set t.store (start + 1) (Head (end - from)) } → v ≡ record u { store = set u.store (start + 2) (Head 0) } → w ≡ record v { spare = w.spare } → length w.spare ≡ length v.spare → ((names : ℕ → Text) → (starts : ℕ → ℕ) → IsIndexBut v.spare count count names starts → IsIndexBut w.spare count count names (started k count (to - end) starts)) → (w ≡ record s { spare = w.spare; store = flat_forms (set (forms_in s.store) k (record (form_at (forms_in s.store) k) { body = segment (part_text s.neutral a b) ordinal (form_at (forms_in s.store) k).body; pointer = 0 })) }) × IsStored w count k start
 segmented-stored s t u v w count last begins k start from to end a b ordinal h within start_is from_is to_is gaps end_is shorter first second same len index =
     let forms = forms_in s.store in
-    let f = stands forms s.store k start h.whole within start_is in
+    let f = stands forms s.store k start h.forms.whole within start_is in
     let form = form_at forms k in
     let text = part_text s.neutral a b in
     let items = segment text ordinal form.body in
@@ -51,14 +51,14 @@ segmented-stored s t u v w count last begins k start from to end a b ordinal h w
     let is = all ∙ ap (λ cells. record s { store = cells }) (regapped forms s.store k start from to items within start_is f from_is to_is) in
     let fewer : form_cells new ≤ form_cells form = omega (arith, shorter, to_is) in
     let less = cells-set forms k new within fewer in
-    let used = used-stored s h.whole in
+    let used = used-stored s h.forms.whole in
     let is_all = same ∙ ap (λ (l : Lists). record l { spare = w.spare }) is in
     let was : v.spare ≡ s.spare = ap (λ (l : Lists). l.spare) is in
     let counted = h.count_is in
     let table : IsIndexed w.spare (set forms k new) = λ some.
     index-set forms k new within refl (to - end) (omega (arith, shorter, to_is, size)) w.spare count counted
     (index (name_at forms) (start_of forms) (subst (λ l. IsIndexBut l count count (name_at forms) (start_of forms)) (sym was) (subst (λ n. IsIndexBut s.spare n n (name_at forms) (start_of forms)) (sym counted) (h.index (omega (arith, some, len, ap length was)))))) in
-    (is_all, restored w.spare s w (set forms k new) count k start table h.sound (IsStore-set forms k new refl (omega arith) h.sound.forms) (omega (arith, ap length h.whole, h.sound.fits)) is_all (omega (arith, h.count_is, length-set forms k new)) (omega (arith, h.count_is, within)) (start_is ∙ sym (start_of-set forms k new)))
+    (is_all, restored w.spare s w (set forms k new) count k start table h.sound (IsStore-set forms k new refl (omega arith) h.sound.forms) (omega (arith, ap length h.forms.whole, h.sound.fits)) is_all (omega (arith, h.count_is, length-set forms k new)) (omega (arith, h.count_is, within)) (start_is ∙ sym (start_of-set forms k new)))
 
 -- a part of neutral that is written over the store leaves it as long as it was
 pub written-long : (s t : Lists) (at a b : ℕ) → b ≤ length s.neutral → at + (b - a) ≤ length s.store → t ≡ record s { store = take at s.store ++ slice_range s.neutral a b ++ drop (at + (b - a)) s.store } → length t.store ≡ length s.store
@@ -69,7 +69,7 @@ written-long s t at a b within inside is =
 pub rewritten-stored : (s t u v : Lists) (count last begins k start body a b : ℕ) → IsStored s count last begins → k < length (forms_in s.store) → start ≡ start_of (forms_in s.store) k → body ≡ start + 3 + head_at s.store start → IsTextPart s.neutral a b → b - a ≡ length (form_at (forms_in s.store) k).body → t ≡ record s { store = take body s.store ++ slice_range s.neutral a b ++ drop (body + (b - a)) s.store } → u ≡ record t { store = set t.store (start + 1) (Head (b - a)) } → v ≡ record u { store = set u.store (start + 2) (Head 0) } → (v ≡ record s { store = flat_forms (set (forms_in s.store) k (record (form_at (forms_in s.store) k) { body = items_of (part_text s.neutral a b); pointer = 0 })) }) × IsStored v count k start
 rewritten-stored s t u v count last begins k start body a b h within start_is body_is part same over first second =
     let forms = forms_in s.store in
-    let f = stands forms s.store k start h.whole within start_is in
+    let f = stands forms s.store k start h.forms.whole within start_is in
     let form = form_at forms k in
     let text = part_text s.neutral a b in
     let items = items_of text in
@@ -82,6 +82,6 @@ rewritten-stored s t u v count last begins k start body a b h within start_is bo
     let all = written s t u v (take body s.store ++ map flat_item items ++ drop (body + (b - a)) s.store) (start + 1) (start + 2) (Head (length items)) (Head 0) (rw cells at over) (rw number at first) second in
     let is = all ∙ ap (λ cells. record s { store = cells }) (regapped forms s.store k start body (body + (b - a)) items within start_is f from_is to_is) in
     let less = cells-set forms k new within (omega (arith, size, same)) in
-    let used = used-stored s h.whole in
+    let used = used-stored s h.forms.whole in
     let long : length (flat_form new) ≡ length (flat_form form) = omega (arith, size, same, length-flat_form new, length-flat_form form) in
-    (is, restored s.spare s v (set forms k new) count k start (index-replaced forms k new s.spare refl long h.index) h.sound (IsStore-set forms k new refl (omega arith) h.sound.forms) (omega (arith, less, ap length h.whole, h.sound.fits)) is (omega (arith, h.count_is, length-set forms k new)) (omega (arith, h.count_is, within)) (start_is ∙ sym (start_of-set forms k new)))
+    (is, restored s.spare s v (set forms k new) count k start (index-replaced forms k new s.spare refl long h.index) h.sound (IsStore-set forms k new refl (omega arith) h.sound.forms) (omega (arith, less, ap length h.forms.whole, h.sound.fits)) is (omega (arith, h.count_is, length-set forms k new)) (omega (arith, h.count_is, within)) (start_is ∙ sym (start_of-set forms k new)))

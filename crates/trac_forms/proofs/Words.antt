@@ -47,4 +47,4 @@ pub use Rattle.trac_store.specs.Loading.{AreCharacters, called_part}
 pub use Rattle.trac_store.specs.Parts.{IsTextPart, new_form, part_text}
 pub use Rattle.trac_store.specs.Removal.{IsFormed, IsMarkedFrom, is_among, marked_if, unmarked, with_marks, without_all}
 pub use Rattle.trac_store.specs.Search.{IsFirst, NonePasses, character_at, gap_at, is_gap, item_at, text_at}
-pub use Rattle.trac_store.specs.Stored.{forms_in, head_at, head_number, item_of, start_of, stored_item}
+pub use Rattle.trac_store.specs.Stored.{AreForms, forms_in, head_at, head_number, item_of, start_of, stored_item}

@@ -1,5 +1,5 @@
 -- Forms that are marked, and then removed.
-use Rattle.trac_store.proofs.Words.{Located, ◌≡◌, ◌<◌, ℕ, zero, suc, ◌+◌, ◌≤◌, Bool, true, false, List, [], ◌∷◌, length, set, slice_range, sym, ap, refl, ◌∙◌, subst, arith, ◌⊎◌, ⊎_elim, if◌then◌else◌, filter, not, ◌||◌, ◌==◌, length-append, length-set, get_or-set_other, All-head}
+use Rattle.trac_store.proofs.Words.{AreForms, Located, ◌≡◌, ◌<◌, ℕ, zero, suc, ◌+◌, ◌≤◌, Bool, true, false, List, [], ◌∷◌, length, set, slice_range, sym, ap, refl, ◌∙◌, subst, arith, ◌⊎◌, ⊎_elim, if◌then◌else◌, filter, not, ◌||◌, ◌==◌, length-append, length-set, get_or-set_other, All-head}
 use Rattle.trac_store.proofs.Words.{All-tail, Text, Form, is_named, NoneNamed, IsStore, Cell, Head, Lists, flat_form, flat_forms, form_at, IsNamedAt, IsTextPart, part_text, part_texts, before_comma, parts_between, texts_between, AreParted, IsPlace, forms_in, start_of}
 use Rattle.trac_store.proofs.Words.{is_among, without_all, mark, is_marked, marked, marked_if, with_marks, unmarked, HaveOwnNames, IsFormed, IsMarkedFrom, begins}
 use Rattle.trac_store.proofs.FlatLemmas.{forms_in-flat, length-flat_form}
@@ -66,7 +66,7 @@ marked-lists {s = s} {t = t} {count = count} {k = k} {at = at} {name = name} h n
     let forms = forms_in s.store in
     let form = marked (form_at forms k) in
     let new = set forms k form in
-    let f = stands forms s.store k at h.whole named.within begins in
+    let f = stands forms s.store k at h.forms.whole named.within begins in
     let cells = repointed forms s.store k at mark named.within begins f in
     let is : t ≡ record s { store = flat_forms new } = written ∙ ap (λ cells. record s { store = cells }) cells in
     let read = forms_in-flat new in
@@ -74,8 +74,7 @@ marked-lists {s = s} {t = t} {count = count} {k = k} {at = at} {name = name} h n
     let fewer = cells-set forms k form named.within (omega arith) in (
       is ∙ ap (λ fs. record s { store = flat_forms fs }) (sym (mark-at name forms k h.distinct named)),
       subst (λ (l : Lists). IsFormed l count k at) (sym is) (record {
-        whole = rw read refl;
-        bounded = omega (arith, h.bounded, fewer, ap length h.whole);
+        forms = record { whole = rw read refl; bounded = omega (arith, h.forms.bounded, fewer, ap length h.forms.whole) };
         count_is = rw read (omega (arith, h.count_is, size));
         place = rw read (record { within = omega (arith, named.within, size); start_is = begins ∙ sym (start_of-set forms k form) });
         distinct = rw read (own-set forms k form refl h.distinct);
@@ -160,11 +159,11 @@ module _ (s t u : Lists) (kept : t ≡ record s { spare = t.spare }) (gone : u �
   pub unmarked-read : forms_in u.store ≡ unmarked (forms_in s.store)
   unmarked-read = ap forms_in unmarked-store ∙ forms_in-flat (unmarked (forms_in s.store))
 
-  pub unmarked-whole : flat_forms (forms_in u.store) ≡ u.store
-  unmarked-whole = ap flat_forms unmarked-read ∙ sym unmarked-store
-
-  pub unmarked-shorter : flat_forms (forms_in s.store) ≡ s.store → length u.store ≤ length s.store
-  unmarked-shorter whole = omega (arith, ap length unmarked-store, ap length whole, cells-filter (λ form. not (is_marked form)) (forms_in s.store))
+  pub unmarked-forms : AreForms s.store → AreForms u.store
+  unmarked-forms h = record {
+    whole = ap flat_forms unmarked-read ∙ sym unmarked-store;
+    bounded = omega (arith, ap length unmarked-store, ap length h.whole, cells-filter (λ form. not (is_marked form)) (forms_in s.store), h.bounded);
+  }
 
 -- ---- the names
 

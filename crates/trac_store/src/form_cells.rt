@@ -11,7 +11,7 @@ ghost use Rattle.trac_space.specs.Texts.{character_of, text_of_cells, IsByte};
 ghost use Rattle.trac_store.specs.FlatForms.{flat_forms};
 ghost use Rattle.trac_store.specs.Parts.{IsTextPart, part_text};
 ghost use Rattle.trac_store.specs.Index.{IsIndexed};
-ghost use Rattle.trac_store.specs.Stored.{forms_in, start_of, head_number, head_at, stored_item};
+ghost use Rattle.trac_store.specs.Stored.{AreForms, forms_in, start_of, head_number, head_at, stored_item};
 ghost use Rattle.trac_store.specs.Stored.{IsPlace, IsFoundAt, item_of};
 
 use crate::index::look_up;
@@ -47,8 +47,7 @@ pub fn heads(space: &Space, start: u32) -> (u32, u32, u32)
 /// The same of a form whose place is known: its heads need no test.
 #[inline]
 pub fn heads_of(space: &Space, form: Located) -> (u32, u32, u32)
-    requires whole { flat_forms (forms_in space.now.store) ≡ space.now.store }
-    requires bounded { length space.now.store ≤ 16777216 }
+    requires forms { AreForms space.now.store }
     requires known { form.number < length (forms_in space.now.store) }
     requires begins { form.start ≡ start_of (forms_in space.now.store) form.number }
     ensures name { result.0 ≡ head_at space.now.store form.start }
@@ -86,8 +85,7 @@ pub fn item_of(cell: &Cell) -> Item
 
 // Where form `k` begins in the store, which stands at the place of another or behind it.
 fn walk(space: &Space, from: Located, k: u32) -> u32
-    requires whole { flat_forms (forms_in space.now.store) ≡ space.now.store }
-    requires bounded { length space.now.store ≤ 16777216 }
+    requires forms { AreForms space.now.store }
     requires begins { from.start ≡ start_of (forms_in space.now.store) from.number }
     requires order { from.number ≤ k }
     requires within { k ≤ length (forms_in space.now.store) }
@@ -104,8 +102,7 @@ fn walk(space: &Space, from: Located, k: u32) -> u32
 /// where that stands behind form `k`.
 #[inline]
 pub fn place_of(space: &Space, last: Located, k: u32) -> u32
-    requires whole { flat_forms (forms_in space.now.store) ≡ space.now.store }
-    requires bounded { length space.now.store ≤ 16777216 }
+    requires forms { AreForms space.now.store }
     requires begins { last.start ≡ start_of (forms_in space.now.store) last.number }
     requires within { k ≤ length (forms_in space.now.store) }
     ensures { result ≡ start_of (forms_in space.now.store) k }
@@ -222,8 +219,7 @@ fn is_named(store: &[Cell], form: Located, name: &[Cell]) -> bool
 /// Whether the first form has the name that is the part of neutral.
 #[inline(always)]
 pub fn is_first_named(space: &Space, count: u32, part: Part) -> bool
-    requires whole { flat_forms (forms_in space.now.store) ≡ space.now.store }
-    requires bounded { length space.now.store ≤ 16777216 }
+    requires forms { AreForms space.now.store }
     requires count_is { count ≡ length (forms_in space.now.store) }
     requires some { 0 < count }
     requires name_part { IsTextPart space.now.neutral part.from part.to }
@@ -343,8 +339,7 @@ pub fn find_named(
     part: Part,
     search_cost: &mut u32,
 ) -> Option<Located>
-    requires whole { flat_forms (forms_in space.now.store) ≡ space.now.store }
-    requires bounded { length space.now.store ≤ 16777216 }
+    requires forms { AreForms space.now.store }
     requires count_is { count ≡ length (forms_in space.now.store) }
     requires last { IsPlace (forms_in space.now.store) last.number last.start }
     requires name_part { IsTextPart space.now.neutral part.from part.to }
@@ -371,8 +366,7 @@ pub fn find_named(
 /// The same, where there are so few forms that the search starts at the first.
 #[inline(always)]
 pub fn find_few(space: &Space, count: u32, part: Part) -> Option<Located>
-    requires whole { flat_forms (forms_in space.now.store) ≡ space.now.store }
-    requires bounded { length space.now.store ≤ 16777216 }
+    requires forms { AreForms space.now.store }
     requires count_is { count ≡ length (forms_in space.now.store) }
     requires name_part { IsTextPart space.now.neutral part.from part.to }
     ensures { let name = part_text space.now.neutral part.from part.to in

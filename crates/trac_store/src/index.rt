@@ -13,7 +13,7 @@ ghost use Rattle.trac_space.specs.Lists as lists;
 ghost use Rattle.trac_space.specs.Texts.{text_of_cells, IsByte};
 ghost use Rattle.trac_store.specs.FlatForms.{flat_forms};
 ghost use Rattle.trac_store.specs.Forms.{name_at};
-ghost use Rattle.trac_store.specs.Stored.{forms_in, start_of, IsFoundAt, IsPlace};
+ghost use Rattle.trac_store.specs.Stored.{AreForms, forms_in, start_of, IsFoundAt, IsPlace};
 ghost use Rattle.trac_store.specs.Index.{hash, quarter, slots, IsIndex, IsIndexBut, IsIndexed};
 ghost use Rattle.trac_store.specs.Index.{IsOpenFor, is_open, with_entry, start_in, home_in, buried};
 ghost use Rattle.trac_store.specs.Index.{forward, earlier, started, HasStartsFrom};
@@ -196,8 +196,7 @@ fn add(space: &mut Space, first: usize, form: Located) -> bool
 // form it is let go.
 #[inline(always)]
 pub(crate) fn index_form(space: &mut Space, form: Located)
-    requires whole { flat_forms (forms_in space.old.store) ≡ space.old.store }
-    requires bounded { length space.old.store ≤ 16777216 }
+    requires forms { AreForms space.old.store }
     requires within { form.number < length (forms_in space.old.store) }
     requires begins { form.start ≡ start_of (forms_in space.old.store) form.number }
     requires index { IsIndexed space.old.spare (take form.number (forms_in space.old.store)) }
@@ -220,8 +219,7 @@ pub(crate) fn index_form(space: &mut Space, form: Located)
 /// greater one is made, or it is let go.
 #[inline(always)]
 pub fn index_last(space: &mut Space, form: Located)
-    requires whole { flat_forms (forms_in space.old.store) ≡ space.old.store }
-    requires bounded { length space.old.store ≤ 16777216 }
+    requires forms { AreForms space.old.store }
     requires last { form.number + 1 ≡ length (forms_in space.old.store) }
     requires begins { form.start ≡ start_of (forms_in space.old.store) form.number }
     requires index { IsIndexed space.old.spare (take form.number (forms_in space.old.store)) }
@@ -239,8 +237,7 @@ pub fn index_last(space: &mut Space, form: Located)
 // fit.
 #[inline(never)]
 fn grow_index(space: &mut Space, count: u32)
-    requires whole { flat_forms (forms_in space.old.store) ≡ space.old.store }
-    requires bounded { length space.old.store ≤ 16777216 }
+    requires forms { AreForms space.old.store }
     requires count_is { count ≡ length (forms_in space.old.store) }
     ensures same { space.new ≡ record space.old { spare = space.new.spare } }
     ensures index { IsIndexed space.new.spare (forms_in space.old.store) }
@@ -297,8 +294,7 @@ fn start_earlier(space: &mut Space, k: u32, cells: u32)
 /// forward.
 #[inline(always)]
 pub fn unindex(space: &mut Space, form: Located, count: u32)
-    requires whole { flat_forms (forms_in space.old.store) ≡ space.old.store }
-    requires bounded { length space.old.store ≤ 16777216 }
+    requires forms { AreForms space.old.store }
     requires count_is { count ≡ length (forms_in space.old.store) }
     requires within { form.number < count }
     requires begins { form.start ≡ start_of (forms_in space.old.store) form.number }
@@ -351,8 +347,7 @@ pub fn clear_index(space: &mut Space, count: u32)
 
 // Makes the table of all forms anew, of so many cells, which fit.
 fn index_all(space: &mut Space, count: u32, cells: u32)
-    requires whole { flat_forms (forms_in space.old.store) ≡ space.old.store }
-    requires bounded { length space.old.store ≤ 16777216 }
+    requires forms { AreForms space.old.store }
     requires count_is { count ≡ length (forms_in space.old.store) }
     requires room { lists.used space.old + cells ≤ space.old.room }
     ensures same { space.new ≡ record space.old { spare = space.new.spare } }
@@ -364,8 +359,7 @@ fn index_all(space: &mut Space, count: u32, cells: u32)
 
 // Puts the forms from one on into the table of those before it, if there is a table.
 pub(crate) fn index_from(space: &mut Space, first: Located, count: u32)
-    requires whole { flat_forms (forms_in space.old.store) ≡ space.old.store }
-    requires bounded { length space.old.store ≤ 16777216 }
+    requires forms { AreForms space.old.store }
     requires count_is { count ≡ length (forms_in space.old.store) }
     requires place { IsPlace (forms_in space.old.store) first.number first.start }
     requires index { IsIndexed space.old.spare (take first.number (forms_in space.old.store)) }
@@ -424,8 +418,7 @@ fn cells_for(count: u32, most: u32) -> u32
 // Makes the table of all forms anew, where at most half of the free cells are enough for it. Gives
 // whether they are.
 pub(crate) fn index_fitting(space: &mut Space, count: u32) -> bool
-    requires whole { flat_forms (forms_in space.old.store) ≡ space.old.store }
-    requires bounded { length space.old.store ≤ 16777216 }
+    requires forms { AreForms space.old.store }
     requires count_is { count ≡ length (forms_in space.old.store) }
     ensures same { space.new ≡ record space.old { spare = space.new.spare } }
     ensures index { IsTrue result → IsIndexed space.new.spare (forms_in space.old.store) }
@@ -448,8 +441,7 @@ const INDEX_COST: u32 = 8;
 /// changes, and each call that needs its cells takes them back.
 #[inline]
 pub fn keep_index(space: &mut Space, count: u32, search_cost: &mut u32)
-    requires whole { flat_forms (forms_in space.old.store) ≡ space.old.store }
-    requires bounded { length space.old.store ≤ 16777216 }
+    requires forms { AreForms space.old.store }
     requires count_is { count ≡ length (forms_in space.old.store) }
     requires index { IsIndexed space.old.spare (forms_in space.old.store) }
     ensures same { space.new ≡ record space.old { spare = space.new.spare } }
@@ -463,8 +455,7 @@ pub fn keep_index(space: &mut Space, count: u32, search_cost: &mut u32)
 // The same, where they have cost more but for the move of active that it takes.
 #[inline(never)]
 fn index_worthwhile(space: &mut Space, count: u32, search_cost: &mut u32)
-    requires whole { flat_forms (forms_in space.old.store) ≡ space.old.store }
-    requires bounded { length space.old.store ≤ 16777216 }
+    requires forms { AreForms space.old.store }
     requires count_is { count ≡ length (forms_in space.old.store) }
     requires index { IsIndexed space.old.spare (forms_in space.old.store) }
     ensures same { space.new ≡ record space.old { spare = space.new.spare } }

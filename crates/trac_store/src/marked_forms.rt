@@ -10,7 +10,7 @@ ghost use Rattle.trac_store.specs.Parts.{IsTextPart, part_text};
 ghost use Rattle.trac_store.specs.FlatForms.{flat_forms};
 ghost use Rattle.trac_store.specs.Index.{IsIndexed};
 ghost use Rattle.trac_store.specs.Removal.{IsFormed, IsMarkedFrom, unmarked, with_marks};
-ghost use Rattle.trac_store.specs.Stored.{forms_in};
+ghost use Rattle.trac_store.specs.Stored.{AreForms, forms_in};
 
 use crate::arguments::before_comma;
 use crate::form_cells::{find_named, heads};
@@ -103,8 +103,7 @@ fn earlier(a: Located, b: Located) -> Located
 /// Takes the marked forms out of the store and of the index, none of which stands before `first`.
 /// Gives how many there are then.
 pub fn take_out_marked(space: &mut Space, first: Located, count: u32) -> u32
-    requires whole { flat_forms (forms_in space.old.store) ≡ space.old.store }
-    requires bounded { length space.old.store ≤ 16777216 }
+    requires forms { AreForms space.old.store }
     requires count_is { count ≡ length (forms_in space.old.store) }
     requires first { IsMarkedFrom (forms_in space.old.store) first.number first.start }
     requires index { IsIndexed space.old.spare (forms_in space.old.store) }
@@ -122,8 +121,7 @@ pub fn take_out_marked(space: &mut Space, first: Located, count: u32) -> u32
 // Takes the marked forms out of the store, none of which stands before `first`, and gives how many
 // there are then.
 fn remove_marked(space: &mut Space, first: Located, count: u32) -> u32
-    requires whole { flat_forms (forms_in space.old.store) ≡ space.old.store }
-    requires bounded { length space.old.store ≤ 16777216 }
+    requires forms { AreForms space.old.store }
     requires count_is { count ≡ length (forms_in space.old.store) }
     requires first { IsMarkedFrom (forms_in space.old.store) first.number first.start }
     ensures gone { let forms = unmarked (forms_in space.old.store) in

@@ -6,10 +6,10 @@ use Rattle.trac_store.proofs.form_cells.heads_of.Goals.{Start, After-store_part-
 
 -- the form's three heads are in the store
 ends : (c : Start) → c.args.form.start + 3 ≤ length c.args.space.now.store
-ends c = omega (arith, stands _ _ _ _ c.requires.whole c.requires.known c.requires.begins)
+ends c = omega (arith, stands _ _ _ _ c.requires.forms.whole c.requires.known c.requires.begins)
 
 pub overflow_add-form : goal.overflow_add-form
-overflow_add-form c = omega (arith, ends (goal.at.overflow_add-form c).Start, c.requires.bounded)
+overflow_add-form c = omega (arith, ends (goal.at.overflow_add-form c).Start, c.requires.forms.bounded)
 
 pub store_part-cells-requires-clause-within : goal.store_part-cells-requires-clause-within
 store_part-cells-requires-clause-within c = ends (goal.at.store_part-cells-requires-clause-within c).Start
@@ -17,7 +17,7 @@ store_part-cells-requires-clause-within c = ends (goal.at.store_part-cells-requi
 -- the slice has them
 len : (c : After-store_part-cells) → length c.store_part-cells.result.now ≡ 3
 len c =
-    let f = stands _ _ _ _ c.requires.whole c.requires.known c.requires.begins in
+    let f = stands _ _ _ _ c.requires.forms.whole c.requires.known c.requires.begins in
     omega (arith, length-map c.store_part-cells.result.now seen, ap length c.store_part-cells.ensures, length-between c.args.space.now.store c.args.form.start (c.args.form.start + 3) (omega (arith, f.end)))
 
 -- each is a head in the store
@@ -25,7 +25,7 @@ heads : (c : Start) → IsHeadAt c.args.space.now.store (c.args.form.start + 0) 
 heads c =
     let store = c.args.space.now.store in
     let at = c.args.form.start in
-    let h = head_cells _ _ _ _ c.requires.whole c.requires.known c.requires.begins in
+    let h = head_cells _ _ _ _ c.requires.forms.whole c.requires.known c.requires.begins in
     let here : at + 0 ≡ at = omega arith in
     (rw here (is-head-at store at _ h.0), is-head-at store (at + 1) _ h.1, is-head-at store (at + 2) _ h.2)
 

@@ -5,18 +5,18 @@ use Rattle.trac_store.proofs.index.unindex.Goals as goal
 
 pub overflow_add-cells : goal.overflow_add-cells
 overflow_add-cells c =
-    let f = stands _ _ _ _ c.requires.whole (omega (arith, c.requires.within, c.requires.count_is)) c.requires.begins in
-    omega (arith, f.end, f.name_len, c.head.ensures, c.requires.bounded)
+    let f = stands _ _ _ _ c.requires.forms.whole (omega (arith, c.requires.within, c.requires.count_is)) c.requires.begins in
+    omega (arith, f.end, f.name_len, c.head.ensures, c.requires.forms.bounded)
 
 pub overflow_add-form : goal.overflow_add-form
 overflow_add-form c =
-    let f = stands _ _ _ _ c.requires.whole (omega (arith, c.requires.within, c.requires.count_is)) c.requires.begins in
-    omega (arith, f.end, c.requires.bounded)
+    let f = stands _ _ _ _ c.requires.forms.whole (omega (arith, c.requires.within, c.requires.count_is)) c.requires.begins in
+    omega (arith, f.end, c.requires.forms.bounded)
 
 pub overflow_add-cells-2 : goal.overflow_add-cells-2
 overflow_add-cells-2 c =
-    let f = stands _ _ _ _ c.requires.whole (omega (arith, c.requires.within, c.requires.count_is)) c.requires.begins in
-    omega (arith, f.end, f.name_len, f.body_len, c.head.ensures, c.head-2.ensures, c.requires.bounded)
+    let f = stands _ _ _ _ c.requires.forms.whole (omega (arith, c.requires.within, c.requires.count_is)) c.requires.begins in
+    omega (arith, f.end, f.name_len, f.body_len, c.head.ensures, c.head-2.ensures, c.requires.forms.bounded)
 
 pub bury-requires-clause-home : goal.bury-requires-clause-home
 bury-requires-clause-home c =
@@ -56,7 +56,7 @@ bring_forward-requires-clause-cells c =
     let spare = c.loop-next.space.spare in
     let next = c.loop-next.next in
     let within : c.args.form.number < length forms = omega (arith, c.requires.within, c.requires.count_is) in
-    let f = stands forms c.args.space.now.store c.args.form.number c.args.form.start c.requires.whole within c.requires.begins in
+    let f = stands forms c.args.space.now.store c.args.form.number c.args.form.start c.requires.forms.whole within c.requires.begins in
     let e : next - 1 + 1 ≡ next = omega (arith, c.loop-next.auto.next) in
     let there = next-start forms c.args.form.number within spare (next - 1) (omega (arith, c.loop-next.auto.next)) (omega (arith, e, c.loop-next-test.true, c.requires.count_is)) c.loop-next.invariant.index in
     omega (arith, there, ap (start_in spare) e, f.name_len, f.body_len, c.head.ensures, c.head-2.ensures)
@@ -70,7 +70,7 @@ loop-next-preserved c =
     let next = c.loop-next.next in
     let cells = 3 + c.head.result + c.head-2.result in
     let within : k < length forms = omega (arith, c.requires.within, c.requires.count_is) in
-    let f = stands forms s.store k c.args.form.start c.requires.whole within c.requires.begins in
+    let f = stands forms s.store k c.args.form.start c.requires.forms.whole within c.requires.begins in
     let e : next - 1 + 1 ≡ next = omega (arith, c.loop-next.auto.next) in
     let e2 : next ≡ next + 1 - 1 = omega arith in
     let more = index-forward forms k within spare (next - 1) cells (omega (arith, c.loop-next.auto.next)) (omega (arith, e, c.loop-next-test.true, c.requires.count_is)) (omega (arith, f.name_len, f.body_len, c.head.ensures, c.head-2.ensures)) c.loop-next.invariant.index in

@@ -9,26 +9,26 @@ less : (c : After-heads-name) → c.loop-form._form < length (forms_in c.args.sp
 less c = omega (arith, c.loop-form-test.true, c.requires.count_is)
 
 name : (c : After-heads-name) → c.heads-name.result.0 ≡ length (form_at (forms_in c.args.space.now.store) c.loop-form._form).name
-name c = c.heads-name.ensures.name ∙ swept-name c.loop-form.invariant c.requires.whole (less c)
+name c = c.heads-name.ensures.name ∙ swept-name c.loop-form.invariant c.requires.forms.whole (less c)
 
 body : (c : After-heads-name) → c.heads-name.result.1 ≡ length (form_at (forms_in c.args.space.now.store) c.loop-form._form).body
-body c = c.heads-name.ensures.body ∙ swept-body c.loop-form.invariant c.requires.whole (less c)
+body c = c.heads-name.ensures.body ∙ swept-body c.loop-form.invariant c.requires.forms.whole (less c)
 
 end : (c : After-heads-name) → c.loop-form.from + 3 + c.heads-name.result.0 + c.heads-name.result.1 ≤ length c.loop-form.space.store
-end c = omega (arith, swept-end c.loop-form.invariant c.requires.whole (less c), name c, body c)
+end c = omega (arith, swept-end c.loop-form.invariant c.requires.forms.whole (less c), name c, body c)
 
 pub heads-name-requires-clause-within : goal.heads-name-requires-clause-within
 heads-name-requires-clause-within c =
-    omega (arith, swept-end c.loop-form.invariant c.requires.whole (omega (arith, c.loop-form-test.true, c.requires.count_is)))
+    omega (arith, swept-end c.loop-form.invariant c.requires.forms.whole (omega (arith, c.loop-form-test.true, c.requires.count_is)))
 
 pub overflow_add-end : goal.overflow_add-end
-overflow_add-end c = omega (arith, end (goal.at.overflow_add-end c).After-heads-name, c.loop-form.invariant.len, c.requires.bounded)
+overflow_add-end c = omega (arith, end (goal.at.overflow_add-end c).After-heads-name, c.loop-form.invariant.len, c.requires.forms.bounded)
 
 pub overflow_add-end-in-loop-form : goal.overflow_add-end-in-loop-form
-overflow_add-end-in-loop-form c = omega (arith, end (goal.at.overflow_add-end-in-loop-form c).After-heads-name, c.loop-form.invariant.len, c.requires.bounded)
+overflow_add-end-in-loop-form c = omega (arith, end (goal.at.overflow_add-end-in-loop-form c).After-heads-name, c.loop-form.invariant.len, c.requires.forms.bounded)
 
 pub overflow_add-end-in-loop-form-2 : goal.overflow_add-end-in-loop-form-2
-overflow_add-end-in-loop-form-2 c = omega (arith, end (goal.at.overflow_add-end-in-loop-form-2 c).After-heads-name, c.loop-form.invariant.len, c.requires.bounded)
+overflow_add-end-in-loop-form-2 c = omega (arith, end (goal.at.overflow_add-end-in-loop-form-2 c).After-heads-name, c.loop-form.invariant.len, c.requires.forms.bounded)
 
 pub move_gap-gap-requires-clause-within : goal.move_gap-gap-requires-clause-within
 move_gap-gap-requires-clause-within c = omega (arith, end (goal.at.move_gap-gap-requires-clause-within c).After-heads-name)
@@ -37,7 +37,7 @@ pub loop-form-preserved : goal.loop-form-preserved
 loop-form-preserved c =
     let i = c.loop-form.invariant in
     let k = (goal.at.loop-form-preserved c).After-heads-name in
-    let pointer = c.heads-name.ensures.pointer ∙ swept-pointer i c.requires.whole (less k) in
+    let pointer = c.heads-name.ensures.pointer ∙ swept-pointer i c.requires.forms.whole (less k) in
     let end = c.loop-form.from + 3 + c.heads-name.result.0 + c.heads-name.result.1 in
     let form = form_at (forms_in c.args.space.now.store) c.loop-form._form in
     let ends : end ≡ c.loop-form.from + (3 + length form.name + length form.body) = omega (arith, name k, body k) in
@@ -46,11 +46,11 @@ loop-form-preserved c =
           let marked : is_marked form ≡ true = ap (λ p. p == mark) (sym pointer ∙ w.if-pointer.true) in
           let begin = ap (λ (g : Part). g.from) w.gap-is ∙ w.move_gap-gap.ensures.begin in
           let stop = ap (λ (g : Part). g.to) w.gap-is ∙ w.move_gap-gap.ensures.end in
-          rw (w.space-is, w.kept-is, begin, stop) (swept-gone i c.requires.whole (less k) end ends w.move_gap-gap.new.space marked w.move_gap-gap.ensures.moved)
+          rw (w.space-is, w.kept-is, begin, stop) (swept-gone i c.requires.forms.whole (less k) end ends w.move_gap-gap.new.space marked w.move_gap-gap.ensures.moved)
       | else-pointer w ↦
           let plain : is_marked form ≡ false = grind (arith, pointer, w.if-pointer.false) in
-          rw (w.space-is, w.kept-is, w.gap-is) (swept-more i c.requires.whole (less k) end ends plain)
+          rw (w.space-is, w.kept-is, w.gap-is) (swept-more i c.requires.forms.whole (less k) end ends plain)
     ]
 
 pub loop-form-init : goal.loop-form-init
-loop-form-init c = swept-first c.args.space.now c.args.first.number c.args.first.start c.requires.whole c.requires.first
+loop-form-init c = swept-first c.args.space.now c.args.first.number c.args.first.start c.requires.forms.whole c.requires.first

@@ -1,15 +1,11 @@
 use Rattle.trac_store.proofs.Words.{◌≡◌, length, take, sym, ap, ◌∙◌, subst, arith, Lists, IsIndexed, unmarked, forms_in, IsPlace}
-use Rattle.trac_store.proofs.Removals.{unmarked-read, unmarked-whole, unmarked-shorter}
+use Rattle.trac_store.proofs.Removals.{unmarked-read, unmarked-forms}
 use Rattle.trac_store.proofs.Sweeping.{first-stay, place-stays}
 use Rattle.trac_store.proofs.marked_forms.take_out_marked.Goals as goal
 
-pub index_from-requires-clause-whole : goal.index_from-requires-clause-whole
-index_from-requires-clause-whole c =
-    unmarked-whole c.args.space.now _ _ c.unindex_from.ensures.same c.remove_marked-count.ensures.gone
-
-pub index_from-requires-clause-bounded : goal.index_from-requires-clause-bounded
-index_from-requires-clause-bounded c =
-    omega (arith, unmarked-shorter c.args.space.now _ _ c.unindex_from.ensures.same c.remove_marked-count.ensures.gone c.requires.whole, c.requires.bounded)
+pub index_from-requires-clause-forms : goal.index_from-requires-clause-forms
+index_from-requires-clause-forms c =
+    unmarked-forms c.args.space.now _ _ c.unindex_from.ensures.same c.remove_marked-count.ensures.gone c.requires.forms
 
 pub index_from-requires-clause-count_is : goal.index_from-requires-clause-count_is
 index_from-requires-clause-count_is c =

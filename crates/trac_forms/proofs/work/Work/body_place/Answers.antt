@@ -21,5 +21,5 @@ returns c =
     rw (← c.self.view_is) (record {
       from = omega (arith, begins, f.name_len, c.head-name.ensures);
       to = omega (arith, f.body_len, c.head.ensures);
-      bounded = omega (arith, f.end, f.name_len, f.body_len, c.head-name.ensures, c.head.ensures, c.self.invariant.bounded);
+      bounded = omega (arith, f.end, f.name_len, f.body_len, c.head-name.ensures, c.head.ensures, c.self.invariant.forms.bounded);
     })

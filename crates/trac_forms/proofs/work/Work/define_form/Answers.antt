@@ -18,7 +18,7 @@ append-requires-clause-room c =
     let s = c.self.inside.space in
     let fewer = cells-without (part_text s.neutral c.args.name.from c.args.name.to) (forms_in s.store) in
     rw c.remove_found.ensures.gone
-    (rw (← c.self.view_is) (omega (arith, fewer, used-stored s c.self.invariant.whole, c.free-free.ensures, c.if-free-need.false)))
+    (rw (← c.self.view_is) (omega (arith, fewer, used-stored s c.self.invariant.forms.whole, c.free-free.ensures, c.if-free-need.false)))
 
 pub returns-clause-full : goal.returns-clause-full
 returns-clause-full c =

@@ -7,7 +7,7 @@ use Rattle.trac_forms.proofs.work.Work.fill_located.Goals.{After-heads_of-name}
 called : (c : After-heads_of-name) → AreItems c.self.inside.space c.args.form.number c.args.form.start c.heads_of-name.result.0 c.heads_of-name.result.1 c.heads_of-name.result.2
 called c =
     let heads = c.heads_of-name.ensures in
-    items _ _ _ _ _ _ c.self.invariant.whole c.self.invariant.sound.forms (rw (← c.self.view_is) at c.requires.known) (rw (← c.self.view_is) at c.requires.begins) heads.name heads.body heads.pointer
+    items _ _ _ _ _ _ c.self.invariant.forms.whole c.self.invariant.sound.forms (rw (← c.self.view_is) at c.requires.known) (rw (← c.self.view_is) at c.requires.begins) heads.name heads.body heads.pointer
 
 pub overflow_add-place : goal.overflow_add-place
 overflow_add-place c = omega (arith, called (goal.at.overflow_add-place c).After-heads_of-name)
@@ -41,7 +41,7 @@ invariant_of-self c =
 pub returns-clause-put : goal.returns-clause-put
 returns-clause-put c =
     let i = called (goal.at.returns-clause-put c).After-heads_of-name in
-    rw (← c.self.view_is, ← used-stored c.self.inside.space c.self.invariant.whole) (rw i.are at c.fill_items.ensures.put)
+    rw (← c.self.view_is, ← used-stored c.self.inside.space c.self.invariant.forms.whole) (rw i.are at c.fill_items.ensures.put)
 
 pub returns-clause-last : goal.returns-clause-last
 returns-clause-last c =

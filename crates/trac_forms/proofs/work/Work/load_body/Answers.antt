@@ -27,7 +27,7 @@ stored body s t (Some n) count last start h is =
 seen : (body : List Item) (s t : Lists) (result : Option ℕ) (count last start : ℕ) → IsStored s count last start → Loads body s t result → MatchOption result (shown t ≡ shown s) (λ n. IsLoaded (shown s) (shown t) body n)
 seen body s t None count last start h same = ap shown same
 seen body s t (Some n) count last start h is =
-    let used = used-stored s h.whole in
+    let used = used-stored s h.forms.whole in
     record { characters = is.0; size = is.1; fits = omega (arith, is.2); stands = ap shown is.3 }
 
 -- characters in the store are items, and a text
@@ -45,7 +45,7 @@ handed (Some n) s t body from stop are within loaded =
 called : (c : After-heads_of-name) → AreItems c.self.inside.space c.args.form.0 c.locate-at.result.start c.heads_of-name.result.0 c.heads_of-name.result.1 c.heads_of-name.result.2
 called c =
     let heads = c.heads_of-name.ensures in
-    items _ _ _ _ _ _ c.self.invariant.whole c.self.invariant.sound.forms (rw (← c.self.view_is) at c.requires.known) (rw (← c.self.view_is) at c.locate-at.ensures.start) heads.name heads.body heads.pointer
+    items _ _ _ _ _ _ c.self.invariant.forms.whole c.self.invariant.sound.forms (rw (← c.self.view_is) at c.requires.known) (rw (← c.self.view_is) at c.locate-at.ensures.start) heads.name heads.body heads.pointer
 
 pub overflow_add-place : goal.overflow_add-place
 overflow_add-place c = omega (arith, called (goal.at.overflow_add-place c).After-heads_of-name)

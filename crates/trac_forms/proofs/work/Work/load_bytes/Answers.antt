@@ -5,7 +5,7 @@ use Rattle.trac_forms.proofs.work.Work.load_bytes.Goals as goal
 
 pub claim-requires : goal.claim-requires
 claim-requires c =
-    let used = used-stored c.self.inside.space c.self.invariant.whole in
+    let used = used-stored c.self.inside.space c.self.invariant.forms.whole in
     let fits = rw (← c.self.view_is) at c.requires in
     omega arith
 
@@ -13,7 +13,7 @@ pub invariant_of-self : goal.invariant_of-self
 invariant_of-self c =
     let s = c.self.inside.space in
     let text = c.args.text.now in
-    let used = used-stored s c.self.invariant.whole in
+    let used = used-stored s c.self.invariant.forms.whole in
     let fits = rw (← c.self.view_is) at c.requires in
     let room : lists.used s + length (bytes text) ≤ s.room = omega (arith, length-map text Byte) in
     before-active _ s c.claim.new.self _ _ _ _ (bytes text) (claimed-kept (length text) s) c.self.invariant (All-map IsByte Byte text (λ k d l. tt)) room c.claim.ensures.same c.load_bytes.ensures

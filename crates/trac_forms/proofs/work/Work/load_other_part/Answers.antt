@@ -5,7 +5,7 @@ use Rattle.trac_forms.proofs.work.Work.load_other_part.Goals as goal
 
 pub returns-then-free-b-clause-loaded : goal.returns-then-free-b-clause-loaded
 returns-then-free-b-clause-loaded c =
-    let used = used-stored c.self.inside.space c.self.invariant.whole in
+    let used = used-stored c.self.inside.space c.self.invariant.forms.whole in
     rw (← c.self.view_is) (λ e. cc, λ fits. absurd (omega arith))
 
 pub load_from_neutral-requires-clause-within : goal.load_from_neutral-requires-clause-within
@@ -21,7 +21,7 @@ invariant_of-self c =
     let b = c.args.b in
     let more = slice_range s.neutral a b in
     let part = rw (← c.self.view_is) at c.requires in
-    let used = used-stored s c.self.invariant.whole in
+    let used = used-stored s c.self.invariant.forms.whole in
     let mid = c.claim.new.self in
     let room : lists.used s + length more ≤ s.room = omega (arith, length-between s.neutral a b part.within) in
     before-active _ s mid _ _ _ _ more (claimed-kept (b - a) s) c.self.invariant part.bytes room c.claim.ensures.same
@@ -29,7 +29,7 @@ invariant_of-self c =
 
 pub returns-clause-loaded : goal.returns-clause-loaded
 returns-clause-loaded c =
-    let used = used-stored c.self.inside.space c.self.invariant.whole in
+    let used = used-stored c.self.inside.space c.self.invariant.forms.whole in
     rw (← c.self.view_is) (λ e. omega arith, λ fits. refl)
 
 pub returns-clause-first : goal.returns-clause-first

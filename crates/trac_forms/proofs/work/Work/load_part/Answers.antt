@@ -5,7 +5,7 @@ use Rattle.trac_forms.proofs.work.Work.load_part.Goals as goal
 
 pub returns-then-size-free_beside_spare-clause-loaded : goal.returns-then-size-free_beside_spare-clause-loaded
 returns-then-size-free_beside_spare-clause-loaded c =
-    let used = used-stored c.self.inside.space c.self.invariant.whole in
+    let used = used-stored c.self.inside.space c.self.invariant.forms.whole in
     rw (← c.self.view_is) (λ e. omega arith, λ fits. refl)
 
 pub invariant_of-self : goal.invariant_of-self

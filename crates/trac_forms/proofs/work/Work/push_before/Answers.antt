@@ -11,7 +11,7 @@ invariant_of-self c =
 
 pub returns-clause-stops : goal.returns-clause-stops
 returns-clause-stops c =
-    rw (← used-stored c.push_before.new.self (invariant_of-self c).whole) c.push_before.ensures.stops
+    rw (← used-stored c.push_before.new.self (invariant_of-self c).forms.whole) c.push_before.ensures.stops
 
 pub returns-clause-sound : goal.returns-clause-sound
 returns-clause-sound c = (invariant_of-self c).sound

@@ -7,11 +7,11 @@ use Rattle.trac_forms.proofs.work.Work.remove.Goals.{After-unindex, After-remove
 here : (c : After-unindex) → Stands (forms_in c.self.inside.space.store) c.unindex.new.space.store c.args.form.number c.args.form.start
 here c =
     let same = ap (λ (w : Lists). w.store) c.unindex.ensures.same in
-    stands _ _ _ _ (c.self.invariant.whole ∙ sym same) (rw (← c.self.view_is) at c.requires.known) (rw (← c.self.view_is) at c.requires.begins)
+    stands _ _ _ _ (c.self.invariant.forms.whole ∙ sym same) (rw (← c.self.view_is) at c.requires.known) (rw (← c.self.view_is) at c.requires.begins)
 
 pub remove_form-requires-clause-bounded : goal.remove_form-requires-clause-bounded
 remove_form-requires-clause-bounded c =
-    omega (arith, ap (λ (w : Lists). length w.store) c.unindex.ensures.same, c.self.invariant.bounded)
+    omega (arith, ap (λ (w : Lists). length w.store) c.unindex.ensures.same, c.self.invariant.forms.bounded)
 
 pub remove_form-requires-clause-within : goal.remove_form-requires-clause-within
 remove_form-requires-clause-within c =
@@ -34,7 +34,7 @@ invariant_of-self c =
     let k = c.args.form.number in
     let within = rw (← c.self.view_is) at c.requires.known in
     let fewer = length-remove forms k within in
-    restored _ s c.remove_form.new.space (remove forms k) (c.self.inside.count - 1) 0 0 c.unindex.ensures.index h.sound (IsStore-remove forms k h.sound.forms) (omega (arith, ap length h.whole, cells-remove forms k within, used-stored s h.whole, h.sound.fits)) (gone (goal.at.invariant_of-self c).After-remove_form) (omega (arith, h.count_is, fewer)) (omega arith) refl
+    restored _ s c.remove_form.new.space (remove forms k) (c.self.inside.count - 1) 0 0 c.unindex.ensures.index h.sound (IsStore-remove forms k h.sound.forms) (omega (arith, ap length h.forms.whole, cells-remove forms k within, used-stored s h.forms.whole, h.sound.fits)) (gone (goal.at.invariant_of-self c).After-remove_form) (omega (arith, h.count_is, fewer)) (omega arith) refl
 
 pub returns-clause-gone : goal.returns-clause-gone
 returns-clause-gone c =

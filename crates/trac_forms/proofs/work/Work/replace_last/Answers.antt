@@ -10,7 +10,7 @@ write_body-requires-clause-same c =
 
 pub returns-clause-fits : goal.returns-clause-fits
 returns-clause-fits c = λ _.
-    let used = used-stored c.self.inside.space c.self.invariant.whole in
+    let used = used-stored c.self.inside.space c.self.invariant.forms.whole in
     rw (← c.self.view_is) (omega (arith, used, c.free.ensures, c.if-free-name.false))
 
 pub returns-clause-done : goal.returns-clause-done

@@ -29,10 +29,10 @@ invariant_of-result c =
     let s = c.self.inside.space in
     let h = c.heads-name.ensures in
     let within = rw (← c.self.view_is) at c.requires in
-    stored-is_form (forms_in s.store) s.store _ _ c.args.form.0 c.locate-at.result.start _ _ _ c.self.invariant.whole within (rw (← c.self.view_is) at c.locate-at.ensures.start) h.name h.body h.pointer c.store_part.ensures c.store_part-2.ensures c.self.invariant.bounded c.self.invariant.sound.forms
+    stored-is_form (forms_in s.store) s.store _ _ c.args.form.0 c.locate-at.result.start _ _ _ c.self.invariant.forms.whole within (rw (← c.self.view_is) at c.locate-at.ensures.start) h.name h.body h.pointer c.store_part.ensures c.store_part-2.ensures c.self.invariant.forms.bounded c.self.invariant.sound.forms
 
 pub returns : goal.returns
 returns c =
     let h = c.heads-name.ensures in
     let within = rw (← c.self.view_is) at c.requires in
-    rw (← c.self.view_is) (stored-form (forms_in c.self.inside.space.store) c.self.inside.space.store _ _ c.args.form.0 c.locate-at.result.start _ _ _ c.self.invariant.whole within (rw (← c.self.view_is) at c.locate-at.ensures.start) h.name h.body h.pointer c.store_part.ensures c.store_part-2.ensures)
+    rw (← c.self.view_is) (stored-form (forms_in c.self.inside.space.store) c.self.inside.space.store _ _ c.args.form.0 c.locate-at.result.start _ _ _ c.self.invariant.forms.whole within (rw (← c.self.view_is) at c.locate-at.ensures.start) h.name h.body h.pointer c.store_part.ensures c.store_part-2.ensures)
