@@ -37,23 +37,7 @@ pub(crate) fn copy_cells(cells: &mut [Cell], start: usize, end: usize, to: usize
     }
 }
 
-// The same, for moves of few cells.
-#[inline]
-pub(crate) fn copy_few(cells: &mut [Cell], start: usize, end: usize, to: usize)
-    requires order { start ≤ end }
-    requires within { end ≤ length cells.old }
-    requires room { to + (end - start) ≤ length cells.old }
-    ensures len { length cells.new ≡ length cells.old }
-    ensures after { cells.new ≡ copy_within cells.old start end to }
-{
-    if end - start == 1 {
-        cells.copy_within(start..start + 1, to);
-    } else {
-        copy_cells(cells, start, end, to);
-    }
-}
-
-// The same, for moves that mostly are of one cell.
+// As `copy_within`, for moves that mostly are of one cell.
 #[inline]
 pub(crate) fn copy_one_or_more(cells: &mut [Cell], start: usize, end: usize, to: usize)
     requires order { start ≤ end }
@@ -97,11 +81,11 @@ fn copy_long(cells: &mut [Cell], start: usize, end: usize, to: usize)
     } else if start.abs_diff(to) < NEAR {
         cells.copy_within(start..end, to);
     } else if start < to {
-        copy_up(cells, start, end, to);
+        copy_higher_by_parts(cells, start, end, to);
     } else if end - start <= MOST_OVERLAPPING_BY_BLOCKS {
-        copy_blocks_before(cells, start, end - start, to);
+        copy_lower_by_blocks(cells, start, end - start, to);
     } else {
-        copy_down(cells, start, end, to);
+        copy_lower_by_parts(cells, start, end, to);
     }
 }
 
@@ -125,9 +109,9 @@ fn copy_apart(cells: &mut [Cell], start: usize, end: usize, to: usize)
     }
 }
 
-// The same, to a place behind: the last part first.
+// As `copy_within`, to a higher place: part by part, the last first.
 #[inline(never)]
-fn copy_up(cells: &mut [Cell], start: usize, end: usize, to: usize)
+fn copy_higher_by_parts(cells: &mut [Cell], start: usize, end: usize, to: usize)
     requires order { start ≤ end }
     requires room { to + (end - start) ≤ length cells.old }
     requires behind { start < to }
@@ -143,9 +127,9 @@ fn copy_up(cells: &mut [Cell], start: usize, end: usize, to: usize)
     }
 }
 
-// The same, to a place before: the first part first.
+// As `copy_within`, to a lower place: part by part, the first first.
 #[inline(never)]
-fn copy_down(cells: &mut [Cell], start: usize, end: usize, to: usize)
+fn copy_lower_by_parts(cells: &mut [Cell], start: usize, end: usize, to: usize)
     requires order { start ≤ end }
     requires within { end ≤ length cells.old }
     requires before { to < start }
@@ -318,25 +302,9 @@ pub(crate) fn characters_in_block(cells: &[Cell], at: usize) -> usize
     count
 }
 
-// Makes a block of cells the same as another that stands so far before, and apart.
+// As `copy_within`, for moves to a place that mostly is higher and apart.
 #[inline(always)]
-pub(crate) fn copy_block(cells: &mut [Cell], start: usize, distance: usize)
-    requires apart { 8 ≤ distance }
-    requires room { start + distance + 8 ≤ length cells.old }
-    ensures len { length cells.new ≡ length cells.old }
-    ensures after { (to : ℕ) → to ≡ start + distance →
-        cells.new ≡ copy_within cells.old start (start + 8) to }
-{
-    let to = start + distance;
-    let end = start + BLOCK;
-    let n = end - start;
-    let (front, back) = cells.split_at_mut(to);
-    back[..n].copy_from_slice(&front[start..end]);
-}
-
-// As `copy_within`, for moves to a place that mostly is behind the cells and apart from them.
-#[inline(always)]
-pub(crate) fn copy_forward(cells: &mut [Cell], start: usize, end: usize, to: usize)
+pub(crate) fn copy_mostly_apart(cells: &mut [Cell], start: usize, end: usize, to: usize)
     requires order { start ≤ end }
     requires within { end ≤ length cells.old }
     requires room { to + (end - start) ≤ length cells.old }
@@ -344,15 +312,15 @@ pub(crate) fn copy_forward(cells: &mut [Cell], start: usize, end: usize, to: usi
     ensures after { cells.new ≡ copy_within cells.old start end to }
 {
     if end <= to && end - start <= MOST_BY_BLOCKS {
-        copy_behind(cells, start, to - start, end - start);
+        copy_apart_higher(cells, start, to - start, end - start);
     } else {
         copy_cells(cells, start, end, to);
     }
 }
 
-// As `copy_within`, for moves to a place before. A few blocks go by code that stands where it is used.
+// As `copy_within`, to a lower place. A few blocks go by code that stands where it is used.
 #[inline(always)]
-pub(crate) fn copy_back(cells: &mut [Cell], start: usize, end: usize, to: usize)
+pub(crate) fn copy_lower(cells: &mut [Cell], start: usize, end: usize, to: usize)
     requires order { start ≤ end }
     requires within { end ≤ length cells.old }
     requires before { to ≤ start }
@@ -361,15 +329,15 @@ pub(crate) fn copy_back(cells: &mut [Cell], start: usize, end: usize, to: usize)
 {
     let n = end - start;
     if n >= BLOCK && n <= MOST_BY_BLOCKS && start - to >= BLOCK {
-        copy_blocks_before(cells, start, n, to);
+        copy_lower_by_blocks(cells, start, n, to);
     } else {
         copy_cells(cells, start, end, to);
     }
 }
 
-// As `copy_within`, for moves to a place behind. A few blocks go by code that stands where it is used.
+// As `copy_within`, to a higher place. A few blocks go by code that stands where it is used.
 #[inline(always)]
-pub(crate) fn copy_on(cells: &mut [Cell], start: usize, end: usize, to: usize)
+pub(crate) fn copy_higher(cells: &mut [Cell], start: usize, end: usize, to: usize)
     requires order { start ≤ end }
     requires behind { start ≤ to }
     requires room { to + (end - start) ≤ length cells.old }
@@ -378,16 +346,16 @@ pub(crate) fn copy_on(cells: &mut [Cell], start: usize, end: usize, to: usize)
 {
     let n = end - start;
     if n >= BLOCK && n <= MOST_OVERLAPPING_BY_BLOCKS && to - start >= BLOCK {
-        copy_blocks_up(cells, start, n, to - start);
+        copy_higher_by_blocks(cells, start, n, to - start);
     } else {
         copy_cells(cells, start, end, to);
     }
 }
 
-// As `copy_within`, to a place that is a block behind the cells or more, by blocks, the last first.
+// As `copy_within`, to a place that is a block higher or more, by blocks, the last first.
 // The first may end in the one behind it: what it moves isn't written over yet.
 #[inline(always)]
-fn copy_blocks_up(cells: &mut [Cell], start: usize, n: usize, distance: usize)
+fn copy_higher_by_blocks(cells: &mut [Cell], start: usize, n: usize, distance: usize)
     requires some { 8 ≤ n }
     requires behind { 8 ≤ distance }
     requires room { start + distance + n ≤ length cells.old }
@@ -398,15 +366,15 @@ fn copy_blocks_up(cells: &mut [Cell], start: usize, n: usize, distance: usize)
     let mut left = n;
     while left > BLOCK {
         left -= BLOCK;
-        copy_block(cells, start + left, distance);
+        copy_some_higher(cells, start + left, distance, BLOCK);
     }
-    copy_block(cells, start, distance);
+    copy_some_higher(cells, start, distance, BLOCK);
 }
 
-// As `copy_within`, to a place so far before that the places are apart, for moves of few cells.
+// As `copy_within`, to a lower place apart, for moves of few cells.
 #[inline(always)]
 #[tactic(auto, using(crate::proofs::Moves::move_one))]
-pub(crate) fn copy_before(cells: &mut [Cell], start: usize, n: usize, to: usize)
+pub(crate) fn copy_apart_lower(cells: &mut [Cell], start: usize, n: usize, to: usize)
     requires apart { to + n ≤ start }
     requires within { start + n ≤ length cells.old }
     ensures len { length cells.new ≡ length cells.old }
@@ -415,19 +383,19 @@ pub(crate) fn copy_before(cells: &mut [Cell], start: usize, n: usize, to: usize)
     if n > MOST_BY_BLOCKS {
         copy_long(cells, start, start + n, to);
     } else if n >= BLOCK {
-        copy_blocks_before(cells, start, n, to);
+        copy_lower_by_blocks(cells, start, n, to);
     } else if n >= 4 {
-        copy_halves_before(cells, start, n, to, 4);
+        copy_halves_lower(cells, start, n, to, 4);
     } else if n >= 2 {
-        copy_halves_before(cells, start, n, to, 2);
+        copy_halves_lower(cells, start, n, to, 2);
     } else if n == 1 {
         cells[to] = cells[start];
     }
 }
 
-// The same, of as many as a half has or twice as many at most.
+// The same, by two halves, of which the second may begin in the first.
 #[inline(always)]
-fn copy_halves_before(cells: &mut [Cell], start: usize, n: usize, to: usize, half: usize)
+fn copy_halves_lower(cells: &mut [Cell], start: usize, n: usize, to: usize, half: usize)
     requires some { half ≤ n }
     requires few { n ≤ half + half }
     requires apart { to + n ≤ start }
@@ -435,13 +403,13 @@ fn copy_halves_before(cells: &mut [Cell], start: usize, n: usize, to: usize, hal
     ensures len { length cells.new ≡ length cells.old }
     ensures after { cells.new ≡ copy_within cells.old start (start + n) to }
 {
-    copy_some_before(cells, start, to, half);
-    copy_some_before(cells, start + (n - half), to + (n - half), half);
+    copy_some_lower(cells, start, to, half);
+    copy_some_lower(cells, start + (n - half), to + (n - half), half);
 }
 
-// Makes so many cells the same as others that stand behind them, and apart.
+// As `copy_within`, to a lower place apart.
 #[inline(always)]
-fn copy_some_before(cells: &mut [Cell], start: usize, to: usize, n: usize)
+fn copy_some_lower(cells: &mut [Cell], start: usize, to: usize, n: usize)
     requires apart { to + n ≤ start }
     requires within { start + n ≤ length cells.old }
     ensures len { length cells.new ≡ length cells.old }
@@ -451,11 +419,11 @@ fn copy_some_before(cells: &mut [Cell], start: usize, to: usize, n: usize)
     front[to..to + n].copy_from_slice(&back[..n]);
 }
 
-// As `copy_within`, to a place so far behind that the places are apart. A move of eight cells or
+// As `copy_within`, to a place so much higher that the places are apart. A move of eight cells or
 // more goes by blocks, of which the last may begin in the one before it; a shorter one by two
 // halves, which may do so too.
 #[inline(always)]
-pub(crate) fn copy_behind(cells: &mut [Cell], start: usize, distance: usize, n: usize)
+pub(crate) fn copy_apart_higher(cells: &mut [Cell], start: usize, distance: usize, n: usize)
     requires apart { n ≤ distance }
     requires room { start + distance + n ≤ length cells.old }
     ensures len { length cells.new ≡ length cells.old }
@@ -463,19 +431,19 @@ pub(crate) fn copy_behind(cells: &mut [Cell], start: usize, distance: usize, n: 
         cells.new ≡ copy_within cells.old start (start + n) to }
 {
     if n >= BLOCK {
-        copy_blocks(cells, start, distance, n);
+        copy_blocks_higher(cells, start, distance, n);
     } else if n >= 4 {
-        copy_halves(cells, start, distance, n, 4);
+        copy_halves_higher(cells, start, distance, n, 4);
     } else if n >= 2 {
-        copy_halves(cells, start, distance, n, 2);
+        copy_halves_higher(cells, start, distance, n, 2);
     } else if n == 1 {
         cells[start + distance] = cells[start];
     }
 }
 
-// The same, told where it goes; a long one by a call.
+// As `copy_within`, to a higher place apart; a long move goes by a call.
 #[inline(always)]
-pub(crate) fn copy_ahead(cells: &mut [Cell], start: usize, n: usize, to: usize)
+pub(crate) fn copy_apart_to(cells: &mut [Cell], start: usize, n: usize, to: usize)
     requires apart { start + n ≤ to }
     requires room { to + n ≤ length cells.old }
     ensures len { length cells.new ≡ length cells.old }
@@ -484,13 +452,13 @@ pub(crate) fn copy_ahead(cells: &mut [Cell], start: usize, n: usize, to: usize)
     if n > MOST_BY_BLOCKS {
         copy_long(cells, start, start + n, to);
     } else {
-        copy_behind(cells, start, to - start, n);
+        copy_apart_higher(cells, start, to - start, n);
     }
 }
 
-// The same, of a block or more.
+// As `copy_apart_higher`, of a block or more.
 #[inline(always)]
-fn copy_blocks(cells: &mut [Cell], start: usize, distance: usize, n: usize)
+fn copy_blocks_higher(cells: &mut [Cell], start: usize, distance: usize, n: usize)
     requires some { 8 ≤ n }
     requires apart { n ≤ distance }
     requires room { start + distance + n ≤ length cells.old }
@@ -500,15 +468,15 @@ fn copy_blocks(cells: &mut [Cell], start: usize, distance: usize, n: usize)
 {
     let mut done = 0;
     while n - done > BLOCK {
-        copy_block(cells, start + done, distance);
+        copy_some_higher(cells, start + done, distance, BLOCK);
         done += BLOCK;
     }
-    copy_block(cells, start + (n - BLOCK), distance);
+    copy_some_higher(cells, start + (n - BLOCK), distance, BLOCK);
 }
 
-// The same, of as many as a half has or twice as many at most.
+// As `copy_apart_higher`, by two halves, of which the second may begin in the first.
 #[inline(always)]
-fn copy_halves(cells: &mut [Cell], start: usize, distance: usize, n: usize, half: usize)
+fn copy_halves_higher(cells: &mut [Cell], start: usize, distance: usize, n: usize, half: usize)
     requires some { half ≤ n }
     requires few { n ≤ half + half }
     requires apart { n ≤ distance }
@@ -517,13 +485,13 @@ fn copy_halves(cells: &mut [Cell], start: usize, distance: usize, n: usize, half
     ensures after { (to : ℕ) → to ≡ start + distance →
         cells.new ≡ copy_within cells.old start (start + n) to }
 {
-    copy_half(cells, start, distance, half);
-    copy_half(cells, start + (n - half), distance, half);
+    copy_some_higher(cells, start, distance, half);
+    copy_some_higher(cells, start + (n - half), distance, half);
 }
 
-// Makes so many cells the same as others that stand so far before, and apart.
+// As `copy_within`, to a place that is `distance` higher, and apart.
 #[inline(always)]
-fn copy_half(cells: &mut [Cell], start: usize, distance: usize, n: usize)
+pub(crate) fn copy_some_higher(cells: &mut [Cell], start: usize, distance: usize, n: usize)
     requires apart { n ≤ distance }
     requires room { start + distance + n ≤ length cells.old }
     ensures len { length cells.new ≡ length cells.old }
@@ -537,10 +505,10 @@ fn copy_half(cells: &mut [Cell], start: usize, distance: usize, n: usize)
     back[..n].copy_from_slice(&front[start..end]);
 }
 
-// As `copy_within`, to a place that is a block before the cells or more, by blocks. The last may begin
+// As `copy_within`, to a place that is a block lower or more, by blocks. The last may begin
 // in the one before it: what it moves isn't written over yet.
 #[inline(always)]
-fn copy_blocks_before(cells: &mut [Cell], start: usize, n: usize, to: usize)
+fn copy_lower_by_blocks(cells: &mut [Cell], start: usize, n: usize, to: usize)
     requires some { 8 ≤ n }
     requires before { to + 8 ≤ start }
     requires within { start + n ≤ length cells.old }
@@ -549,8 +517,8 @@ fn copy_blocks_before(cells: &mut [Cell], start: usize, n: usize, to: usize)
 {
     let mut done = 0;
     while n - done > BLOCK {
-        copy_some_before(cells, start + done, to + done, BLOCK);
+        copy_some_lower(cells, start + done, to + done, BLOCK);
         done += BLOCK;
     }
-    copy_some_before(cells, start + (n - BLOCK), to + (n - BLOCK), BLOCK);
+    copy_some_lower(cells, start + (n - BLOCK), to + (n - BLOCK), BLOCK);
 }

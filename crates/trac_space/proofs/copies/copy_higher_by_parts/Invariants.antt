@@ -1,5 +1,5 @@
 use Rattle.trac_space.proofs.Words.{◌≡◌, ◌+◌, ◌-◌, ◌≤◌, drop, paste}
-use Rattle.trac_space.proofs.copies.copy_up.Given as goal
+use Rattle.trac_space.proofs.copies.copy_higher_by_parts.Given as goal
 
 -- the last cells are at their place
 abbrev pub invariant-loop-left : goal.invariant-loop-left

@@ -1,5 +1,5 @@
 use Rattle.trac_space.proofs.Words.{◌≡◌, ℕ, ◌+◌, ◌≤◌, List, length, drop, arith, rules, copy_within, places, same_lists, paste}
-use Rattle.trac_space.proofs.copies.copy_down.Goals as goal
+use Rattle.trac_space.proofs.copies.copy_lower_by_parts.Goals as goal
 
 -- the first k cells are there, and n more follow
 copied-down : {X : Type 0} (was now after : List X) (start to k n : ℕ) → to ≤ start → start + (k + n) ≤ length was → now ≡ paste was to (drop start was) k → after ≡ copy_within now (start + k) (start + (k + n)) (to + k) → after ≡ paste was to (drop start was) (k + n)

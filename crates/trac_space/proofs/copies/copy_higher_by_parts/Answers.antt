@@ -1,6 +1,6 @@
 use Rattle.trac_space.proofs.Words.{arith}
 use Rattle.trac_space.proofs.Blocks.{copied-up}
-use Rattle.trac_space.proofs.copies.copy_up.Goals as goal
+use Rattle.trac_space.proofs.copies.copy_higher_by_parts.Goals as goal
 
 pub loop-left-preserved : goal.loop-left-preserved
 loop-left-preserved c = record {

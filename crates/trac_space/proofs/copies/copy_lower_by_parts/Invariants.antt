@@ -1,5 +1,5 @@
 use Rattle.trac_space.proofs.Words.{◌≡◌, ◌-◌, ◌≤◌, drop, paste}
-use Rattle.trac_space.proofs.copies.copy_down.Given as goal
+use Rattle.trac_space.proofs.copies.copy_lower_by_parts.Given as goal
 
 -- the first cells are at their place
 abbrev pub invariant-loop-done : goal.invariant-loop-done
