@@ -1,6 +1,6 @@
 //! Whole forms, their gaps filled, put at the end of neutral (Mooers 1966).
 ghost use Rattle.std.specs.Prelude.{◌≡◌, ◌+◌, ◌≤◌, ◌<◌, ◌↔◌, ◌++◌};
-ghost use Rattle.std.specs.Prelude.{length, IsTrue, MatchOption};
+ghost use Rattle.std.specs.Prelude.{length, map, slice_range, IsTrue, MatchOption};
 ghost use Rattle.std.specs.Bool.{OnTrue, OnFalse};
 ghost use Rattle.trac_space.specs.Texts.{flat_text};
 ghost use Rattle.trac_forms.specs.Contents.{used, IsSound, form_place};
@@ -8,7 +8,8 @@ ghost use Rattle.trac_store.specs.Loading.{called_part};
 ghost use Rattle.trac_forms.specs.Loading.{IsLoaded};
 ghost use Rattle.trac_store.specs.Arguments.{AreParted};
 ghost use Rattle.trac_forms.specs.Arguments.{filled_body};
-ghost use Rattle.trac_store.specs.Stored.{start_of};
+ghost use Rattle.trac_store.specs.FlatForms.{flat_forms};
+ghost use Rattle.trac_store.specs.Stored.{item_of, start_of};
 
 use crate::item::FormId;
 use crate::work::Work;
@@ -67,7 +68,26 @@ impl<'a> Work<'a> {
         self.fill_located(at, texts)
     }
 
-    // The same of a form whose place is known.
+    // Where the items that a call of the form goes through stand in the store: its body from its
+    // pointer on.
+    #[inline(always)]
+    fn called_place(&self, form: Located) -> Part
+        requires known { form.number < length self.now.forms }
+        requires begins { form.start ≡ start_of self.now.forms form.number }
+        ensures order { result.from ≤ result.to }
+        ensures within { result.to ≤ length (flat_forms self.now.forms) }
+        ensures items { let cells = slice_range (flat_forms self.now.forms) result.from result.to in
+            map item_of cells ≡ called_part self.now.forms form.number }
+    {
+        let heads = heads_of(&self.space, form);
+        let place = form.start + 3 + heads.name;
+        Part {
+            from: place + heads.pointer,
+            to: place + heads.body,
+        }
+    }
+
+    // As `fill_body`, of a form whose place is known.
     #[inline(always)]
     fn fill_located(&mut self, form: Located, texts: Part) -> bool
         requires known { form.number < length self.old.forms }
@@ -82,12 +102,7 @@ impl<'a> Work<'a> {
         ensures full { OnFalse result (self.new ≡ self.old) }
         ensures sound { IsSound self.new }
     {
-        let (name, body, pointer) = heads_of(&self.space, form);
-        let place = form.start + 3 + name;
-        let items = Part {
-            from: place + pointer,
-            to: place + body,
-        };
+        let items = self.called_place(form);
         fill_items(&mut self.space, items, texts)
     }
 }
@@ -104,12 +119,7 @@ impl<'a> Work<'a> {
         ensures sound { IsSound self.new }
     {
         let at = self.locate(form);
-        let (name, body, pointer) = heads_of(&self.space, at);
-        let place = at.start + 3 + name;
-        let items = Part {
-            from: place + pointer,
-            to: place + body,
-        };
+        let items = self.called_place(at);
         load_items(&mut self.space, items)
     }
 }

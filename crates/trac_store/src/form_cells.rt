@@ -30,36 +30,47 @@ pub fn head(space: &Space, i: u32) -> u32
     }
 }
 
-/// The numbers in the head cells of the form that begins at a place of the store: the lengths of its
-/// name and of its body, and its pointer.
-#[inline]
-pub fn heads(space: &Space, start: u32) -> (u32, u32, u32)
-    requires within { start + 3 ≤ length space.now.store }
-    requires bounded { length space.now.store ≤ 16777216 }
-    ensures name { result.0 ≡ head_at space.now.store start }
-    ensures body { result.1 ≡ head_at space.now.store (start + 1) }
-    ensures pointer { result.2 ≡ head_at space.now.store (start + 2) }
-{
-    let cells = space.store_part(start, start + 3);
-    (number(cells[0]), number(cells[1]), number(cells[2]))
+/// The numbers in the head cells of a form: the lengths of its name and of its body, and its pointer.
+#[derive(Clone, Copy)]
+pub struct Heads {
+    pub name: u32,
+    pub body: u32,
+    pub pointer: u32,
 }
 
-/// The same of a form whose place is known: its heads need no test.
+/// The heads of the form that begins at a place of the store.
 #[inline]
-pub fn heads_of(space: &Space, form: Located) -> (u32, u32, u32)
+pub fn heads_at(space: &Space, start: u32) -> Heads
+    requires within { start + 3 ≤ length space.now.store }
+    requires bounded { length space.now.store ≤ 16777216 }
+    ensures name { result.name ≡ head_at space.now.store start }
+    ensures body { result.body ≡ head_at space.now.store (start + 1) }
+    ensures pointer { result.pointer ≡ head_at space.now.store (start + 2) }
+{
+    let cells = space.store_part(start, start + 3);
+    Heads {
+        name: number(cells[0]),
+        body: number(cells[1]),
+        pointer: number(cells[2]),
+    }
+}
+
+/// The heads of a form whose place is known: they need no test.
+#[inline]
+pub fn heads_of(space: &Space, form: Located) -> Heads
     requires forms { AreForms space.now.store }
     requires known { form.number < length (forms_in space.now.store) }
     requires begins { form.start ≡ start_of (forms_in space.now.store) form.number }
-    ensures name { result.0 ≡ head_at space.now.store form.start }
-    ensures body { result.1 ≡ head_at space.now.store (form.start + 1) }
-    ensures pointer { result.2 ≡ head_at space.now.store (form.start + 2) }
+    ensures name { result.name ≡ head_at space.now.store form.start }
+    ensures body { result.body ≡ head_at space.now.store (form.start + 1) }
+    ensures pointer { result.pointer ≡ head_at space.now.store (form.start + 2) }
 {
     let cells = space.store_part(form.start, form.start + 3);
-    (
-        number_in_head(cells[0]),
-        number_in_head(cells[1]),
-        number_in_head(cells[2]),
-    )
+    Heads {
+        name: number_in_head(cells[0]),
+        body: number_in_head(cells[1]),
+        pointer: number_in_head(cells[2]),
+    }
 }
 
 /// The item in the cell at place `i` of the store, a gap of ordinal 0 where none stands there.

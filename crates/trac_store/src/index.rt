@@ -206,9 +206,9 @@ pub(crate) fn index_form(space: &mut Space, form: Located)
     if space.spare_len() == 0 {
         return;
     }
-    let (len, _body, _pointer) = heads_of(space, form);
+    let heads = heads_of(space, form);
     let from = form.start + 3;
-    let to = from + len;
+    let to = from + heads.name;
     let first = hash(space.store_part(from, to));
     if form.number >= space.spare_len() / 4 || !add(space, first, form) {
         space.drop_spare();

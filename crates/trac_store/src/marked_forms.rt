@@ -13,7 +13,7 @@ ghost use Rattle.trac_store.specs.Removal.{IsFormed, IsMarkedFrom, unmarked, wit
 ghost use Rattle.trac_store.specs.Stored.{AreForms, forms_in};
 
 use crate::arguments::before_comma;
-use crate::form_cells::{find_named, heads};
+use crate::form_cells::{find_named, heads_at};
 use crate::index::{index_from, keep_index, unindex_from};
 use crate::located::Located;
 use trac_space::{Cell, Part, Space};
@@ -135,9 +135,9 @@ fn remove_marked(space: &mut Space, first: Located, count: u32) -> u32
     };
     let mut from = first.start;
     for _form in first.number..count {
-        let (name, body, pointer) = heads(space, from);
-        let end = from + 3 + name + body;
-        if pointer == MARK {
+        let form = heads_at(space, from);
+        let end = from + 3 + form.name + form.body;
+        if form.pointer == MARK {
             gap = move_gap(space, gap, from, end);
         } else {
             kept += 1;

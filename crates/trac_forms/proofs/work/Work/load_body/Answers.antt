@@ -1,10 +1,10 @@
 use Rattle.trac_forms.proofs.Words.{◌≡◌, ℕ, ◌+◌, ◌≤◌, ◌++◌, List, [], ◌∷◌, length, Option, Some, None, MatchOption, refl, sym, ap, subst, arith, length-map, Item, text_of, Byte, Lists, claimed, flat_text, form_place, AreCharacters, called_part, IsLoaded, forms_in, shown, IsStored, bytes-flat}
-use Rattle.trac_forms.proofs.Words.{claimed-kept, AreItems, items, plain-items, plain-text, item_of, IsByte, All, map, slice_range, ◌∙◌, length-between}
+use Rattle.trac_forms.proofs.Words.{claimed-kept, plain-items, plain-text, item_of, IsByte, All, map, slice_range, ◌∙◌, length-between}
 use Rattle.trac_language.specs.declared.item.Item.TheVariants as item
 use Rattle.trac_space.specs.Lists as lists
 use Rattle.trac_forms.proofs.Strings.{used-stored, before-active}
 use Rattle.trac_forms.proofs.work.Work.load_body.Goals as goal
-use Rattle.trac_forms.proofs.work.Work.load_body.Goals.{After-heads_of-name, After-load_items}
+use Rattle.trac_forms.proofs.work.Work.load_body.Goals.{After-load_items}
 
 -- the items stand before active, or all is as it was
 abbrev Loads : List Item → Lists → Lists → Option ℕ → Type 0
@@ -41,35 +41,16 @@ handed (Some n) s t body from stop are within loaded =
       rw (sym are, plain-text cells loaded.0) loaded.3,
     )
 
--- the items that are called, once the heads are read
-called : (c : After-heads_of-name) → AreItems c.self.inside.space c.args.form.0 c.locate-at.result.start c.heads_of-name.result.0 c.heads_of-name.result.1 c.heads_of-name.result.2
-called c =
-    let heads = c.heads_of-name.ensures in
-    items _ _ _ _ _ _ c.self.invariant.forms.whole c.self.invariant.sound.forms (rw (← c.self.view_is) at c.requires.known) (rw (← c.self.view_is) at c.locate-at.ensures.start) heads.name heads.body heads.pointer
-
-pub overflow_add-place : goal.overflow_add-place
-overflow_add-place c = omega (arith, called (goal.at.overflow_add-place c).After-heads_of-name)
-
-pub overflow_add-place-2 : goal.overflow_add-place-2
-overflow_add-place-2 c = omega (arith, called (goal.at.overflow_add-place-2 c).After-heads_of-name)
-
-pub overflow_add-items : goal.overflow_add-items
-overflow_add-items c = omega (arith, called (goal.at.overflow_add-items c).After-heads_of-name)
-
-pub overflow_add-items-2 : goal.overflow_add-items-2
-overflow_add-items-2 c = omega (arith, called (goal.at.overflow_add-items-2 c).After-heads_of-name)
-
-pub load_items-requires-clause-order : goal.load_items-requires-clause-order
-load_items-requires-clause-order c = omega (arith, (called (goal.at.load_items-requires-clause-order c).After-heads_of-name).order)
-
 pub load_items-requires-clause-within : goal.load_items-requires-clause-within
-load_items-requires-clause-within c = (called (goal.at.load_items-requires-clause-within c).After-heads_of-name).behind
+load_items-requires-clause-within c = rw c.self.invariant.forms.whole at (rw (← c.self.view_is) at c.called_place-items.ensures.within)
 
 -- they are put before active, or nothing is
 loads : (c : After-load_items) → Loads (called_part (forms_in c.self.inside.space.store) c.args.form.0) c.self.inside.space c.load_items.new.space c.load_items.result
 loads c =
-    let i = called c.before.before.before in
-    handed c.load_items.result c.self.inside.space c.load_items.new.space _ _ _ i.are i.behind c.load_items.ensures
+    let place = c.called_place-items.ensures in
+    let within = rw c.self.invariant.forms.whole at (rw (← c.self.view_is) at place.within) in
+    let are = rw c.self.invariant.forms.whole at (rw (← c.self.view_is) at place.items) in
+    handed c.load_items.result c.self.inside.space c.load_items.new.space _ _ _ (rw c.locate-at.ensures.number at are) within c.load_items.ensures
 
 pub invariant_of-self : goal.invariant_of-self
 invariant_of-self c = stored _ c.self.inside.space _ c.load_items.result _ _ _ c.self.invariant (loads (goal.at.invariant_of-self c).After-load_items)
