@@ -31,6 +31,11 @@ class Package(unittest.TestCase):
             done = subprocess.run([os.path.join(room, 'usr/bin/trac')], cwd='/', input=b"#(ps,hello)'",
                                   capture_output=True, check=True)
             self.assertEqual(done.stdout, b'hello')
+            done = subprocess.run([os.path.join(room, 'usr/bin/trac_terminal')], cwd='/', input=b"#(ps,hello)'",
+                                  capture_output=True, check=True)
+            self.assertEqual(done.stdout, b'hello\n')
+            needs = subprocess.run(['dpkg-deb', '-f', self.files['trac-t64'], 'Depends'], capture_output=True, text=True)
+            self.assertEqual(needs.stdout, 'libc6, libedit2\n')
             place = subprocess.run(['gcc', '-print-multiarch'], capture_output=True, text=True, check=True).stdout.strip()
             library = os.path.join(room, 'usr/lib', place)
             program = os.path.join(room, 'embedding')
