@@ -792,12 +792,72 @@ class Saved(Room):
                          ("trac_terminal: can't save /dev/full: No space left on device\n", 5))
         self.assertIn("#(ds,A,b)'\n", piped("#(ds,A,b)'", '--save', '/dev/stdout')[0])
 
+    def test_what_was_saved_before_stays_where_a_file_is_not_read(self):
+        saved, none, file = self.put('saved', 'before'), self.path('none'), self.put('file', "#(ds,A,b)'")
+        for words in ([none], [file, none], ['--batch', none, file]):
+            lines, status = piped("#(ps,a)'", *words, '--save', saved)[1:]
+            self.assertEqual((lines, status), (f"trac_terminal: can't read {none}: No such file or directory\n"
+                                               "trac_terminal: the forms aren't saved, since a file wasn't read\n", 4))
+        self.assertEqual(self.got('saved'), b'before')
+
     def test_what_was_saved_before_stays_until_the_new_is_there(self):
         saved = self.put('saved', 'before')
         done = subprocess.run(['sh', '-c', 'ulimit -f 0; "$0" --save "$1"', TERMINAL, saved], input=b"#(ds,A,b)'",
                               capture_output=True, timeout=60, preexec_fn=lambda: signal.signal(signal.SIGXFSZ, signal.SIG_IGN))
         self.assertEqual((done.returncode, self.got('saved')), (5, b'before'))
         self.assertIn(b'File too large', done.stderr)
+
+
+class Page(unittest.TestCase):
+    """The man page says what the help and the program say."""
+
+    @classmethod
+    def setUpClass(cls):
+        done = subprocess.run(['man', '--warnings', '-l', os.path.join(TOP, 'docs', 'trac_terminal.1')], check=True,
+                              capture_output=True, text=True,
+                              env={**os.environ, 'MANWIDTH': '500', 'MANPAGER': 'cat', 'LC_ALL': 'C.UTF-8'})
+        cls.text, cls.warnings = done.stdout, done.stderr
+        cls.help = piped('', '--help')[0]
+
+    def section(self, name):
+        return re.search(rf'^{name}\n(.*?)\n(?=\S)', self.text, re.MULTILINE | re.DOTALL)[1]
+
+    def test_it_formats_without_a_warning(self):
+        self.assertEqual(self.warnings, '')
+
+    def test_its_options_are_those_of_the_help(self):
+        shown = re.findall(r'^ +((?:-\w, )?--\w+(?: <\w+>)?)  +.*?(?:1 to (\d+) \[default: (\d+)\])?$', self.help,
+                           re.MULTILINE)
+        told = re.findall(r'^ {7}((?:-\w, )?--\w+(?: [A-Z]+)?)(?: {2,}|\n)((?:.*\S.*\n?)+)', self.section('OPTIONS'),
+                          re.MULTILINE)
+        self.assertEqual([re.sub('[<>]', '', option) for option, _, _ in shown], [option for option, _ in told])
+        for (_, most, default), (_, words) in zip(shown, told):
+            if most:
+                self.assertRegex(words, rf'from 1 to {most}\. +The default is {default}\.')
+
+    def test_its_statuses(self):
+        self.assertEqual(re.findall(r'^ {7}(\d|signal)\b', self.section('EXIT STATUS'), re.MULTILINE),
+                         [*map(str, range(7)), 'signal'])
+
+    def test_its_session(self):
+        """What stands behind a prompt is typed, and the rest is shown."""
+        lines = [line[11:] for line in self.section('EXAMPLES').splitlines() if line.startswith(' ' * 11)]
+        ended = 0
+        with tempfile.TemporaryDirectory() as folder:
+            for line in lines:
+                typed = re.match("('?> )(.*)", line)
+                if line.startswith('$ trac_terminal '):
+                    typist = Typist(*(os.path.join(folder, word) if '.' in word else word for word in line.split()[2:]))
+                elif typed:
+                    typist.wait(typed[1])
+                    typist.type(typed[2] + '\n')
+                    typist.wait('\n')
+                elif not line.startswith('#!'):
+                    typist.wait(line + '\n')
+                if line.endswith("#(hl)'"):
+                    self.assertEqual(typist.status(), 0)
+                    ended += 1
+        self.assertEqual(ended, 2)
 
 
 class Built(unittest.TestCase):

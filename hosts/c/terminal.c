@@ -420,18 +420,23 @@ static uint32_t run_file(session *of, const char *name, int *worst) {
     return fate;
 }
 
-/* Runs the files, and gives the worst status. `*goes_on` becomes 0 where nothing more can be run: where the output
- * failed, there is no memory, or, unless the files are run by themselves, a file can't be read. */
-static int run_files(session *of, const command *given, int *goes_on) {
-    int worst = DONE;
-    for (size_t i = 0; *goes_on && i < given->file_count; i++) {
-        const uint32_t fate = run_file(of, given->files[i], &worst);
-        *goes_on = fate != TRAC_OUTPUT_FAILED && fate != TRAC_REFUSED &&
-                   (fate != TRAC_INPUT_FAILED || options[BATCH].number);
-        if (fate == STOPPED)
-            break;
+/* What became of the files: the worst status, whether one couldn't be read, and whether more may be run. */
+typedef struct {
+    int worst, is_unread, goes_on;
+} outcome;
+
+/* Runs the files. Nothing more is run where the output failed, there is no memory, or, unless the files are run by
+ * themselves, a file can't be read. */
+static outcome run_files(session *of, const command *given) {
+    outcome became = {DONE, 0, 1};
+    uint32_t fate = TRAC_GOING;
+    for (size_t i = 0; fate != STOPPED && became.goes_on && i < given->file_count; i++) {
+        fate = run_file(of, given->files[i], &became.worst);
+        became.is_unread |= fate == TRAC_INPUT_FAILED;
+        became.goes_on = fate != TRAC_OUTPUT_FAILED && fate != TRAC_REFUSED &&
+                         (fate != TRAC_INPUT_FAILED || options[BATCH].number);
     }
-    return worst;
+    return became;
 }
 
 /* Runs what is typed, and gives the status. */
@@ -443,18 +448,25 @@ static int run_typed(session *of) {
     return status_of(run_strings(of, &from, &worst));
 }
 
+/* Saves the forms where they were asked for, and gives the status. Where a file wasn't read, whose forms are not there,
+ * nothing takes the place of what was saved before. */
+static int save(session *of, const outcome *files, int status) {
+    const char *const name = options[SAVE].text;
+    int is_saved = !name;
+    if (name && files->is_unread)
+        (void)say_line(DONE, "trac_terminal: the forms aren't saved, since a file wasn't read\n");
+    else if (name)
+        is_saved = save_forms(&of->machine, (size_t)options[CELLS].number, options[ALLOWANCE].number, name);
+    return is_saved || status ? status : OUTPUT_FAILED;
+}
+
 /* Runs all, and gives the status. */
 static int run_all(session *of, const command *given) {
-    int goes_on = 1;
     const int is_typed = !options[BATCH].number;
     if (is_typed && isatty(STDIN_FILENO))
         begin_typing(&of->machine);
-    const int worst = run_files(of, given, &goes_on);
-    const int status = !is_typed || !goes_on ? worst : run_typed(of);
-    const size_t cells = (size_t)options[CELLS].number;
-    if (options[SAVE].text && !save_forms(&of->machine, cells, options[ALLOWANCE].number, options[SAVE].text))
-        return status ? status : OUTPUT_FAILED;
-    return status;
+    const outcome files = run_files(of, given);
+    return save(of, &files, is_typed && files.goes_on ? run_typed(of) : files.worst);
 }
 
 int main(int count, char **words) {

@@ -2,6 +2,8 @@
  * completed; else as the terminal edits them. */
 #include "terminal.h"
 
+#include <sys/select.h>
+
 #ifdef WITH_LIBEDIT
 #include <fcntl.h>
 #include <histedit.h>
@@ -25,6 +27,22 @@ static void handle(int number, void (*handler)(int)) {
     (void)sigaction(number, &action, NULL);
 }
 
+/* Reads what is typed. A signal fails it with EINTR, also one that comes just before it waits, if that is ^C. */
+static ssize_t read_typed(void *to, size_t most) {
+    sigset_t held, before;
+    fd_set input;
+    FD_ZERO(&input);
+    FD_SET(STDIN_FILENO, &input);
+    (void)sigemptyset(&held);
+    (void)sigaddset(&held, SIGINT);
+    (void)sigprocmask(SIG_BLOCK, &held, &before);
+    const int count = is_interrupted ? -1 : pselect(STDIN_FILENO + 1, &input, NULL, NULL, NULL, &before);
+    const int why = is_interrupted ? EINTR : errno;
+    (void)sigprocmask(SIG_SETMASK, &before, NULL);
+    errno = why;
+    return count < 0 ? -1 : read(STDIN_FILENO, to, most);
+}
+
 /* Types a line, or a part of one, that the terminal edits. */
 static reading type_plainly(text *to, const char *prompt, int is_shown, int *has_ended) {
     enum { MOST = 8192 };
@@ -34,7 +52,7 @@ static reading type_plainly(text *to, const char *prompt, int is_shown, int *has
     if (!reserve(to, MOST))
         return READ_SHORT;
     do
-        count = read(STDIN_FILENO, to->bytes + to->length, MOST);
+        count = read_typed(to->bytes + to->length, MOST);
     while (count < 0 && errno == EINTR && !is_interrupted);
     if (count <= 0 || is_interrupted)
         (void)write_all(STDERR_FILENO, "\n", 1);
@@ -68,7 +86,7 @@ static void ignore(int number) { (void)number; }
  * on, or that the screen has another size: all is shown anew. */
 static ssize_t read_byte(char *to) {
     ssize_t count;
-    while ((count = read(STDIN_FILENO, to, 1)) < 0 && errno == EINTR && !is_interrupted) {
+    while ((count = read_typed(to, 1)) < 0 && errno == EINTR && !is_interrupted) {
         (void)el_wset(editor, EL_PREP_TERM, 0);
         (void)el_wset(editor, EL_PREP_TERM, 1);
         el_resize(editor);
