@@ -25,7 +25,7 @@ def library():
 
 
 def kept_by(found, script, cells=CELLS):
-    """The forms that a script leaves, each as its name, the codes of its body and its pointer, and the meta character."""
+    """The forms that a script leaves, each by its name, the codes of its body and its pointer; the meta character."""
     machine, block, form = WORDS(), (ctypes.c_uint64 * cells)(), WORDS()
     printed = ctypes.create_string_buffer(1)
     if found.trac_open(machine, block, ctypes.c_size_t(cells), ctypes.c_uint64(STEPS)):

@@ -26,6 +26,7 @@ FOREVER = '1000000000000'
 SOURCES = [os.path.join(HEADERS, f'{name}.c') for name in ('terminal', 'calls', 'saving', 'texts', 'typing')]
 ENGINE = os.path.join(TOP, 'build', 'libtrac.a')
 EDITING = ['-DWITH_LIBEDIT', '-ledit']
+CHECKING = ['-g', '-fsanitize=address,undefined', '-fno-sanitize-recover=all']
 STORES = 60
 
 
@@ -128,9 +129,6 @@ class Screen(Typist):
         wanted = [line.rstrip() for line in lines]
         while self.lines()[-len(lines):] != wanted or self.screen.cursor.y != len(self.lines()) - 1:
             self.stream.feed(self.read(lambda: '\n'.join([f'not shown: {wanted}', *self.lines()])))
-
-    def clear(self):
-        self.type('\x0c')
 
 
 class AtATerminal(unittest.TestCase):
@@ -574,8 +572,8 @@ class Files(Room):
         file = self.put('loop', LOOP)
         self.assertEqual(piped("#(ps,a)'", file, '--steps', '1000'), ('a\n', USED_UP, 0))
         self.assertEqual(piped("#(ps,a)'", '--', file, '--steps')[1:],
-                         (f"trac: allowance of 1000000 steps used up\ntrac_terminal: can't read --steps: No such file or"
-                          ' directory\n', 4))
+                         ("trac: allowance of 1000000 steps used up\n"
+                          "trac_terminal: can't read --steps: No such file or directory\n", 4))
 
     def test_a_file_is_read_as_it_stands(self):
         name = self.put('lines', "#(ds,A,##(rs))'\nx'[##(cl,A)]'")
@@ -702,8 +700,7 @@ class Saved(Room):
         cls.library = library()
         cls.made = tempfile.TemporaryDirectory()
         cls.addClassCleanup(cls.made.cleanup)
-        # whose options the leaks of a program that ends are none of
-        cls.checked = built(cls.made.name, 'gcc', '-g', '-fsanitize=address,undefined', '-fno-sanitize-recover=all', *EDITING)
+        cls.checked = built(cls.made.name, 'gcc', *CHECKING, *EDITING)
 
     def save(self, script, *words, program=None):
         """What is saved of a session that ran the script, and what was said."""
@@ -773,7 +770,8 @@ class Saved(Room):
         # whose parenthesis takes a form beside it, and whose gaps were one character each
         script = b"#(ds,A,##(rs))'((((((((((((((((((((((((((((((((((((((((((((((((((((((((((((((('#(ds,B,c)'"
         saved, lines = self.save(script, '--cells', '160')
-        self.assertEqual(lines, f"trac_terminal: {self.path('saved')}: more cells or steps are needed to define the form A\n")
+        self.assertEqual(
+            lines, f"trac_terminal: {self.path('saved')}: more cells or steps are needed to define the form A\n")
         self.assertIn(b"#(,(More cells or steps than there were are needed to define the form )A)'\n", saved)
         self.assertEqual(kept_by(self.library, saved), kept_by(self.library, script))
         self.assertEqual(self.save(script)[1], '')
@@ -802,8 +800,8 @@ class Saved(Room):
 
     def test_what_was_saved_before_stays_until_the_new_is_there(self):
         saved = self.put('saved', 'before')
-        done = subprocess.run(['sh', '-c', 'ulimit -f 0; "$0" --save "$1"', TERMINAL, saved], input=b"#(ds,A,b)'",
-                              capture_output=True, timeout=60, preexec_fn=lambda: signal.signal(signal.SIGXFSZ, signal.SIG_IGN))
+        done = subprocess.run(['sh', '-c', 'trap "" XFSZ; ulimit -f 0; "$0" --save "$1"', TERMINAL, saved],
+                              input=b"#(ds,A,b)'", capture_output=True, timeout=60)
         self.assertEqual((done.returncode, self.got('saved')), (5, b'before'))
         self.assertIn(b'File too large', done.stderr)
 
@@ -868,13 +866,15 @@ class Built(unittest.TestCase):
 
     def test_a_session_under_sanitizers(self):
         with tempfile.TemporaryDirectory() as folder:
-            checked = built(folder, 'gcc', '-g', '-fsanitize=address,undefined', '-fno-sanitize-recover=all', *EDITING)
+            checked = built(folder, 'gcc', *CHECKING, *EDITING)
             screen = Screen(program=checked, TRAC_HISTORY=os.path.join(folder, 'history'))
             screen.shows('> ')
             screen.type("#(ds,greeting,é)#(foo)'\r")
             screen.shows('trac: no function foo', '> ')
-            screen.type("#(cl,g\t\t)'\x1b[A\x1b[B\x1b[200~a\rb\x1b[201~'\r:save " + os.path.join(folder, 'saved') + '\r')
-            screen.shows("> :save " + os.path.join(folder, 'saved'), '> ')
+            screen.type("#(cl,g\t\t)'\x1b[A\x1b[B\x1b[200~a\rb\x1b[201~'\r")
+            screen.shows("b'", 'é', 'ab', '> ')
+            screen.type(f":save {os.path.join(folder, 'saved')}\r")
+            screen.shows(f"> :save {os.path.join(folder, 'saved')}", '> ')
             screen.type('#(half\x03\x04')
             self.assertEqual(screen.status(), 0)
 

@@ -1,9 +1,9 @@
 /* What is seen of the calls of a run: which of them do nothing, since they name no function or no form. */
 #include "terminal.h"
 
-const char *const FUNCTIONS[] = {"rs", "rc", "cm", "ps", "hl", "ds", "ss", "dd", "da", "ln", "pf",
-                                 "cl", "cs", "cc", "cn", "in", "cr", "eq", "gr", "ad", "su", "ml",
-                                 "dv", "bu", "bi", "bc", "bs", "br", NULL};
+const char *const FUNCTIONS[] = {"rs", "rc", "cm", "ps", "hl", "ds", "ss", "dd", "da", "ln",
+                                 "pf", "cl", "cs", "cc", "cn", "in", "cr", "eq", "gr", "ad",
+                                 "su", "ml", "dv", "bu", "bi", "bc", "bs", "br", NULL};
 
 /* Those of them that do nothing where the form that they name isn't there. */
 static const char *const OF_FORMS[] = {"ss", "dd", "pf", "cl", "cs", "cc", "cn", "in", "cr", NULL};
@@ -75,16 +75,15 @@ static size_t argument(const watch *of, size_t at, size_t end, text *to) {
 
 /* Looks at the call that the next step performs. */
 static void look_at_call(watch *of, const trac_machine *machine) {
-    static text function, form;
     size_t end;
     int needs_form;
-    const size_t begin = innermost(of, machine, &end), next = argument(of, begin, end, &function);
-    (void)argument(of, next, end, &form);
-    if (!is_function(function.bytes, function.length, &needs_form)) {
-        if (function.length)
-            note(of, "no function ", &function);
-    } else if (needs_form && !has_form(machine, form.bytes, form.length)) {
-        note(of, form.length ? "no form " : "no form of the null name", &form);
+    const size_t begin = innermost(of, machine, &end), next = argument(of, begin, end, &of->function);
+    (void)argument(of, next, end, &of->form);
+    if (!is_function(of->function.bytes, of->function.length, &needs_form)) {
+        if (of->function.length)
+            note(of, "no function ", &of->function);
+    } else if (needs_form && !has_form(machine, of->form.bytes, of->form.length)) {
+        note(of, of->form.length ? "no form " : "no form of the null name", &of->form);
     }
 }
 

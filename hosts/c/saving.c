@@ -17,8 +17,8 @@ typedef enum { LEFT, RIGHT, META, SPECIAL_COUNT } special;
  * placeholder, the best first. The first is no character of the other two. */
 static const char NAMES[] = "<>\"", METAS[] = "';!|`@&$%?:", BEGINNINGS[] = "~^_*+=-/";
 
-/* The steps that a string's run takes behind its end, up to the end of the input. */
-enum { STEPS_BEHIND = 20 };
+/* How many those are; and the steps that a string's run takes behind its end, up to the end of the input. */
+enum { BEGINNING_COUNT = sizeof BEGINNINGS - 1, STEPS_BEHIND = 20 };
 
 /* A script in the making. `marks` has a byte for each of a text: 0, or 1 more than the special character that it is. */
 typedef struct {
@@ -89,6 +89,14 @@ static void add_special(saving *of, special which) {
     add_text(&of->script, ")");
 }
 
+/* How many characters from there on can stand in parentheses. */
+static size_t unmarked_length(const text *marks, size_t at, size_t length) {
+    size_t count = 0;
+    while (at + count < length && !marks->bytes[at + count])
+        count++;
+    return count;
+}
+
 /* Adds what is evaluated to this text. */
 static void add_argument(saving *of, const uint8_t *bytes, size_t length) {
     of->marks.length = 0;
@@ -98,17 +106,16 @@ static void add_argument(saving *of, const uint8_t *bytes, size_t length) {
     }
     mark_right(&of->marks, bytes, length, of->meta);
     mark_left(&of->marks, bytes, length, of->meta);
-    for (size_t at = 0, next; at < length; at = next) {
-        const uint8_t mark = of->marks.bytes[at];
-        for (next = at + 1; !mark && next < length && !of->marks.bytes[next];)
-            next++;
-        if (mark) {
-            add_special(of, (special)(mark - 1));
-        } else {
+    for (size_t at = 0; at < length;) {
+        const size_t count = unmarked_length(&of->marks, at, length);
+        if (count) {
             add_text(&of->script, "(");
-            add_bytes(&of->script, bytes + at, next - at);
+            add_bytes(&of->script, bytes + at, count);
             add_text(&of->script, ")");
+        } else {
+            add_special(of, (special)(of->marks.bytes[at] - 1));
         }
+        at += count ? count : 1;
     }
 }
 
@@ -168,8 +175,8 @@ static uint8_t choose_beginning(const saving *of, size_t *count) {
     size_t longest[256];
     uint8_t best = (uint8_t)BEGINNINGS[0];
     measure_rows(of, longest);
-    for (size_t i = 0; i < sizeof BEGINNINGS - 1 + 256; i++) {
-        const uint8_t byte = (uint8_t)(i < sizeof BEGINNINGS - 1 ? (size_t)(uint8_t)BEGINNINGS[i] : i - (sizeof BEGINNINGS - 1));
+    for (size_t i = 0; i < BEGINNING_COUNT + 256; i++) {
+        const uint8_t byte = (uint8_t)(i < BEGINNING_COUNT ? (size_t)BEGINNINGS[i] : i - BEGINNING_COUNT);
         if (can_begin(of, byte) && (longest[byte] < longest[best] || !can_begin(of, best)))
             best = byte;
     }
@@ -242,15 +249,22 @@ static void add_segmenting(saving *of, const placeholder *written, uint32_t most
 
 /* ---- Forms. */
 
+/* How many gaps stand in front of an item without a character behind them; and how many characters in front of it. */
+static size_t count_gaps(const saving *of, size_t item, size_t *characters) {
+    size_t gaps = 0;
+    *characters = 0;
+    for (size_t i = 0; i < item; i++) {
+        const int is_gap = codes_of(of)[i] >= TRAC_FIRST_GAP;
+        *characters += (size_t)!is_gap;
+        gaps = is_gap ? gaps + 1 : 0;
+    }
+    return gaps;
+}
+
 /* Adds the calls that move the pointer there: past so many characters, and then past the gaps that follow them. Their
  * values stand in an argument of a call of no function. */
 static void add_pointer(saving *of, size_t pointer) {
-    size_t characters = 0, gaps = 0;
-    for (size_t i = 0; i < pointer; i++) {
-        const int is_gap = codes_of(of)[i] >= TRAC_FIRST_GAP;
-        characters += (size_t)!is_gap;
-        gaps = is_gap ? gaps + 1 : 0;
-    }
+    size_t characters, gaps = count_gaps(of, pointer, &characters);
     add_text(&of->script, "#(,");
     if (characters) {
         begin_call(of, "##(cn,");
@@ -314,21 +328,31 @@ static void add_forms(saving *of) {
 
 /* ---- The special characters. */
 
-/* Chooses a meta character that stands in no form, or the apostrophe. */
-static void choose_meta(saving *of) {
-    uint8_t is_there[256 + 1] = {0};
-    trac_form form = TRAC_NO_FORM;
-    while (trac_next_form(of->from, &form)) {
-        const size_t length = take_name(&of->name, &form) && take_codes(&of->codes, &form) ? of->name.length : 0;
-        for (size_t i = 0; i < length + count_of(of); i++) {
-            const uint32_t code = i < length ? of->name.bytes[i] : codes_of(of)[i - length];
-            is_there[code < TRAC_FIRST_GAP ? code : TRAC_FIRST_GAP] = 1;
-        }
+/* Notes the bytes of a form's name and body. */
+static void note_bytes(const saving *of, uint8_t is_there[TRAC_FIRST_GAP + 1]) {
+    const size_t length = of->name.length;
+    for (size_t i = 0; i < length + count_of(of); i++) {
+        const uint32_t code = i < length ? of->name.bytes[i] : codes_of(of)[i - length];
+        is_there[code < TRAC_FIRST_GAP ? code : TRAC_FIRST_GAP] = 1;
     }
-    const char *at = METAS;
+}
+
+/* The first of these characters that isn't there; the first of all where each is. */
+static uint8_t first_free(const char *characters, const uint8_t is_there[TRAC_FIRST_GAP + 1]) {
+    const char *at = characters;
     while (*at && is_there[(uint8_t)*at])
         at++;
-    of->meta = (uint8_t)(*at ? *at : METAS[0]);
+    return (uint8_t)(*at ? *at : *characters);
+}
+
+/* Chooses a meta character that stands in no form, or the apostrophe. */
+static void choose_meta(saving *of) {
+    uint8_t is_there[TRAC_FIRST_GAP + 1] = {0};
+    trac_form form = TRAC_NO_FORM;
+    while (trac_next_form(of->from, &form))
+        if (take_name(&of->name, &form) && take_codes(&of->codes, &form))
+            note_bytes(of, is_there);
+    of->meta = first_free(METAS, is_there);
 }
 
 /* Chooses a name that no form has. */

@@ -1,6 +1,6 @@
-/* The program trac_terminal over the engine in C: files are run, and then the strings that are typed, each when its meta
- * character comes, over one machine. Each string is a run of its own, by turns of few steps, so that ^C can stop it.
- * Written by hand, and tested. */
+/* The program trac_terminal over the engine in C: files are run, and then the strings that are typed, each when its
+ * meta character comes, over one machine. Each string is a run of its own, by turns of few steps, so that ^C can stop
+ * it. Written by hand, and tested. */
 #include "terminal.h"
 
 #include <fcntl.h>
@@ -48,7 +48,7 @@ static option options[] = {{"--cells", 0, TAKES_SIGNED, "<N>", TRAC_MOST_CELLS, 
 
 /* Where strings are read from: a file, or what is typed. From `start` on it wasn't consumed. */
 typedef struct {
-    const char *name;    /* of the file; null where it is typed */
+    const char *name; /* of the file; null where it is typed */
     int is_terminal;
     text bytes;
     size_t start;
@@ -176,14 +176,11 @@ static reading type_more(session *of, source *from) {
 
 /* Reads more of what is typed. */
 static reading read_more(session *of, source *from) {
-    ssize_t count;
     if (from->is_terminal)
         return type_more(of, from);
     if (!reserve(&from->bytes, CHUNK))
         return READ_SHORT;
-    do
-        count = read(STDIN_FILENO, from->bytes.bytes + from->bytes.length, CHUNK);
-    while (count < 0 && errno == EINTR);
+    const ssize_t count = read_once(STDIN_FILENO, from->bytes.bytes + from->bytes.length, CHUNK);
     from->has_ended = count == 0;
     from->bytes.length += count > 0 ? (size_t)count : 0;
     return count < 0 ? READ_FAILED : READ;
@@ -355,7 +352,8 @@ static int ends_source(const source *from, uint32_t fate) {
 }
 
 static int status_of(uint32_t fate) {
-    static const int statuses[] = {DONE, DONE, DONE, WORKSPACE, STEPS, INPUT_FAILED, OUTPUT_FAILED, DONE, DONE, NO_MEMORY};
+    static const int statuses[] = {DONE,         DONE,          DONE, WORKSPACE, STEPS,
+                                   INPUT_FAILED, OUTPUT_FAILED, DONE, DONE,      NO_MEMORY};
     return fate < sizeof statuses / sizeof *statuses ? statuses[fate] : DONE;
 }
 
@@ -403,8 +401,8 @@ static size_t head_length(const text *of) {
     return feed ? (size_t)(feed + 1 - of->bytes) : of->length;
 }
 
-/* Runs a file, behind a first line that begins with `#!`. A line end is put after what it printed. Gives the fate of its
- * last string, or TRAC_INPUT_FAILED where it can't be read. */
+/* Runs a file, behind a first line that begins with `#!`. A line end is put after what it printed. Gives the fate of
+ * its last string, or TRAC_INPUT_FAILED where it can't be read. */
 static uint32_t run_file(session *of, const char *name, int *worst) {
     source from = {name, 0, {NULL, 0, 0, 0}, 0, 1, 0, 0, 1, 1, 1, 1};
     uint32_t fate = TRAC_INPUT_FAILED;
@@ -433,8 +431,8 @@ static outcome run_files(session *of, const command *given) {
     for (size_t i = 0; fate != STOPPED && became.goes_on && i < given->file_count; i++) {
         fate = run_file(of, given->files[i], &became.worst);
         became.is_unread |= fate == TRAC_INPUT_FAILED;
-        became.goes_on = fate != TRAC_OUTPUT_FAILED && fate != TRAC_REFUSED &&
-                         (fate != TRAC_INPUT_FAILED || options[BATCH].number);
+        became.goes_on =
+            fate != TRAC_OUTPUT_FAILED && fate != TRAC_REFUSED && (fate != TRAC_INPUT_FAILED || options[BATCH].number);
     }
     return became;
 }

@@ -96,9 +96,7 @@ int read_file(text *to, const char *name) {
     const int file = open(name, O_RDONLY | O_CLOEXEC);
     ssize_t count = file < 0 ? -1 : 1;
     while (count > 0 && reserve(to, CHUNK)) {
-        do
-            count = read(file, to->bytes + to->length, CHUNK);
-        while (count < 0 && errno == EINTR);
+        count = read_once(file, to->bytes + to->length, CHUNK);
         to->length += count > 0 ? (size_t)count : 0;
     }
     const int why = to->is_short ? ENOMEM : errno;

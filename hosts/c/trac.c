@@ -3,7 +3,6 @@
  * where a step asks for it: so each print is one write, made before the next step. */
 #define _POSIX_C_SOURCE 200809L
 #include "trac.h"
-
 #include "words.h"
 
 #include <signal.h>
@@ -39,10 +38,7 @@ typedef struct {
 
 /* Reads once. Gives 0 where that failed. */
 static int read_more(source *from) {
-    ssize_t count;
-    do
-        count = read(STDIN_FILENO, from->bytes + from->length, CHUNK);
-    while (count < 0 && errno == EINTR);
+    const ssize_t count = read_once(STDIN_FILENO, from->bytes + from->length, CHUNK);
     from->ended = count == 0;
     from->length += count > 0 ? (size_t)count : 0;
     return count >= 0;

@@ -37,10 +37,10 @@ static ssize_t read_typed(void *to, size_t most) {
     (void)sigaddset(&held, SIGINT);
     (void)sigprocmask(SIG_BLOCK, &held, &before);
     const int count = is_interrupted ? -1 : pselect(STDIN_FILENO + 1, &input, NULL, NULL, NULL, &before);
-    const int why = is_interrupted ? EINTR : errno;
+    const int why = errno;
     (void)sigprocmask(SIG_SETMASK, &before, NULL);
-    errno = why;
-    return count < 0 ? -1 : read(STDIN_FILENO, to, most);
+    errno = is_interrupted ? EINTR : why;
+    return count < 0 || is_interrupted ? -1 : read(STDIN_FILENO, to, most);
 }
 
 /* Types a line, or a part of one, that the terminal edits. */
@@ -95,12 +95,13 @@ static ssize_t read_byte(char *to) {
     return count;
 }
 
-/* Takes the character at the front of some bytes, and gives how many it has; 0 where more are needed. */
+/* Takes the character at the front of some bytes, and gives how many it has; 0 where more are needed, unless these are
+ * all. */
 static size_t take_character(const char *bytes, size_t length, int is_all, wchar_t *to) {
     mbstate_t state;
     memset(&state, 0, sizeof state);
     const size_t count = mbrtowc(to, bytes, length, &state);
-    if (count == (size_t)-2 && !is_all)
+    if (!length || (count == (size_t)-2 && !is_all))
         return 0;
     const int is_character = count > 0 && count <= length;
     if (is_character && (*to < 128 || *to > 255 || iswprint((wint_t)*to)))
@@ -111,25 +112,18 @@ static size_t take_character(const char *bytes, size_t length, int is_all, wchar
 
 /* Reads a character for the editor. What was typed before ^C is dropped. */
 static int read_character(EditLine *of, wchar_t *to) {
-    static char bytes[16];
+    static char held[16];
     static size_t length;
     ssize_t count = 1;
-    size_t taken = 0;
+    size_t taken;
     (void)of;
-    while (!(taken = length ? take_character(bytes, length, count == 0 || length == sizeof bytes, to) : 0) && count > 0) {
-        count = read_byte(bytes + length);
-        length += (size_t)(count > 0);
-        if (is_interrupted) {
-            bytes[0] = bytes[length - (count > 0)];
-            length = (size_t)(count > 0);
-            return -1;
-        }
+    while (!(taken = take_character(held, length, count <= 0 || length == sizeof held, to)) && count > 0) {
+        count = read_byte(held + length);
+        length = is_interrupted ? 0 : length + (size_t)(count > 0);
     }
-    if (!taken)
-        return (int)count;
     length -= taken;
-    memmove(bytes, bytes + taken, length);
-    return 1;
+    memmove(held, held + taken, length);
+    return taken ? 1 : (int)count;
 }
 
 /* Adds wide characters as the bytes that were typed. */
@@ -176,17 +170,18 @@ static unsigned char paste(EditLine *of, wint_t key) {
                  !memcmp(pasted.bytes + (count - end_length) * sizeof next, end, end_length * sizeof next);
     }
     pasted.length = (count - (is_end ? end_length : 0)) * sizeof next;
+    const int is_empty = !pasted.length;
     next = 0;
     add_bytes(&pasted, &next, sizeof next);
-    const int is_put = !pasted.is_short && (pasted.length == sizeof next || el_winsertstr(of, (wchar_t *)(void *)pasted.bytes) == 0);
+    const int is_put = !pasted.is_short && (is_empty || el_winsertstr(of, (wchar_t *)(void *)pasted.bytes) == 0);
     free(pasted.bytes);
     return is_put ? CC_REFRESH : CC_ERROR;
 }
 
 /* ---- Names that are completed. */
 
-/* What is looked for: the argument in front of the cursor that begins there, its place among those of its call, and the
- * name of the call's function. What was found: how many names, each ended by a null byte, and what they have in common. */
+/* What is looked for: what was typed of an argument, its place among those of its call, and the name of the call's
+ * function. What was found: how many names, each ended by a null byte, and what they have in common. */
 typedef struct {
     text begun, function, names, common;
     size_t place, count;
@@ -194,27 +189,27 @@ typedef struct {
 
 static int has_special(const uint8_t *name, size_t length) {
     size_t i = 0;
-    while (i < length && name[i] > ' ' && name[i] != 127 && !strchr("#(),", name[i]) &&
-           name[i] != trac_meta(completed))
+    while (i < length && name[i] > ' ' && name[i] != 127 && !strchr("#(),", name[i]) && name[i] != trac_meta(completed))
         i++;
     return i < length;
 }
 
-/* Finds the call that stands open in front of the cursor. Gives 0 where there is none. */
-static int find_call(completion *of, const uint8_t *line, size_t length) {
-    size_t from = length, begin;
-    while (from && !strchr("()", line[from - 1]))
-        from--;
-    if (from < 2 || line[from - 1] != '(' || line[from - 2] != '#')
-        return 0;
-    for (begin = from; from < length; from++) {
-        of->place += line[from] == ',';
-        begin = line[from] == ',' ? from + 1 : begin;
-        if (!of->place)
-            add_bytes(&of->function, line + from, 1);
+/* Where the arguments begin of the call that stands open in front of the cursor; 0 where there is none. */
+static size_t find_call(const uint8_t *line, size_t length) {
+    while (length && line[length - 1] != '(' && line[length - 1] != ')')
+        length--;
+    return length > 1 && line[length - 1] == '(' && line[length - 2] == '#' ? length : 0;
+}
+
+/* Notes the function of the call, and what was typed of its last argument. */
+static void note_arguments(completion *of, const uint8_t *bytes, size_t length) {
+    for (size_t i = 0; i < length; i++) {
+        const int is_comma = bytes[i] == ',';
+        of->place += (size_t)is_comma;
+        of->begun.length = is_comma ? 0 : of->begun.length;
+        add_bytes(&of->begun, bytes + i, (size_t)!is_comma);
+        add_bytes(&of->function, bytes + i, (size_t)!of->place);
     }
-    add_bytes(&of->begun, line + begin, length - begin);
-    return 1;
 }
 
 /* Takes a name into account that begins as what was typed. */
@@ -274,22 +269,24 @@ static void show_names(const completion *of) {
     free(shown.bytes);
 }
 
-/* Completes the name in front of the cursor as far as those that begin so have the same characters, and shows them where
- * there are more. */
+/* Completes the name in front of the cursor as far as those that begin so have the same characters, and shows them
+ * where there are more. */
 static unsigned char complete(EditLine *of, wint_t key) {
     static completion found;
     const LineInfoW *const line = el_wline(of);
     text typed = {NULL, 0, 0, 0};
     unsigned char answer = CC_ERROR;
     (void)key;
-    found.begun.length = found.function.length = found.names.length = found.common.length = found.place = found.count = 0;
+    found.begun.length = found.function.length = found.names.length = found.common.length = 0;
+    found.place = found.count = 0;
     add_wide(&typed, line->buffer, (size_t)(line->cursor - line->buffer));
-    if (find_call(&found, typed.bytes, typed.length)) {
-        if (!found.place)
-            offer_functions(&found);
-        else if (names_form(&found))
-            offer_forms(&found);
-    }
+    const size_t begin = find_call(typed.bytes, typed.length);
+    if (begin)
+        note_arguments(&found, typed.bytes + begin, typed.length - begin);
+    if (begin && !found.place)
+        offer_functions(&found);
+    else if (begin && names_form(&found))
+        offer_forms(&found);
     free(typed.bytes);
     if (found.count && found.common.length > found.begun.length) {
         wchar_t *const more =

@@ -29,6 +29,15 @@ static inline int write_all(int device, const void *from, size_t length) {
     return 1;
 }
 
+/* Reads once. An interrupted call is made again. Gives 0 at the end, and -1 where the read failed. */
+static inline ssize_t read_once(int device, void *to, size_t most) {
+    ssize_t count;
+    do
+        count = read(device, to, most);
+    while (count < 0 && errno == EINTR);
+    return count;
+}
+
 /* Says something on standard error in one write, and gives the status. Where there is no memory for all of it, its
  * first 199 characters are said. */
 static inline int say_line(int status, const char *format, ...) {
@@ -74,8 +83,8 @@ typedef enum { TAKES_NOTHING, TAKES_SIGNED, TAKES_UNSIGNED, TAKES_TEXT } option_
 /* An option, and what was given for it. A number that wasn't given is 0; an option without a value that was given has
  * the number 1. */
 typedef struct {
-    const char *name;  /* with its two hyphens */
-    char letter;       /* behind one hyphen; or 0 */
+    const char *name; /* with its two hyphens */
+    char letter;      /* behind one hyphen; or 0 */
     option_kind kind;
     const char *value; /* what its value is called; or null */
     uint64_t most;     /* the greatest number */
@@ -141,7 +150,8 @@ static inline int take_waiting(command *of) {
         return -1;
     of->waiting = NULL;
     if (!of->value)
-        return say_line(USAGE, "error: a value is required for '%s %s' but none was supplied" HINT, to->name, to->value);
+        return say_line(USAGE, "error: a value is required for '%s %s' but none was supplied" HINT, to->name,
+                        to->value);
     if (to->number || to->text)
         return say_line(USAGE, "error: the argument '%s %s' cannot be used multiple times\n\nUsage: %s" HINT, to->name,
                         to->value, of->usage);
@@ -149,7 +159,8 @@ static inline int take_waiting(command *of) {
         to->text = of->value;
     else
         fault = fault_of_number(of->value, to);
-    return fault ? say_line(USAGE, "error: invalid value '%s' for '%s %s': %s" HINT, of->value, to->name, to->value, fault)
+    return fault ? say_line(USAGE, "error: invalid value '%s' for '%s %s': %s" HINT, of->value, to->name, to->value,
+                            fault)
                  : -1;
 }
 
@@ -211,13 +222,18 @@ static inline int take_word(command *of, char *word) {
     return found ? take_option(of, found, value) : refuse_word(of, word);
 }
 
+static inline int are_utf8(char **words) {
+    while (*words && is_utf8(*words))
+        words++;
+    return !*words;
+}
+
 /* Takes all words: behind `--` stand files alone. */
 static inline int take_words(command *of, char **words) {
     int status = -1, are_files = 0;
     of->files = words;
-    for (char **word = words; *word; word++)
-        if (!is_utf8(*word))
-            return say_line(USAGE, "error: the command line isn't UTF-8\n");
+    if (!are_utf8(words))
+        return say_line(USAGE, "error: the command line isn't UTF-8\n");
     for (; *words && status < 0; words++) {
         if (!are_files && !strcmp(*words, "--"))
             are_files = 1;
