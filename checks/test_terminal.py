@@ -37,6 +37,11 @@ def piped(script, *words, program=TERMINAL, **more):
     return done.stdout.decode(errors='replace'), done.stderr.decode(errors='replace'), done.returncode
 
 
+def has_libedit(program):
+    """Whether a program was built with libedit."""
+    return b'libedit' in subprocess.run(['ldd', program], capture_output=True, check=True).stdout
+
+
 def built(folder, compiler, *flags):
     """The program, built with these flags; the engine is as make built it."""
     program = os.path.join(folder, f'terminal{len(os.listdir(folder))}')
@@ -278,8 +283,14 @@ class AtATerminal(unittest.TestCase):
 class Edited(Room):
     """Where lines are edited by libedit: the screens of sessions, as they look."""
 
+    @classmethod
+    def setUpClass(cls):
+        made = tempfile.TemporaryDirectory()
+        cls.addClassCleanup(made.cleanup)
+        cls.program = TERMINAL if has_libedit(TERMINAL) else built(made.name, 'gcc', *EDITING)
+
     def begin(self, *words, **env):
-        screen = Screen(*words, **{'TRAC_HISTORY': self.path('history'), **env})
+        screen = Screen(*words, program=self.program, **{'TRAC_HISTORY': self.path('history'), **env})
         screen.shows('> ')
         return screen
 
@@ -409,8 +420,7 @@ class Edited(Room):
 
     def test_without_libedit_lines_are_plain(self):
         plain = built(self.folder, 'gcc')
-        self.assertNotIn(b'libedit', subprocess.run(['ldd', plain], capture_output=True, check=True).stdout)
-        self.assertIn(b'libedit', subprocess.run(['ldd', TERMINAL], capture_output=True, check=True).stdout)
+        self.assertFalse(has_libedit(plain))
         typist = Typist('--quiet', program=plain, TERM='xterm')
         typist.type("#(ps,a)'\n")
         self.assertIn("#(ps,a)'\n", typist.wait('a\n> '))
@@ -859,6 +869,10 @@ class Page(unittest.TestCase):
 
 
 class Built(unittest.TestCase):
+    def test_libedit_is_found(self):
+        # make EDITING= leaves it out
+        self.assertEqual(has_libedit(TERMINAL), os.environ.get('EDITING') != '')
+
     def test_it_is_clear_of_warnings(self):
         for compiler in ('gcc', 'clang'):
             for how in (EDITING[:1], []):
