@@ -330,7 +330,7 @@ class Edited(Room):
     def test_names_are_completed(self):
         screen = self.begin()
         screen.type("#(ds,greeting,G)#(ds,greater,g)#(ds,other,o)#(ds,(a,b),c)'\r")
-        screen.shows('> ')
+        screen.shows("> #(ds,greeting,G)#(ds,greater,g)#(ds,other,o)#(ds,(a,b),c)'", '> ')
         screen.type('#(ps,#(i\t,o\t\t')
         screen.shows('> #(ps,#(in,other')
         screen.type("))'\x01\x0b#(cl,\t")
@@ -484,6 +484,18 @@ class Piped(unittest.TestCase):
         script = f"{names}'#(ps,{text})'#(ps,end)'"
         wanted = ''.join(f'{i};' for i in range(200)) + f'\n{text}\nend\n'
         self.assertEqual(piped(script), (wanted, '', 0))
+
+    def test_a_long_session_in_little_memory(self):
+        script = b''.join(b"#(ds,A,(%s))'\n" % (b'x' * (20000 + at)) for at in range(1000)) + b"#(ps,end)'"
+        done = subprocess.run(['sh', '-c', 'ulimit -v 12000; "$0"', TERMINAL], input=script, capture_output=True, timeout=60)
+        self.assertEqual((done.stdout, done.stderr, done.returncode), (b'end\n', b'', 0))
+
+    def test_a_long_string_is_looked_through_once(self):
+        script = b'#(ps,(' + b'x' * 8000000 + b"))'#(ps,end)'"
+        begun = time.monotonic()
+        output, lines, status = piped(script, '--cells', '16777216')
+        self.assertEqual((len(output), output[-6:], lines, status), (8000005, 'x\nend\n', '', 0))
+        self.assertLess(time.monotonic() - begun, 10)
 
     def test_words_that_are_refused(self):
         for words in (['--cells', '0'], ['--steps'], ['--report'], ['-x', 'file'], ['--save'], ['-qx'], ['--batch'],

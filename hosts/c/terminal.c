@@ -103,8 +103,6 @@ static void pass(source *from, size_t count) {
         from->column = is_end ? 1 : from->column + (size_t)is_first;
     }
     from->start += count;
-    if (from->start == from->bytes.length && !from->name)
-        from->start = from->bytes.length = 0;
 }
 
 static int is_layout(uint8_t byte) { return byte == '\t' || byte == '\n' || byte == '\r'; }
@@ -174,8 +172,12 @@ static reading type_more(session *of, source *from) {
     return became;
 }
 
-/* Reads more of what is typed. */
+/* Reads more of what is typed, behind what wasn't consumed, which is moved to the front. */
 static reading read_more(session *of, source *from) {
+    if (from->start)
+        memmove(from->bytes.bytes, unread(from), unread_length(from));
+    from->bytes.length -= from->start;
+    from->start = 0;
     if (from->is_terminal)
         return type_more(of, from);
     if (!reserve(&from->bytes, CHUNK))
@@ -225,23 +227,41 @@ static uint32_t pass_over(session *of, source *from) {
     return TRAC_WORKSPACE;
 }
 
+/* Whether what was read is enough for the next step, which reads: a byte, or a string that ends or that the cells can't
+ * hold. In what stands in front of `seen` no string ends. */
+static int is_enough(const session *of, const source *from, size_t seen) {
+    const size_t length = unread_length(from), most = trac_part(&of->machine, TRAC_PART_FREE) + 1;
+    if (from->has_ended || length <= seen)
+        return from->has_ended;
+    return trac_awaits(&of->machine) == TRAC_AWAITS_BYTE || length > most ||
+           memchr(unread(from) + seen, (int)trac_meta(&of->machine), length - seen);
+}
+
+/* Reads what the next step needs. */
+static reading feed(session *of, source *from) {
+    reading became = READ;
+    size_t seen = 0;
+    drop_line_feed(from);
+    while (became == READ && !is_enough(of, from, seen)) {
+        seen = unread_length(from);
+        became = read_more(of, from);
+        drop_line_feed(from);
+    }
+    return became;
+}
+
 /* Makes a step that reads. */
 static trac_report make_reading_step(session *of, source *from) {
     const int reads_string = trac_awaits(&of->machine) == TRAC_AWAITS_TEXT;
-    trac_report report;
-    for (;;) {
-        drop_line_feed(from);
-        if (!from->has_read)
-            note_place(from);
-        report = trac_turn(&of->machine, unread(from), unread_length(from), from->has_ended, NULL, 0, 1);
-        if (report.fate != TRAC_WANTS_INPUT)
-            break;
-        report.fate = fate_of(read_more(of, from));
-        if (report.fate != TRAC_GOING)
-            return report;
-    }
+    const reading became = feed(of, from);
+    if (!from->has_read)
+        note_place(from);
+    trac_report report =
+        trac_turn(&of->machine, unread(from), unread_length(from), from->has_ended, NULL, 0, became == READ);
+    if (became != READ)
+        report.fate = fate_of(became);
     pass(from, report.consumed);
-    if (reads_string && report.fate == TRAC_GOING)
+    if (reads_string && became == READ && report.fate == TRAC_GOING)
         end_string(from);
     else if (reads_string && report.fate == TRAC_WORKSPACE)
         report.fate = pass_over(of, from);
