@@ -1,4 +1,5 @@
 """Sessions: `trac_terminal` at a pseudo-terminal, from a pipe, and with files; what it says; forms that are saved."""
+import functools
 import os
 import pty
 import re
@@ -26,8 +27,16 @@ FOREVER = '1000000000000'
 SOURCES = [os.path.join(HEADERS, f'{name}.c') for name in ('terminal', 'calls', 'saving', 'texts', 'typing')]
 ENGINE = os.path.join(TOP, 'build', 'libtrac.a')
 EDITING = ['-DWITH_LIBEDIT', '-ledit']
-CHECKING = ['-g', '-fsanitize=address,undefined', '-fno-sanitize-recover=all']
+CHECKING = ['-O0', '-g', '-fsanitize=address,undefined', '-fno-sanitize-recover=all']
 STORES = 60
+
+
+@functools.cache
+def checked():
+    """The program under sanitizers, built once."""
+    folder = tempfile.TemporaryDirectory()
+    unittest.addModuleCleanup(folder.cleanup)
+    return built(folder.name, 'gcc', *CHECKING, *EDITING)
 
 
 def piped(script, *words, program=TERMINAL, **more):
@@ -384,7 +393,8 @@ class Edited(Room):
                 screen.type(script[sent:sent + 500])
                 sent += 500
                 while select.select([screen.place], [], [], 0)[0]:
-                    screen.read(str)
+                    screen.shown += screen.read(str)
+            screen.shown = screen.shown.replace(b'\r\n', b'\n')
             screen.wait('nA\n')
             self.end(screen)
 
@@ -720,15 +730,12 @@ class Saved(Room):
     @classmethod
     def setUpClass(cls):
         cls.library = library()
-        cls.made = tempfile.TemporaryDirectory()
-        cls.addClassCleanup(cls.made.cleanup)
-        cls.checked = built(cls.made.name, 'gcc', *CHECKING, *EDITING)
 
-    def save(self, script, *words, program=None):
+    def save(self, script, *words):
         """What is saved of a session that ran the script, and what was said."""
         file = self.put('script', script)
         output, lines, status = piped('', '--batch', '--quiet', '--save', self.path('saved'), file, *words,
-                                      program=program or self.checked)
+                                      program=checked())
         self.assertEqual((output, status), ('', 0), lines)
         return self.got('saved'), lines
 
@@ -892,8 +899,7 @@ class Built(unittest.TestCase):
 
     def test_a_session_under_sanitizers(self):
         with tempfile.TemporaryDirectory() as folder:
-            checked = built(folder, 'gcc', *CHECKING, *EDITING)
-            screen = Screen(program=checked, TRAC_HISTORY=os.path.join(folder, 'history'))
+            screen = Screen(program=checked(), TRAC_HISTORY=os.path.join(folder, 'history'))
             screen.shows('> ')
             screen.type("#(ds,greeting,é)#(foo)'\r")
             screen.shows('trac: no function foo', '> ')
