@@ -86,9 +86,13 @@ class Launcher(unittest.TestCase):
             file.write('\n')
         self.date(name, 5)
 
+    def environment(self, path=None, **more):
+        """Where no compiler is named, and the stand-in for one is found first."""
+        kept = {name: value for name, value in os.environ.items() if name != 'CC'}
+        return {**kept, 'PATH': path or self.tools + ':' + os.environ['PATH'], **more}
+
     def start(self, name='trac', path=None, **more):
-        environment = {name: value for name, value in os.environ.items() if name != 'CC'}
-        environment.update({'PATH': path or self.tools + ':' + os.environ['PATH'], **more.pop('env', {})})
+        environment = self.environment(path, **more.pop('env', {}))
         return subprocess.Popen([os.path.join(self.top, name), '--cells', '18'], text=True,
                                 stdin=subprocess.DEVNULL, stdout=subprocess.PIPE, stderr=subprocess.PIPE,
                                 env=environment, **more)
@@ -141,8 +145,9 @@ class Launcher(unittest.TestCase):
 
     def test_a_line_at_a_terminal(self):
         reading, writing = pty.openpty()
-        started = subprocess.Popen([os.path.join(self.top, 'trac')], stdin=subprocess.DEVNULL, stdout=subprocess.DEVNULL,
-                                   stderr=writing, env={**os.environ, 'PATH': self.tools + ':' + os.environ['PATH']})
+        started = subprocess.Popen([os.path.join(self.top, 'trac')],
+                                   stdin=subprocess.DEVNULL, stdout=subprocess.DEVNULL,
+                                   stderr=writing, env=self.environment())
         self.assertEqual(started.wait(timeout=60), 3)
         os.close(writing)
         self.assertEqual(os.read(reading, 1000).decode(),
@@ -179,7 +184,7 @@ class Launcher(unittest.TestCase):
         os.symlink(os.path.join(self.top, 'trac'), os.path.join(self.folder, 'far'))
         os.symlink('far', os.path.join(self.folder, 'near'))
         done = subprocess.run(['near'], executable=os.path.join(self.folder, 'near'), capture_output=True, text=True,
-                              env={**os.environ, 'PATH': self.tools + ':' + os.environ['PATH']}, check=False)
+                              env=self.environment(), check=False)
         self.assertEqual((done.stdout, done.returncode), ('C: \n', 3))
 
     def test_two_at_once(self):
