@@ -44,7 +44,7 @@ crates/trac_cli/out/trac_cli crates/trac_trace/out/trac_trace: $(SOURCES)
 programs: prove crates/trac_trace/out/trac_trace
 
 ## make check      all that needs no kit, over the programs in C
-check: check-tools all
+check: check-tools all build/libtrac.so.0
 	$(PYTEST) checks --ignore checks/proved --ignore checks/machines
 
 ## make check-machines  the engine in C on a Cortex-M3, aarch64, arm and s390x, each emulated

@@ -1,9 +1,12 @@
-"""The forms that a script leaves, through the shared library; and scripts that make stores of any kind."""
+"""The forms that a script leaves, through the engine as a shared library; and scripts that make stores of any kind."""
 import ctypes
+import functools
 import os
 import random
+import subprocess
+import tempfile
 
-from trac import TOP, make
+from trac import TOP
 
 CELLS, STEPS = 65536, 10**9
 INPUT_ENDED = 2
@@ -15,9 +18,15 @@ class Report(ctypes.Structure):
                 ('written', ctypes.c_size_t), ('consumed', ctypes.c_size_t), ('wanted', ctypes.c_size_t)]
 
 
+@functools.cache
 def library():
-    make('build/libtrac.so.0')
-    found = ctypes.CDLL(os.path.join(TOP, 'build', 'libtrac.so.0'))
+    """The engine, as make built it."""
+    with tempfile.TemporaryDirectory() as folder:
+        path = os.path.join(folder, 'libtrac.so')
+        engine = os.path.join(TOP, 'build', 'libtrac.a')
+        subprocess.run(['gcc', '-shared', '-o', path, '-Wl,--whole-archive', engine, '-Wl,--no-whole-archive'],
+                       check=True)
+        found = ctypes.CDLL(path)
     found.trac_turn.restype = Report
     for name in ('name', 'codes', 'pointer'):
         getattr(found, f'trac_form_{name}').restype = ctypes.c_size_t

@@ -370,10 +370,10 @@ class Edited(Room):
 
     def test_what_is_pasted_is_not_run_before_its_line_is_sent(self):
         screen = self.begin('--quiet')
-        screen.type("\x1b[200~#(ps,(one\rtwo\tthree\x01))'\x1b[201~")
-        screen.shows('> #(ps,(one', "two     three^A))'")
+        screen.type("\x1b[200~#(ps,(one\rtwo\tthree\x01\nfour))'\x1b[201~")
+        screen.shows('> #(ps,(one', 'two     three^A', "four))'")
         screen.type('\r')
-        screen.shows("two     three^A))'", 'one', 'two     three', '> ')
+        screen.shows("four))'", 'one', 'two     three', 'four', '> ')
         self.end(screen)
 
     def test_bytes_that_are_no_characters(self):
@@ -396,6 +396,8 @@ class Edited(Room):
                     screen.shown += screen.read(str)
             screen.shown = screen.shown.replace(b'\r\n', b'\n')
             screen.wait('nA\n')
+            # what is typed before that is the terminal's
+            screen.wait('> ')
             self.end(screen)
 
     def test_the_history_is_kept(self):
@@ -497,7 +499,8 @@ class Piped(unittest.TestCase):
 
     def test_a_long_session_in_little_memory(self):
         script = b''.join(b"#(ds,A,(%s))'\n" % (b'x' * (20000 + at)) for at in range(1000)) + b"#(ps,end)'"
-        done = subprocess.run(['sh', '-c', 'ulimit -v 12000; "$0"', TERMINAL], input=script, capture_output=True, timeout=60)
+        done = subprocess.run(['sh', '-c', 'ulimit -v 12000; "$0"', TERMINAL], input=script, capture_output=True,
+                              timeout=60)
         self.assertEqual((done.stdout, done.stderr, done.returncode), (b'end\n', b'', 0))
 
     def test_a_long_string_is_looked_through_once(self):
@@ -835,6 +838,22 @@ class Saved(Room):
                               input=b"#(ds,A,b)'", capture_output=True, timeout=60)
         self.assertEqual((done.returncode, self.got('saved')), (5, b'before'))
         self.assertIn(b'File too large', done.stderr)
+        self.assertEqual(os.listdir(self.folder), ['saved'])
+
+    def test_permissions_stay(self):
+        saved, umask = self.put('saved', 'before'), os.umask(0o22)
+        self.addCleanup(os.umask, umask)
+        for mode in (0o600, 0o664):
+            os.chmod(saved, mode)
+            self.assertEqual(piped("#(ds,A,b)'", '--save', saved), ('', '', 0))
+            self.assertEqual(os.stat(saved).st_mode & 0o777, mode)
+        os.remove(saved)
+        piped('', '--save', saved)
+        self.assertEqual((os.stat(saved).st_mode & 0o777, os.listdir(self.folder)), (0o644, ['saved']))
+        os.symlink(saved, self.path('link'))
+        piped("#(ds,A,b)'", '--save', self.path('link'))
+        self.assertTrue(os.path.islink(self.path('link')))
+        self.assertIn(b'#(ds,A,b)', self.got('saved'))
 
 
 class Page(unittest.TestCase):

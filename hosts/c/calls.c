@@ -82,7 +82,7 @@ static void look_at_call(watch *of, const trac_machine *machine) {
     if (!is_function(of->function.bytes, of->function.length, &needs_form)) {
         if (of->function.length)
             note(of, "no function ", &of->function);
-    } else if (needs_form && !has_form(machine, of->form.bytes, of->form.length)) {
+    } else if (needs_form && !has_form(machine, of->form.bytes, of->form.length, &of->found) && !of->found.is_short) {
         note(of, of->form.length ? "no form " : "no form of the null name", &of->form);
     }
 }

@@ -320,7 +320,6 @@ static void add_forms(saving *of) {
     trac_form form = TRAC_NO_FORM;
     while (trac_next_form(of->from, &form)) {
         const int is_taken = take_name(&of->name, &form) && take_codes(&of->codes, &form);
-        of->script.is_short |= !is_taken;
         if (is_taken && !define(of, trac_form_pointer(&form)))
             say_undefined(of);
     }
@@ -361,7 +360,7 @@ static void choose_name(saving *of, special which) {
         of->repeats[which]++;
         of->body.length = 0;
         add_repeated(&of->body, NAMES[which], of->repeats[which]);
-    } while (!of->body.is_short && has_form(of->from, of->body.bytes, of->body.length));
+    } while (!of->body.is_short && has_form(of->from, of->body.bytes, of->body.length, &of->name));
 }
 
 /* Adds a string in which $ stands for the name of a special character's form. */
@@ -448,41 +447,53 @@ static int say_not_saved(const char *name, const char *why) {
     return 0;
 }
 
-/* Writes a file anew. */
-static int put(const char *path, const text *script) {
-    const int file = open(path, O_WRONLY | O_CREAT | O_TRUNC | O_CLOEXEC, 0666);
+/* Whether a script was put into a file: not, since that can't be opened; not, since the write failed; it was. */
+typedef enum { NOT_OPENED, NOT_WRITTEN, PUT } putting;
+
+/* Puts a script into a file, opened so, with the permissions of another one where that is there. */
+static putting put(const char *path, const text *script, int how, const struct stat *like) {
+    const int file = open(path, O_WRONLY | O_CREAT | O_CLOEXEC | how, 0666);
     if (file < 0)
-        return 0;
-    const int is_written = write_all(file, script->bytes, script->length);
-    const int why = errno;
+        return NOT_OPENED;
+    if (like)
+        (void)fchmod(file, like->st_mode & 0777);
+    const int is_written = write_all(file, script->bytes, script->length), why = errno;
     const int is_closed = close(file) == 0;
     errno = is_written ? errno : why;
-    return is_written && is_closed;
+    return is_written && is_closed ? PUT : NOT_WRITTEN;
 }
 
-/* Writes a file beside that of this name and gives it the name, so that what was there is lost only when the new one is
- * there. What is no plain file is written to. */
+/* Puts a script into a new file beside that of this name, which then takes its place: so what was there is lost only
+ * when the new one is there. What is no plain file is written to, and so is one beside which none can be. */
 static int put_in_place(const char *name, const text *script) {
     struct stat there;
+    char number[40];
     text beside = {NULL, 0, 0, 0};
+    const int is_there = lstat(name, &there) == 0, is_plain_file = !is_there || S_ISREG(there.st_mode);
+    (void)snprintf(number, sizeof number, ".%ld", (long)getpid());
     add_text(&beside, name);
-    add_text(&beside, ".new");
+    add_text(&beside, number);
     add_bytes(&beside, "", 1);
-    const int is_other = lstat(name, &there) == 0 && !S_ISREG(there.st_mode);
-    int is_put;
-    if (is_other || beside.is_short)
-        is_put = put(name, script);
-    else
-        is_put = put((const char *)beside.bytes, script) && rename((const char *)beside.bytes, name) == 0;
+    const char *const path = (const char *)beside.bytes;
+    putting became = NOT_OPENED;
+    if (is_plain_file && !beside.is_short)
+        became = put(path, script, O_EXCL, is_there ? &there : NULL);
+    if (became == PUT && rename(path, name) != 0)
+        became = NOT_WRITTEN;
+    const int why = errno;
+    if (became == NOT_WRITTEN)
+        (void)unlink(path);
+    errno = why;
     free(beside.bytes);
-    return is_put;
+    return became == NOT_OPENED ? put(name, script, O_TRUNC, NULL) == PUT : became == PUT;
 }
 
 int save_forms(const trac_machine *machine, size_t cells, uint64_t steps, const char *name) {
     static const text none = {NULL, 0, 0, 0};
     saving of = {machine, name, none, none, none, none, none, 0, {0, 0, 0}, {0, 0, 0}, {{0}}, 0, cells, steps};
     write_script(&of);
-    const int is_short = of.script.is_short || of.body.is_short || of.marks.is_short;
+    const int is_short =
+        of.script.is_short || of.name.is_short || of.codes.is_short || of.body.is_short || of.marks.is_short;
     const int is_saved = !is_short && put_in_place(name, &of.script);
     if (!is_saved)
         (void)say_not_saved(name, is_short ? strerror(ENOMEM) : strerror(errno));

@@ -36,8 +36,8 @@ int take_codes(text *to, const trac_form *form);
 /* Reads all of a file. Gives 0, and why in errno, where that can't be. */
 int read_file(text *to, const char *name);
 
-/* Whether a form has this name. */
-int has_form(const trac_machine *machine, const uint8_t *name, size_t length);
+/* Whether a form has this name. `found` is for the names that are looked at. */
+int has_form(const trac_machine *machine, const uint8_t *name, size_t length, text *found);
 
 /* ---- What is seen of a run: calls.c. */
 
@@ -53,7 +53,7 @@ int is_function(const uint8_t *name, size_t length, int *needs_form);
 typedef struct {
     text open, lines;
     unsigned count;
-    text codes, function, form;
+    text codes, function, form, found;
 } watch;
 
 void begin_watch(watch *of);

@@ -81,14 +81,12 @@ int take_codes(text *to, const trac_form *form) {
     return 1;
 }
 
-int has_form(const trac_machine *machine, const uint8_t *name, size_t length) {
+int has_form(const trac_machine *machine, const uint8_t *name, size_t length, text *found) {
     trac_form form = TRAC_NO_FORM;
-    text found = {NULL, 0, 0, 0};
     int is_found = 0;
     while (!is_found && trac_next_form(machine, &form))
-        is_found = trac_form_name(&form, NULL, 0) == length && take_name(&found, &form) &&
-                   (!length || memcmp(found.bytes, name, length) == 0);
-    free(found.bytes);
+        is_found = trac_form_name(&form, NULL, 0) == length && take_name(found, &form) &&
+                   (!length || memcmp(found->bytes, name, length) == 0);
     return is_found;
 }
 
