@@ -820,9 +820,13 @@ class Saved(Room):
     def test_where_it_can_not_be_saved(self):
         self.assertEqual(piped("#(ps,a)'", '--save', self.path('no/where')),
                          ('a\n', f"trac_terminal: can't save {self.path('no/where')}: No such file or directory\n", 5))
-        self.assertEqual(piped("#(ps,a)'", '--save', '/dev/full')[1:],
-                         ("trac_terminal: can't save /dev/full: No space left on device\n", 5))
-        self.assertIn("#(ds,A,b)'\n", piped("#(ds,A,b)'", '--save', '/dev/stdout')[0])
+        # by links, so that a program that puts a file in the place of a device does no harm
+        for name in ('full', 'stdout'):
+            os.symlink(f'/dev/{name}', self.path(name))
+        self.assertEqual(piped("#(ps,a)'", '--save', self.path('full'))[1:],
+                         (f"trac_terminal: can't save {self.path('full')}: No space left on device\n", 5))
+        self.assertIn("#(ds,A,b)'\n", piped("#(ds,A,b)'", '--save', self.path('stdout'))[0])
+        self.assertTrue(os.path.islink(self.path('full')) and os.path.islink(self.path('stdout')))
 
     def test_what_was_saved_before_stays_where_a_file_is_not_read(self):
         saved, none, file = self.put('saved', 'before'), self.path('none'), self.put('file', "#(ds,A,b)'")

@@ -30,22 +30,28 @@ int is_function(const uint8_t *name, size_t length, int *needs_form) {
 
 void begin_watch(watch *of) { of->open.length = of->lines.length = of->count = 0; }
 
-/* Says a line once, and that there are more where there are many. */
+/* Whether the last line stands in front of it already. */
+static int is_said(const text *lines, size_t last) {
+    const char *const added = (const char *)lines->bytes + last;
+    const char *at = (const char *)lines->bytes;
+    while (at < added && strcmp(at, added) != 0)
+        at += strlen(at) + 1;
+    return at < added;
+}
+
+/* Notes a line once, and that there are more where there are many. */
 static void note(watch *of, const char *what, const text *name) {
-    static const char more[] = "more calls did nothing";
     const size_t before = of->lines.length;
     if (of->count > MOST_LINES)
         return;
-    add_text(&of->lines, of->count == MOST_LINES ? more : what);
+    add_text(&of->lines, of->count == MOST_LINES ? "more calls did nothing" : what);
     if (of->count < MOST_LINES)
         add_shown(&of->lines, name->bytes, name->length);
     add_bytes(&of->lines, "", 1);
-    const size_t length = of->lines.length - before;
-    int is_said = 0;
-    for (size_t at = 0; !is_said && at < before; at += strlen((const char *)of->lines.bytes + at) + 1)
-        is_said = memcmp(of->lines.bytes + at, of->lines.bytes + before, length) == 0;
-    of->lines.length = is_said ? before : of->lines.length;
-    of->count += !is_said;
+    if (of->lines.is_short || is_said(&of->lines, before))
+        of->lines.length = before;
+    else
+        of->count++;
 }
 
 /* The codes of the neutral string, and where its innermost open call begins, behind its mark; the end where there is

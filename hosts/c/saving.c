@@ -303,14 +303,11 @@ static int define(saving *of, size_t pointer) {
 
 /* Says, on standard error and in the script, that a form takes more cells to be defined than there are. */
 static void say_undefined(saving *of) {
-    text line = {NULL, 0, 0, 0};
-    add_text(&line, "trac_terminal: ");
-    add_shown(&line, of->file, strlen(of->file));
-    add_text(&line, ": more cells or steps are needed to define the form ");
-    add_shown(&line, of->name.bytes, of->name.length);
-    add_text(&line, "\n");
-    (void)write_all(STDERR_FILENO, line.bytes, line.length);
-    free(line.bytes);
+    text file = {NULL, 0, 0, 0}, name = {NULL, 0, 0, 0};
+    (void)say_line(DONE, "trac_terminal: %s: more cells or steps are needed to define the form %s\n",
+                   shown_in(&file, of->file, strlen(of->file)), shown_in(&name, of->name.bytes, of->name.length));
+    free(file.bytes);
+    free(name.bytes);
     begin_call(of, "#(,(More cells or steps than there were are needed to define the form )");
     add_text(&of->script, ")");
     (void)end_string(of, of->script.length);
@@ -434,17 +431,10 @@ static void write_script(saving *of) {
 
 /* ---- The file. */
 
-/* Says why a file can't be saved, and gives 0. */
-static int say_not_saved(const char *name, const char *why) {
-    text line = {NULL, 0, 0, 0};
-    add_text(&line, "trac_terminal: can't save ");
-    add_shown(&line, name, strlen(name));
-    add_text(&line, ": ");
-    add_text(&line, why);
-    add_text(&line, "\n");
-    (void)write_all(STDERR_FILENO, line.bytes, line.length);
-    free(line.bytes);
-    return 0;
+static void say_not_saved(const char *name, const char *why) {
+    text shown = {NULL, 0, 0, 0};
+    (void)say_line(DONE, "trac_terminal: can't save %s: %s\n", shown_in(&shown, name, strlen(name)), why);
+    free(shown.bytes);
 }
 
 /* Whether a script was put into a file: not, since that can't be opened; not, since the write failed; it was. */
@@ -496,7 +486,7 @@ int save_forms(const trac_machine *machine, size_t cells, uint64_t steps, const 
         of.script.is_short || of.name.is_short || of.codes.is_short || of.body.is_short || of.marks.is_short;
     const int is_saved = !is_short && put_in_place(name, &of.script);
     if (!is_saved)
-        (void)say_not_saved(name, is_short ? strerror(ENOMEM) : strerror(errno));
+        say_not_saved(name, is_short ? strerror(ENOMEM) : strerror(errno));
     free(of.script.bytes);
     free(of.name.bytes);
     free(of.codes.bytes);

@@ -314,52 +314,43 @@ static trac_report run_string(session *of, source *from) {
 /* ---- What is said. */
 
 /* A fault in words; an empty text where the run wasn't ended by one. */
-static void add_fault(text *to, const trac_report *report) {
+static void write_fault(char *to, size_t room, const trac_report *report) {
     const uint64_t cells = options[CELLS].number, steps = options[ALLOWANCE].number, step = report->steps + 1;
-    char line[100] = "";
+    *to = 0;
     if (report->fate == TRAC_WORKSPACE)
-        (void)snprintf(line, sizeof line, "workspace of %" PRIu64 " cells full at step %" PRIu64, cells, step);
+        (void)snprintf(to, room, "workspace of %" PRIu64 " cells full at step %" PRIu64, cells, step);
     else if (report->fate == TRAC_STEPS)
-        (void)snprintf(line, sizeof line, "allowance of %" PRIu64 " steps used up", steps);
+        (void)snprintf(to, room, "allowance of %" PRIu64 " steps used up", steps);
     else if (report->fate == TRAC_INPUT_FAILED)
-        (void)snprintf(line, sizeof line, "input failed at step %" PRIu64, step);
+        (void)snprintf(to, room, "input failed at step %" PRIu64, step);
     else if (report->fate == TRAC_OUTPUT_FAILED)
-        (void)snprintf(line, sizeof line, "output failed at step %" PRIu64, step);
+        (void)snprintf(to, room, "output failed at step %" PRIu64, step);
     else if (report->fate == TRAC_REFUSED)
-        (void)snprintf(line, sizeof line, "no memory for step %" PRIu64, step);
+        (void)snprintf(to, room, "no memory for step %" PRIu64, step);
     else if (report->fate == STOPPED)
-        (void)snprintf(line, sizeof line, "stopped at step %" PRIu64, step);
-    add_text(to, line);
+        (void)snprintf(to, room, "stopped at step %" PRIu64, step);
 }
 
 /* Says a line: in a file that is run by itself, behind the place of the string. */
 static void say_of(const source *from, const char *line) {
-    char place[60];
-    text all = {NULL, 0, 0, 0};
-    if (from->name && options[BATCH].number) {
-        (void)snprintf(place, sizeof place, ":%zu:%zu: ", from->string_line, from->string_column);
-        add_shown(&all, from->name, strlen(from->name));
-        add_text(&all, place);
-    } else {
-        add_text(&all, "trac: ");
-    }
-    add_text(&all, line);
-    add_text(&all, "\n");
-    (void)write_all(STDERR_FILENO, all.bytes, all.length);
-    free(all.bytes);
+    text shown = {NULL, 0, 0, 0};
+    if (from->name && options[BATCH].number)
+        (void)say_line(DONE, "%s:%zu:%zu: %s\n", shown_in(&shown, from->name, strlen(from->name)), from->string_line,
+                       from->string_column, line);
+    else
+        (void)say_line(DONE, "trac: %s\n", line);
+    free(shown.bytes);
 }
 
 /* Says what did nothing, and how the run of a string ended. ^C where nothing runs is no fault. */
 static void say_end(session *of, const source *from, const trac_report *report) {
     const text *const lines = &of->calls.lines;
-    text fault = {NULL, 0, 0, 0};
+    char fault[100];
     for (size_t at = 0; at < lines->length; at += strlen((const char *)lines->bytes + at) + 1)
         say_of(from, (const char *)lines->bytes + at);
-    add_fault(&fault, report);
-    add_bytes(&fault, "", 1);
-    if (fault.length > 1 && (report->fate != STOPPED || from->has_read))
-        say_of(from, (const char *)fault.bytes);
-    free(fault.bytes);
+    write_fault(fault, sizeof fault, report);
+    if (*fault && (report->fate != STOPPED || from->has_read))
+        say_of(from, fault);
 }
 
 /* ---- Sources. */
@@ -403,14 +394,9 @@ static uint32_t run_strings(session *of, source *from, int *worst) {
 /* Says that a file can't be read. */
 static void say_not_read(const char *name) {
     const char *const why = strerror(errno);
-    text line = {NULL, 0, 0, 0};
-    add_text(&line, "trac_terminal: can't read ");
-    add_shown(&line, name, strlen(name));
-    add_text(&line, ": ");
-    add_text(&line, why);
-    add_text(&line, "\n");
-    (void)write_all(STDERR_FILENO, line.bytes, line.length);
-    free(line.bytes);
+    text shown = {NULL, 0, 0, 0};
+    (void)say_line(DONE, "trac_terminal: can't read %s: %s\n", shown_in(&shown, name, strlen(name)), why);
+    free(shown.bytes);
 }
 
 /* The length of a first line that begins with `#!`, with its line feed; 0 where there is none. */

@@ -29,6 +29,9 @@ void add_text(text *to, const char *from);
  * trac_trace, `\n` or `\x1b`. */
 void add_shown(text *to, const void *from, size_t length);
 
+/* The same as a text that ends with a null byte, which stays good as long as `to`; `..` where there is no memory. */
+const char *shown_in(text *to, const void *from, size_t length);
+
 /* The bytes of a form's name and the codes of its body. Each gives 0 where there is no memory for it. */
 int take_name(text *to, const trac_form *form);
 int take_codes(text *to, const trac_form *form);

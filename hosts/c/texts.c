@@ -63,6 +63,13 @@ void add_shown(text *to, const void *from, size_t length) {
     }
 }
 
+const char *shown_in(text *to, const void *from, size_t length) {
+    to->length = 0;
+    add_shown(to, from, length);
+    add_bytes(to, "", 1);
+    return to->is_short ? ".." : (const char *)to->bytes;
+}
+
 int take_name(text *to, const trac_form *form) {
     to->length = 0;
     const size_t length = trac_form_name(form, NULL, 0);
