@@ -687,8 +687,8 @@ class Unheard(unittest.TestCase):
         self.assertEqual(self.said("#(foo,x)'"), ['trac: no function foo'])
         self.assertEqual(self.said("#(foo,#(ps,a)##(ps,#(bar,#(eq,a,b)#(eq))))'"), [
             'trac: no function bar', 'trac: no function foo'])
-        self.assertEqual(self.said("##(foo,x)#(#(bar),y)#((,)\n)#(p,s)#( ps,x)#(ps#(x),y)'"), [
-            f'trac: no function {name}' for name in ('foo', 'bar', ',', 'p', ' ps', 'x')])
+        self.assertEqual(self.said("##(foo,x)#(#(bar),y)#((,)\n)#(p,s)#( ps,x)#(ps#(x),y)#(psx,y)#(ps(x),z)'"), [
+            f'trac: no function {name}' for name in ('foo', 'bar', ',', 'p', ' ps', 'x', 'psx')])
         self.assertEqual(self.said("#(ds,F,(#(foo)))#(ps,#(cl,F)#(cl,F))'#(cl,F)'"), ['trac: no function foo'] * 2)
         self.assertEqual(self.said("#(((\x1b\n\\é)))'"), [r'trac: no function (\x1b\n\\é)'])
 
