@@ -350,6 +350,9 @@ class Edited(Room):
         screen.shows('> #(cl,gre', 'greeting  greater', '> #(cl,gre')
         screen.type("a\t)'\r")
         screen.shows("> #(cl,greater)'", 'g', '> ')
+        # an argument that is no form's name
+        screen.type("#(cl,greater,o\t)'\r")
+        screen.shows("> #(cl,greater,o)'", 'g', '> ')
         screen.type('#(c\t')
         screen.shows('> #(c', 'cm  cl  cs  cc  cn  cr', '> #(c')
         screen.type("\x15#(dd,greater,gre\t)#(cl,gre\t)'\r")
