@@ -233,7 +233,7 @@ class Views(unittest.TestCase):
         self.assertEqual([line.strip() for line in calls],
                          ['#(zz) [no function]', '#(ps<,>)', '#(rs)'])
         for words, wanted in [(['--last', '2'], 'BC'), (['--last', '9'], 'ABC'), (['--last', '1'], 'C'),
-                              (['--last', '2', '--to', '60'], 'B')]:
+                              (['--last', '2', '--to', '40'], 'B')]:
             with self.subTest(words=words):
                 lines = trace(script, '--forms', *words)[0]
                 self.assertEqual(lines[0], '  step  form')
